@@ -1,0 +1,1 @@
+// Laws alone: the chain of filters as numbers.

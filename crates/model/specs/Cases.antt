@@ -1,0 +1,145 @@
+-- Document 01, "Grids to try", 6 to 13, and its printed example: one table, computed.
+use Prim.Native.Nat.{ℕ, zero, suc, _+_, _*_}
+use mathlib.Core.Bool.{Bool, true, false, cond}
+use mathlib.Core.List.{List, [], _∷_, map}
+use mathlib.Core.Path.{_≡_, refl}
+use lib.IntN.{ℤ, pos, negsuc}
+use lib.ListN.{length, take, replicate}
+use Rattle.model.specs.Lists.{tabulate, sum, product, greatest, all, any}
+use Rattle.model.specs.Vectors.{same, above, plus, equal, before, isZero}
+use Rattle.model.specs.Geometry.{cellCount, place, natural, position, firstEntry, otherEntries, leastFrom, least, lows, extent, extents, iterationCount, indices, fromLows, iteration, reads, distance}
+use Rattle.model.specs.Values.{sizesOf, offsetOf, offsetsOf, capacitiesOf, trimmed, chainOf, blankChain}
+use Rattle.model.specs.Answers.{numberOf, verdictNumber, outcomeCase, outcomeCounts, answerCounts, answerNumber, firstOf}
+use Rattle.model.specs.Judging.{badGrid, badCount, repeats, noIteration, needsCentre, lacksCentre, notFinite, badFactor, tooLarge, valueChecks, judged}
+use Rattle.model.specs.Planning.{insert, falling, distances, trimmedRequest, judgeRequest, plannedChain, planOf}
+use Rattle.model.specs.Kernels.{written, width, centreOf}
+use Rattle.model.specs.Clock.{turn, limit, turns, ready, fires, next, moves}
+use Rattle.model.specs.Store.{firstPlace, placeIn, presented, stored}
+use Rattle.model.specs.Running.{layout, countersOf, withCounters, outcomeOf, firstPassed, words, clocked, look, call, events, shortStore, notPast, badCounter, badFifo, badFilters, badState, judgeRun, begun, writtenBy, widthOf, ended, runTrimmed, eventsTrimmed}
+use Rattle.model.specs.declared.Request.{Request}
+use Rattle.model.specs.declared.Chain.{Chain}
+use Rattle.model.specs.declared.State.{State}
+use Rattle.model.specs.declared.Answer.{Answer}
+use Rattle.model.specs.declared.Answer.the-variants as answer
+use Rattle.model.specs.declared.Kernel.the-variants as kernel
+use Rattle.model.specs.declared.Counts.{Counts}
+
+-- A row of the table, with raw kernel.
+pub data Case : Type 0 where
+  -- Planned: the sizes and the offsets; the number, 0 for none, the offsets in the plan's order and the capacities.
+  plans : List ℕ → List (List ℤ) → (number : ℕ) → List (List ℤ) → List ℕ → Case
+  -- Run from a fresh state, lent all cells: the sizes, the offsets and the capacities as they stand; the outcome's place in the list of five, the cells taken, the
+  -- clocks made, the clocks that fire, and the words written, where a cell's word is its position.
+  runs : List ℕ → List (List ℤ) → List ℕ → (outcome cells clocks : ℕ) → List ℕ → List ℕ → Case
+
+-- What the definitions say of a row.
+pub record Result : Type 0 where
+  pub number : ℕ
+  pub offsets : List (List ℤ)
+  pub capacities : List ℕ
+  pub outcome : ℕ
+  pub cells : ℕ
+  pub clocks : ℕ
+  pub firing : List ℕ
+  pub words : List ℕ
+
+unfoldable pub firingClocks : ℕ → List Bool → List ℕ
+firingClocks t [] = []
+firingClocks t (e ∷ es) = let later = firingClocks (suc t) es in cond e (t ∷ later) later
+
+unfoldable pub endOf : Answer → ℕ
+endOf (answer.Ended o) = outcomeCase o
+endOf (answer.Refused r) = 5
+
+unfoldable pub request : Chain → Request
+request c = record { grid = c .grid; window = c .window; kernel = c .kernel }
+
+unfoldable pub planned : List ℕ → List (List ℤ) → Result
+planned sizes offsets =
+    let p = planOf (request (chainOf sizes offsets [] kernel.Raw)) in
+    let t = trimmed (p .chain) in
+    record { number = verdictNumber (p .verdict); offsets = t .offsets; capacities = t .capacities; outcome = 0; cells = 0; clocks = 0; firing = []; words = [] }
+
+unfoldable pub start : State
+start = record { passed = replicate 32 (record { 0 = 0 }); fired = record { 0 = 0 } }
+
+unfoldable pub ran : List ℕ → List (List ℤ) → List ℕ → Result
+ran sizes offsets capacities =
+    let c = chainOf sizes offsets capacities kernel.Raw in
+    let t = trimmed c in
+    let cells = cellCount sizes in
+    let store : List ℕ = replicate (sum capacities) 0 in
+    let lent : List ℕ = tabulate cells (λ p. p) in
+    let output : List ℕ = replicate (cells * length offsets) 0 in
+    let allowance = length offsets * cells in
+    let r = runTrimmed t start store lent output allowance in
+    let done = answerCounts (r .answer) in
+    record {
+      number = answerNumber (r .answer);
+      offsets = offsets;
+      capacities = capacities;
+      outcome = endOf (r .answer);
+      cells = done .cells;
+      clocks = done .clocks;
+      firing = firingClocks 0 (eventsTrimmed t start store lent output allowance);
+      words = take (done .firings * widthOf t) (r .output);
+    }
+
+unfoldable pub answered : Case → Result
+answered (plans sizes offsets number order capacities) = planned sizes offsets
+answered (runs sizes offsets capacities outcome cells clocks firing words) = ran sizes offsets capacities
+
+unfoldable pub expected : Case → Result
+expected (plans sizes offsets number order capacities) =
+    record { number = number; offsets = order; capacities = capacities; outcome = 0; cells = 0; clocks = 0; firing = []; words = [] }
+expected (runs sizes offsets capacities outcome cells clocks firing words) =
+    record { number = 0; offsets = offsets; capacities = capacities; outcome = outcome; cells = cells; clocks = clocks; firing = firing; words = words }
+
+-- Whole numbers and vectors, written short.
+abbrev pub −1 : ℤ
+−1 = negsuc 0
+
+-- The five-point cross: centre and its four neighbours, in falling order.
+unfoldable pub cross : List (List ℤ)
+cross = (pos 1 ∷ pos 0 ∷ []) ∷ (pos 0 ∷ pos 1 ∷ []) ∷ (pos 0 ∷ pos 0 ∷ []) ∷ (pos 0 ∷ −1 ∷ []) ∷ (−1 ∷ pos 0 ∷ []) ∷ []
+
+-- The same, rows from the top.
+unfoldable pub crossByRows : List (List ℤ)
+crossByRows = (−1 ∷ pos 0 ∷ []) ∷ (pos 0 ∷ −1 ∷ []) ∷ (pos 0 ∷ pos 0 ∷ []) ∷ (pos 0 ∷ pos 1 ∷ []) ∷ (pos 1 ∷ pos 0 ∷ []) ∷ []
+
+unfoldable pub cases : List Case
+cases =
+    -- 6. "4 by 5, five-point cross: 4, 1, 1, 4; firings in clocks 11, 12, 13, 16, 17, 18; 19 clocks."
+    plans (4 ∷ 5 ∷ []) crossByRows 0 cross (4 ∷ 1 ∷ 1 ∷ 4 ∷ [])
+    ∷ runs (4 ∷ 5 ∷ []) cross (4 ∷ 1 ∷ 1 ∷ 4 ∷ []) 0 19 19 (11 ∷ 12 ∷ 13 ∷ 16 ∷ 17 ∷ 18 ∷ [])
+    (11 ∷ 7 ∷ 6 ∷ 5 ∷ 1 ∷ 12 ∷ 8 ∷ 7 ∷ 6 ∷ 2 ∷ 13 ∷ 9 ∷ 8 ∷ 7 ∷ 3
+    ∷ 16 ∷ 12 ∷ 11 ∷ 10 ∷ 6 ∷ 17 ∷ 13 ∷ 12 ∷ 11 ∷ 7 ∷ 18 ∷ 14 ∷ 13 ∷ 12 ∷ 8 ∷ [])
+    -- 7. "Case 6 with 3, 1, 1, 4: stalled after 10 clocks and 10 cells, no firing."
+    ∷ runs (4 ∷ 5 ∷ []) cross (3 ∷ 1 ∷ 1 ∷ 4 ∷ []) 3 10 10 [] []
+    -- 8. "Size 5, offset 0 before offset 3, capacity 16: stalled after 0 clocks."
+    ∷ runs (5 ∷ []) ((pos 0 ∷ []) ∷ (pos 3 ∷ []) ∷ []) (16 ∷ []) 3 0 0 [] []
+    -- 9. "Size 1, offset 0: no FIFO, one firing in clock 0."
+    ∷ plans (1 ∷ []) ((pos 0 ∷ []) ∷ []) 0 ((pos 0 ∷ []) ∷ []) []
+    ∷ runs (1 ∷ []) ((pos 0 ∷ []) ∷ []) [] 0 1 1 (0 ∷ []) (0 ∷ [])
+    -- 10. "Size 3, offsets −1 and 1: capacity 2. Size 2: refusal 6."
+    ∷ plans (3 ∷ []) ((−1 ∷ []) ∷ (pos 1 ∷ []) ∷ []) 0 ((pos 1 ∷ []) ∷ (−1 ∷ []) ∷ []) (2 ∷ [])
+    ∷ runs (3 ∷ []) ((pos 1 ∷ []) ∷ (−1 ∷ []) ∷ []) (2 ∷ []) 0 3 3 (2 ∷ []) (2 ∷ 0 ∷ [])
+    ∷ plans (2 ∷ []) ((−1 ∷ []) ∷ (pos 1 ∷ []) ∷ []) 6 [] []
+    -- 11. "Two rows of 5, offsets (0,3) and (1,−1): (1,−1) first, capacity 1. Two rows of 4: refusal 6."
+    ∷ plans (2 ∷ 5 ∷ []) ((pos 0 ∷ pos 3 ∷ []) ∷ (pos 1 ∷ −1 ∷ []) ∷ []) 0 ((pos 1 ∷ −1 ∷ []) ∷ (pos 0 ∷ pos 3 ∷ []) ∷ []) (1 ∷ [])
+    ∷ runs (2 ∷ 5 ∷ []) ((pos 1 ∷ −1 ∷ []) ∷ (pos 0 ∷ pos 3 ∷ []) ∷ []) (1 ∷ []) 0 6 6 (5 ∷ []) (5 ∷ 4 ∷ [])
+    ∷ plans (2 ∷ 4 ∷ []) ((pos 0 ∷ pos 3 ∷ []) ∷ (pos 1 ∷ −1 ∷ []) ∷ []) 6 [] []
+    -- 12. "Size 20,000, offsets 0 and 16,384: accepted. 0 and 16,385: refusal 9."
+    ∷ plans (20000 ∷ []) ((pos 0 ∷ []) ∷ (pos 16384 ∷ []) ∷ []) 0 ((pos 16384 ∷ []) ∷ (pos 0 ∷ []) ∷ []) (16384 ∷ [])
+    ∷ plans (20000 ∷ []) ((pos 0 ∷ []) ∷ (pos 16385 ∷ []) ∷ []) 9 [] []
+    -- 13. "1024 by 1024, zero offset alone: accepted. Size 1,048,577: refusal 3."
+    ∷ plans (1024 ∷ 1024 ∷ []) ((pos 0 ∷ pos 0 ∷ []) ∷ []) 0 ((pos 0 ∷ pos 0 ∷ []) ∷ []) []
+    ∷ plans (1048577 ∷ []) ((pos 0 ∷ []) ∷ []) 3 [] []
+    -- The printed example: "`plan` given .. writes these lines", "`run` given that and cells 1 to 5 writes".
+    ∷ plans (5 ∷ []) ((pos 0 ∷ []) ∷ (pos 3 ∷ []) ∷ []) 0 ((pos 3 ∷ []) ∷ (pos 0 ∷ []) ∷ []) (3 ∷ [])
+    ∷ runs (5 ∷ []) ((pos 3 ∷ []) ∷ (pos 0 ∷ []) ∷ []) (3 ∷ []) 0 5 5 (3 ∷ 4 ∷ []) (3 ∷ 0 ∷ 4 ∷ 1 ∷ [])
+    ∷ []
+
+pub table : map answered cases ≡ map expected cases
+unfolding answered expected cases cross crossByRows planned ran start request endOf firingClocks tabulate sum product greatest all any same above plus equal before isZero cellCount place natural position firstEntry otherEntries leastFrom least lows extent extents iterationCount indices fromLows iteration reads distance sizesOf offsetOf offsetsOf capacitiesOf trimmed chainOf blankChain numberOf verdictNumber outcomeCase outcomeCounts answerCounts answerNumber firstOf badGrid badCount repeats noIteration needsCentre lacksCentre notFinite badFactor tooLarge valueChecks judged insert falling distances trimmedRequest judgeRequest plannedChain planOf written width centreOf turn limit turns ready fires next moves firstPlace placeIn presented stored layout countersOf withCounters outcomeOf firstPassed words clocked look call events shortStore notPast badCounter badFifo badFilters badState judgeRun begun writtenBy widthOf ended runTrimmed eventsTrimmed
+table = refl

@@ -1,0 +1,85 @@
+-- Judging a request or a chain as a value (document 01, "Turned back on account of the input", 3 to 9).
+use Prim.Native.Nat.{ℕ}
+use mathlib.Core.Bool.{Bool, true, false, not, _&&_, _||_}
+use mathlib.Core.List.{List, [], _∷_}
+use lib.Dec.{eqb, ltb}
+use lib.IntN.{ℤ}
+use lib.Ieee.{Float, nan, inf, fin}
+use Rattle.model.specs.Lists.{sum, any}
+use Rattle.model.specs.Vectors.{equal, isZero}
+use Rattle.model.specs.Geometry.{cellCount, iterationCount}
+use Rattle.model.specs.Values.{Trimmed, trimmed}
+use Rattle.model.specs.Answers.{Check, check, firstOf}
+use Rattle.model.specs.declared.Chain.{Chain}
+use Rattle.model.specs.declared.Kernel.{Kernel}
+use Rattle.model.specs.declared.Kernel.the-variants as kernel
+use Rattle.model.specs.declared.Refusal.the-variants as refusal
+use Rattle.model.specs.declared.Verdict.{Verdict}
+
+abbrev pub mostCells : ℕ
+mostCells = 1048576
+
+abbrev pub mostPlaces : ℕ
+mostPlaces = 16384
+
+-- 3: "dimension count outside 1 to 4, a size 0, or too many cells"
+unfoldable pub badGrid : (dims : ℕ) (sizes : List ℕ) → Bool
+badGrid dims sizes = (eqb dims 0 || ltb 4 dims) || (any (λ s. eqb s 0) sizes || ltb mostCells (cellCount sizes))
+
+-- 4: n outside 1 to 32
+unfoldable pub badCount : ℕ → Bool
+badCount n = eqb n 0 || ltb 32 n
+
+-- 5: two equal offsets
+unfoldable pub repeats : List (List ℤ) → Bool
+repeats [] = false
+repeats (o ∷ os) = any (λ p. equal o p) os || repeats os
+
+-- 6: no iteration
+unfoldable pub noIteration : (sizes : List ℕ) (offsets : List (List ℤ)) → Bool
+noIteration sizes offsets = eqb (iterationCount sizes offsets) 0
+
+-- 7: difference or blend without a centre. "The centre is the zero offset."
+unfoldable pub needsCentre : Kernel → Bool
+needsCentre kernel.Raw = false
+needsCentre kernel.Difference = true
+needsCentre (kernel.Scaled f) = false
+needsCentre (kernel.Blend g) = true
+
+unfoldable pub lacksCentre : Kernel → List (List ℤ) → Bool
+lacksCentre k offsets = needsCentre k && not (any isZero offsets)
+
+-- 8: a factor that is infinite or not a number
+unfoldable pub notFinite : Float → Bool
+notFinite nan = true
+notFinite (inf s) = true
+notFinite (fin s m e) = false
+
+unfoldable pub badFactor : Kernel → Bool
+badFactor kernel.Raw = false
+badFactor kernel.Difference = false
+badFactor (kernel.Scaled f) = notFinite f
+badFactor (kernel.Blend g) = notFinite (g .a) || notFinite (g .b)
+
+-- 9: "capacities, given or planned, summing above 16,384"
+unfoldable pub tooLarge : List ℕ → Bool
+tooLarge capacities = ltb mostPlaces (sum capacities)
+
+-- The checks of a value in their order.
+unfoldable pub valueChecks : Trimmed → List Check
+valueChecks t =
+    check (badGrid (t .dims) (t .sizes)) refusal.BadGrid
+    ∷ check (badCount (t .count)) refusal.BadCount
+    ∷ check (repeats (t .offsets)) refusal.EqualOffsets
+    ∷ check (noIteration (t .sizes) (t .offsets)) refusal.NoIteration
+    ∷ check (lacksCentre (t .kernel) (t .offsets)) refusal.NoCentre
+    ∷ check (badFactor (t .kernel)) refusal.BadFactor
+    ∷ check (tooLarge (t .capacities)) refusal.TooLarge
+    ∷ []
+
+-- The first of 3 to 9 whose condition holds.
+unfoldable pub judged : Trimmed → Verdict
+judged t = firstOf (valueChecks t)
+
+unfoldable pub judgeChain : Chain → Verdict
+judgeChain c = judged (trimmed c)

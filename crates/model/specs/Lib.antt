@@ -1,0 +1,13 @@
+pub mod Lists
+pub mod Vectors
+pub mod Geometry
+pub mod Values
+pub mod Answers
+pub mod Judging
+pub mod Planning
+pub mod Kernels
+pub mod Clock
+pub mod Store
+pub mod Running
+pub mod CallLists
+pub mod Cases

@@ -1,0 +1,69 @@
+-- What of a grid, a window, a request and a chain handed over as a value plays a part: "entries past its counts play no part, and chains that differ only there are the same".
+use Prim.Native.Nat.{ℕ, _+_, _-_, _*_, _/_, _%_}
+use mathlib.Core.List.{List, []}
+use mathlib.Core.Path.{_≡_}
+use lib.IntN.{ℤ, pos}
+use lib.ListN.{length, getD}
+use Rattle.model.specs.Lists.{tabulate}
+use Rattle.model.specs.declared.Grid.{Grid}
+use Rattle.model.specs.declared.Window.{Window}
+use Rattle.model.specs.declared.Kernel.{Kernel}
+use Rattle.model.specs.declared.Kernel.the-variants as kernel
+use Rattle.model.specs.declared.Chain.{Chain}
+
+unfoldable pub sizesOf : Grid → List ℕ
+sizesOf g = tabulate (g .dims) (λ d. getD (g .sizes) d 0)
+
+-- Entry d of reference k's offset.
+abbrev pub entryOf : Window → ℕ → ℕ → ℤ
+entryOf w k d = getD (w .offsets) (4 * k + d) (pos 0)
+
+unfoldable pub offsetOf : ℕ → Window → ℕ → List ℤ
+offsetOf dims w k = tabulate dims (λ d. entryOf w k d)
+
+unfoldable pub offsetsOf : ℕ → Window → List (List ℤ)
+offsetsOf dims w = tabulate (w .count) (λ k. offsetOf dims w k)
+
+-- FIFO k's capacity.
+abbrev pub capacityOf : Chain → ℕ → ℕ
+capacityOf c k = getD (c .capacities) k 0
+
+unfoldable pub capacitiesOf : Chain → List ℕ
+capacitiesOf c = tabulate (c .window .count - 1) (λ k. capacityOf c k)
+
+-- A request or a chain without the entries past its counts: all of it that plays a part.
+pub record Trimmed : Type 0 where
+  pub dims : ℕ
+  pub sizes : List ℕ
+  pub count : ℕ
+  pub offsets : List (List ℤ)
+  pub capacities : List ℕ
+  pub kernel : Kernel
+
+unfoldable pub trimmed : Chain → Trimmed
+trimmed c = record {
+  dims = c .grid .dims;
+  sizes = sizesOf (c .grid);
+  count = c .window .count;
+  offsets = offsetsOf (c .grid .dims) (c .window);
+  capacities = capacitiesOf c;
+  kernel = c .kernel;
+}
+
+-- Two chains are the same.
+abbrev pub Same : Chain → Chain → Type 0
+Same c d = trimmed c ≡ trimmed d
+
+-- The chain of these sizes, offsets, capacities and kernel, with 0 past its counts.
+unfoldable pub chainOf : List ℕ → List (List ℤ) → List ℕ → Kernel → Chain
+chainOf sizes offsets capacities kernel = record {
+  grid = record { dims = length sizes; sizes = tabulate 4 (λ d. getD sizes d 0) };
+  window = record { count = length offsets; offsets = tabulate 128 (λ i. getD (getD offsets (i / 4) []) (i % 4) (pos 0)) };
+  capacities = tabulate 31 (λ k. getD capacities k 0);
+  kernel = kernel;
+}
+
+-- What a refusal hands back in place of a chain.
+unfoldable pub blankChain : Chain
+unfolding chainOf
+blankChain = chainOf [] [] [] kernel.Raw

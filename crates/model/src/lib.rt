@@ -1,0 +1,108 @@
+// The types of the reuse chain. Their meaning stands in specs/, in the terms of document 01.
+
+// Cells that passed a filter's splitter: its input counter.
+pub struct CellsPassed(pub u32);
+
+// Firings made: the output counter, one for all filters.
+pub struct FiringsMade(pub u32);
+
+// A rectangular grid: the first `dims` sizes, slowest dimension first.
+pub struct Grid {
+    pub dims: u8,
+    pub sizes: [u32; 4],
+}
+
+// A window of `count` references. Entry d of reference k's offset is offsets[4 * k + d].
+pub struct Window {
+    pub count: u8,
+    pub offsets: [i16; 128],
+}
+
+// The two factors of a blend.
+pub struct Factors {
+    pub a: f32,
+    pub b: f32,
+}
+
+pub enum Kernel {
+    Raw,
+    Difference,
+    Scaled(f32),
+    Blend(Factors),
+}
+
+// What is to be planned.
+pub struct Request {
+    pub grid: Grid,
+    pub window: Window,
+    pub kernel: Kernel,
+}
+
+// A chain: reference k of the window is filter k's; FIFO k, between filters k and k + 1, has capacities[k] places.
+pub struct Chain {
+    pub grid: Grid,
+    pub window: Window,
+    pub capacities: [u32; 31],
+    pub kernel: Kernel,
+}
+
+// Where a run stands. Counters past the chain's references play no part.
+pub struct State {
+    pub passed: [CellsPassed; 32],
+    pub fired: FiringsMade,
+}
+
+// What one call did.
+pub struct Counts {
+    pub cells: u32,
+    pub firings: u32,
+    pub clocks: u32,
+}
+
+// How a call that is not refused ends.
+pub enum Outcome {
+    Done(Counts),
+    Spent(Counts),
+    Starved(Counts),
+    Stalled(Counts),
+    Full(Counts),
+}
+
+// Why input is turned back, from number 1 to 12.
+pub enum Refusal {
+    Malformed,
+    Misplaced,
+    BadGrid,
+    BadCount,
+    EqualOffsets,
+    NoIteration,
+    NoCentre,
+    BadFactor,
+    TooLarge,
+    ShortStore,
+    BadState,
+    ShortOutput,
+}
+
+// What judging answers.
+pub enum Verdict {
+    Accepted,
+    Refused(Refusal),
+}
+
+// What planning answers; where it refuses, the chain is the blank one.
+pub struct Planned {
+    pub verdict: Verdict,
+    pub chain: Chain,
+}
+
+// What a run call answers.
+pub enum Answer {
+    Ended(Outcome),
+    Refused(Refusal),
+}
+
+pub struct Ran {
+    pub answer: Answer,
+    pub state: State,
+}
