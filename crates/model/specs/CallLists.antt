@@ -7,8 +7,8 @@ use lib.ListN.{length, getD, take, drop}
 use Rattle.model.specs.Lists.{tabulate, sum}
 use Rattle.model.specs.Values.{Trimmed, trimmed}
 use Rattle.model.specs.Answers.{answerCounts}
-use Rattle.model.specs.Clock.{Counters, fresh}
-use Rattle.model.specs.Running.{layout, countersOf, firstPassed, widthOf, shortStore, Run, runTrimmed, eventsTrimmed}
+use Rattle.model.specs.Clock.{Counters, first, fresh}
+use Rattle.model.specs.Running.{layout, countersOf, widthOf, shortStore, Run, runTrimmed, eventsTrimmed}
 use Rattle.model.specs.declared.Chain.{Chain}
 use Rattle.model.specs.declared.State.{State}
 
@@ -28,7 +28,7 @@ pub record Between : Type 0 where
 module _ (t : Trimmed) (stream : ℕ → ℕ) where
   -- "the first lent cell is the one at filter 0's input counter"
   unfoldable pub lentCells : Lending → Between → List ℕ
-  lentCells l b = tabulate (l .cells) (λ i. stream (firstPassed (countersOf (t .count) (b .state) .passed) + i))
+  lentCells l b = tabulate (l .cells) (λ i. stream (first (countersOf (t .count) (b .state) .passed) + i))
 
   -- One call of the list.
   unfoldable pub callRun : Lending → Between → Run
@@ -71,7 +71,7 @@ firingsMade rs = sum (map (λ r. answerCounts (r .answer) .firings) rs)
 -- How many of some clocks fire.
 unfoldable pub firingsAmong : List Bool → ℕ
 firingsAmong [] = 0
-firingsAmong (e ∷ es) = cond e 1 0 + firingsAmong es
+firingsAmong (e ∷ es) = let later = firingsAmong es in cond e (suc later) later
 
 -- Iteration j fires in clock t: that clock is made and fires, and j clocks before it fire.
 pub record FiresIn (es : List Bool) (t j : ℕ) : Type 0 where
@@ -86,7 +86,7 @@ pub record Fresh (t : Trimmed) (b : Between) : Type 0 where
 -- "A call is lent enough if it has all cells not yet taken, places for all firings not yet made, an allowance of at least n times the number of cells and a store
 -- that 10 does not refuse."
 pub record LentEnough (t : Trimmed) (l : Lending) (b : Between) : Type 0 where
-  pub cells : layout t .cells ≤ firstPassed (countersOf (t .count) (b .state) .passed) + l .cells
+  pub cells : layout t .cells ≤ first (countersOf (t .count) (b .state) .passed) + l .cells
   pub places : (layout t .iterations - countersOf (t .count) (b .state) .fired) * widthOf t ≤ length (l .output)
   pub clocks : t .count * layout t .cells ≤ l .allowance
   pub store : shortStore t (take (l .front) (b .store)) ≡ false

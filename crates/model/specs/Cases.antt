@@ -15,7 +15,7 @@ use Rattle.model.specs.Planning.{insert, falling, distances, trimmedRequ
 use Rattle.model.specs.Kernels.{written, width, centreOf}
 use Rattle.model.specs.Clock.{turn, limit, turns, ready, fires, next, moves}
 use Rattle.model.specs.Store.{firstPlace, placeIn, presented, stored}
-use Rattle.model.specs.Running.{layout, countersOf, withCounters, outcomeOf, firstPassed, words, clocked, look, call, events, shortStore, notPast, badCounter, badFifo, badFilters, badState, judgeRun, begun, writtenBy, widthOf, ended, runTrimmed, eventsTrimmed}
+use Rattle.model.specs.Running.{layout, countersOf, withCounters, outcomeOf, words, clocked, look, call, events, shortStore, notPast, badCounter, badFifo, badFilters, badState, judgeRun, begun, writtenBy, widthOf, ended, runTrimmed, eventsTrimmed}
 use Rattle.model.specs.declared.Request.{Request}
 use Rattle.model.specs.declared.Chain.{Chain}
 use Rattle.model.specs.declared.State.{State}
@@ -141,5 +141,5 @@ cases =
     ∷ []
 
 pub table : map answered cases ≡ map expected cases
-unfolding answered expected cases cross crossByRows planned ran start request endOf firingClocks tabulate sum product greatest all any same above plus equal before isZero cellCount place natural position firstEntry otherEntries leastFrom least lows extent extents iterationCount indices fromLows iteration reads distance sizesOf offsetOf offsetsOf capacitiesOf trimmed chainOf blankChain numberOf verdictNumber outcomeCase outcomeCounts answerCounts answerNumber firstOf badGrid badCount repeats noIteration needsCentre lacksCentre notFinite badFactor tooLarge valueChecks judged insert falling distances trimmedRequest judgeRequest plannedChain planOf written width centreOf turn limit turns ready fires next moves firstPlace placeIn presented stored layout countersOf withCounters outcomeOf firstPassed words clocked look call events shortStore notPast badCounter badFifo badFilters badState judgeRun begun writtenBy widthOf ended runTrimmed eventsTrimmed
+unfolding answered expected cases cross crossByRows planned ran start request endOf firingClocks tabulate sum product greatest all any same above plus equal before isZero cellCount place natural position firstEntry otherEntries leastFrom least lows extent extents iterationCount indices fromLows iteration reads distance sizesOf offsetOf offsetsOf capacitiesOf trimmed chainOf blankChain numberOf verdictNumber outcomeCase outcomeCounts answerCounts answerNumber firstOf badGrid badCount repeats noIteration needsCentre lacksCentre notFinite badFactor tooLarge valueChecks judged insert falling distances trimmedRequest judgeRequest plannedChain planOf written width centreOf turn limit turns ready fires next moves firstPlace placeIn presented stored layout countersOf withCounters outcomeOf words clocked look call events shortStore notPast badCounter badFifo badFilters badState judgeRun begun writtenBy widthOf ended runTrimmed eventsTrimmed
 table = refl

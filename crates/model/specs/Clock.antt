@@ -20,6 +20,11 @@ pub record Counters : Type 0 where
   pub fired : ℕ
   pub passed : List ℕ
 
+-- Filter 0's input counter.
+abbrev pub first : List ℕ → ℕ
+first [] = 0
+first (p ∷ ps) = p
+
 -- A splitter's turn in a clock without firing. It has passed p cells, so it is presented cell p where p is below `source`, the cells that its source has
 -- let through. "one moves if it is presented an unwanted cell and the FIFO behind it has a free place": where p is below `limit`.
 unfoldable pub turn : (source wanted limit p : ℕ) → ℕ

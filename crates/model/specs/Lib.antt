@@ -1,6 +1,8 @@
 pub mod Lists
 pub mod Vectors
 pub mod Geometry
+pub mod Sized
+pub mod Windows
 pub mod Values
 pub mod Answers
 pub mod Judging

@@ -11,7 +11,7 @@ use Rattle.model.specs.Values.{Trimmed, trimmed}
 use Rattle.model.specs.Answers.{Check, check, firstOf, byVerdict}
 use Rattle.model.specs.Judging.{valueChecks}
 use Rattle.model.specs.Kernels.{written, width, centreOf}
-use Rattle.model.specs.Clock.{Layout, Counters, fires, next, moves}
+use Rattle.model.specs.Clock.{Layout, Counters, first, fires, next, moves}
 use Rattle.model.specs.Store.{presented, stored}
 use Rattle.model.specs.declared.CellsPassed.{CellsPassed}
 use Rattle.model.specs.declared.Chain.{Chain}
@@ -84,11 +84,6 @@ abbrev pub whileGoing : Look → List Bool → List Bool
 whileGoing goes es = es
 whileGoing (ends e) es = []
 
--- How many cells filter 0 has passed.
-unfoldable pub firstPassed : List ℕ → ℕ
-firstPassed [] = 0
-firstPassed (p ∷ ps) = p
-
 -- `write`: what a firing writes of the words of its cells, `size` words; `lent`: the lent cells' words.
 module _ (L : Layout) (write : List ℕ → List ℕ) (size : ℕ) (lent : List ℕ) where
   -- The words presented to the filters.
@@ -106,7 +101,7 @@ module _ (L : Layout) (write : List ℕ → List ℕ) (size : ℕ) (lent : List 
         store = stored (L .capacity) 0 (getD lent (s .done .cells) 0) (s .store) (now .passed) (then .passed) (s .store);
         output = cond fired (sets (s .output) (s .done .firings * size) (write (words s))) (s .output);
         done = record {
-          cells = s .done .cells + (firstPassed (then .passed) - firstPassed (now .passed));
+          cells = s .done .cells + (first (then .passed) - first (now .passed));
           firings = cond fired (suc (s .done .firings)) (s .done .firings);
           clocks = suc (s .done .clocks);
         };
