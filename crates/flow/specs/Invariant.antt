@@ -62,7 +62,7 @@ module _ (L : Layout) where
         let rest = firing-holds f (suc k) p (q ∷ qs) left (ready .2) (held .1) in
         (omega (arith, lawful .rises f k left (held .0 .filter)), raise (suc f) (suc k) p (suc p) (map suc (q ∷ qs)) (omega arith) rest)
 
-    next-invariant : (s : Counters) → s .fired < iterations → Invariant L s → Invariant L (next L s)
+    pub next-invariant : (s : Counters) → s .fired < iterations → Invariant L s → Invariant L (next L s)
     next-invariant s left inv = by-next L (Invariant L) s
         (λ ready. record { most = left; all = firing-holds (s .fired) 0 cells (s .passed) left ready (inv .all) })
         (λ _. record { most = inv .most; all = turns-hold (s .fired) 0 cells (s .passed) (inv .all) })

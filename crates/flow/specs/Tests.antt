@@ -58,10 +58,10 @@ module _ (L : Layout) where
   clock-still s dead = rw dead
 
   -- A clock fires, or its splitters have their turns.
-  abbrev fired-once : Counters → Counters
+  abbrev pub fired-once : Counters → Counters
   fired-once s = record { fired = suc (s .fired); passed = map suc (s .passed) }
 
-  abbrev turned-once : Counters → Counters
+  abbrev pub turned-once : Counters → Counters
   turned-once s = record { fired = s .fired; passed = turns (wants (s .fired)) capacity 0 cells (s .passed) }
 
   pub by-next : (P : Counters → Type 0) (s : Counters) → (Fires L s → P (fired-once s)) → (¬ Fires L s → P (turned-once s)) → P (next L s)

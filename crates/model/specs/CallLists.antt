@@ -1,15 +1,14 @@
 -- A list of run calls on one chain and one stream (document 01, "Running", last paragraph).
-use Prim.Native.Nat.{ℕ, zero, suc, _+_, _-_, _*_, _≤_, _<_}
+use Prim.Native.Nat.{ℕ, suc, _+_, _-_, _*_, _≤_, _<_}
 use mathlib.Core.Bool.{Bool, true, false, cond}
 use mathlib.Core.List.{List, [], _∷_, _++_, map}
 use mathlib.Core.Path.{_≡_}
 use lib.ListN.{length, getD, take, drop}
 use Rattle.model.specs.Lists.{tabulate, sum}
-use Rattle.model.specs.Values.{Trimmed, trimmed}
+use Rattle.model.specs.Values.{Trimmed}
 use Rattle.model.specs.Answers.{answerCounts}
-use Rattle.model.specs.Clock.{Counters, first, fresh}
+use Rattle.model.specs.Clock.{first, fresh}
 use Rattle.model.specs.Running.{layout, countersOf, widthOf, shortStore, Run, runTrimmed, eventsTrimmed}
-use Rattle.model.specs.declared.Chain.{Chain}
 use Rattle.model.specs.declared.State.{State}
 
 -- What a call lends: so many cells of the stream, an output, a clock allowance, and so many words of the store's front.

@@ -1,28 +1,25 @@
 -- Document 01, "Grids to try", 6 to 13, and its printed example: one table, computed.
-use Prim.Native.Nat.{ℕ, zero, suc, _+_, _*_}
-use mathlib.Core.Bool.{Bool, true, false, cond}
+use Prim.Native.Nat.{ℕ, suc, _*_}
+use mathlib.Core.Bool.{Bool, cond}
 use mathlib.Core.List.{List, [], _∷_, map}
 use mathlib.Core.Path.{_≡_, refl}
 use lib.IntN.{ℤ, pos, negsuc}
 use lib.ListN.{length, take, replicate}
-use Rattle.model.specs.Lists.{tabulate, sum, product, greatest, all, any}
+use Rattle.model.specs.Lists.{tabulate, sum, product, greatest, any}
 use Rattle.model.specs.Vectors.{same, above, plus, equal, before, isZero}
 use Rattle.model.specs.Geometry.{cellCount, place, natural, position, firstEntry, otherEntries, leastFrom, least, lows, extent, extents, iterationCount, indices, fromLows, iteration, reads, distance}
-use Rattle.model.specs.Values.{sizesOf, offsetOf, offsetsOf, capacitiesOf, trimmed, chainOf, blankChain}
+use Rattle.model.specs.Values.{sizesOf, offsetOf, offsetsOf, capacitiesOf, trimmed, chainOf, requestOf}
 use Rattle.model.specs.Answers.{numberOf, verdictNumber, outcomeCase, outcomeCounts, answerCounts, answerNumber, firstOf}
-use Rattle.model.specs.Judging.{badGrid, badCount, repeats, noIteration, needsCentre, lacksCentre, notFinite, badFactor, tooLarge, valueChecks, judged}
+use Rattle.model.specs.Judging.{badDims, badSizes, badGrid, badCount, repeats, noIteration, needsCentre, lacksCentre, notFinite, badFactor, tooLarge, valueChecks, judged}
 use Rattle.model.specs.Planning.{insert, falling, distances, trimmedRequest, judgeRequest, plannedChain, planOf}
 use Rattle.model.specs.Kernels.{written, width, centreOf}
 use Rattle.model.specs.Clock.{turn, limit, turns, ready, fires, next, moves}
 use Rattle.model.specs.Store.{firstPlace, placeIn, presented, stored}
 use Rattle.model.specs.Running.{layout, countersOf, withCounters, outcomeOf, words, clocked, look, call, events, shortStore, notPast, badCounter, badFifo, badFilters, badState, judgeRun, begun, writtenBy, widthOf, ended, runTrimmed, eventsTrimmed}
-use Rattle.model.specs.declared.Request.{Request}
-use Rattle.model.specs.declared.Chain.{Chain}
 use Rattle.model.specs.declared.State.{State}
 use Rattle.model.specs.declared.Answer.{Answer}
 use Rattle.model.specs.declared.Answer.the-variants as answer
 use Rattle.model.specs.declared.Kernel.the-variants as kernel
-use Rattle.model.specs.declared.Counts.{Counts}
 
 -- A row of the table, with raw kernel.
 pub data Case : Type 0 where
@@ -51,12 +48,9 @@ unfoldable pub endOf : Answer → ℕ
 endOf (answer.Ended o) = outcomeCase o
 endOf (answer.Refused r) = 5
 
-unfoldable pub request : Chain → Request
-request c = record { grid = c .grid; window = c .window; kernel = c .kernel }
-
 unfoldable pub planned : List ℕ → List (List ℤ) → Result
 planned sizes offsets =
-    let p = planOf (request (chainOf sizes offsets [] kernel.Raw)) in
+    let p = planOf (requestOf (chainOf sizes offsets [] kernel.Raw)) in
     let t = trimmed (p .chain) in
     record { number = verdictNumber (p .verdict); offsets = t .offsets; capacities = t .capacities; outcome = 0; cells = 0; clocks = 0; firing = []; words = [] }
 
@@ -141,5 +135,5 @@ cases =
     ∷ []
 
 pub table : map answered cases ≡ map expected cases
-unfolding answered expected cases cross crossByRows planned ran start request endOf firingClocks tabulate sum product greatest all any same above plus equal before isZero cellCount place natural position firstEntry otherEntries leastFrom least lows extent extents iterationCount indices fromLows iteration reads distance sizesOf offsetOf offsetsOf capacitiesOf trimmed chainOf blankChain numberOf verdictNumber outcomeCase outcomeCounts answerCounts answerNumber firstOf badGrid badCount repeats noIteration needsCentre lacksCentre notFinite badFactor tooLarge valueChecks judged insert falling distances trimmedRequest judgeRequest plannedChain planOf written width centreOf turn limit turns ready fires next moves firstPlace placeIn presented stored layout countersOf withCounters outcomeOf words clocked look call events shortStore notPast badCounter badFifo badFilters badState judgeRun begun writtenBy widthOf ended runTrimmed eventsTrimmed
+unfolding answered expected cases cross crossByRows planned ran start endOf firingClocks tabulate sum product greatest any same above plus equal before isZero cellCount place natural position firstEntry otherEntries leastFrom least lows extent extents iterationCount indices fromLows iteration reads distance sizesOf offsetOf offsetsOf capacitiesOf trimmed chainOf numberOf verdictNumber outcomeCase outcomeCounts answerCounts answerNumber firstOf badDims badSizes badGrid badCount repeats noIteration needsCentre lacksCentre notFinite badFactor tooLarge valueChecks judged insert falling distances trimmedRequest judgeRequest plannedChain planOf written width centreOf turn limit turns ready fires next moves firstPlace placeIn presented stored layout countersOf withCounters outcomeOf words clocked look call events shortStore notPast badCounter badFifo badFilters badState judgeRun begun writtenBy widthOf ended runTrimmed eventsTrimmed
 table = refl

@@ -1,5 +1,5 @@
 -- Grid, window, iterations, distances (document 01, "Grid, window, distances"). `sizes`: the grid's, slowest dimension first; `offsets`: one vector a reference.
-use Prim.Native.Nat.{ℕ, zero, suc, _+_, _-_, _*_, _/_, _%_}
+use Prim.Native.Nat.{ℕ, suc, _+_, _-_, _*_, _/_, _%_}
 use mathlib.Core.Bool.{Bool, true, false, cond, _&&_}
 use mathlib.Core.List.{List, [], _∷_, map}
 use lib.Dec.{eqb}

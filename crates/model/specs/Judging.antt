@@ -23,8 +23,14 @@ abbrev pub mostPlaces : ℕ
 mostPlaces = 16384
 
 -- 3: "dimension count outside 1 to 4, a size 0, or too many cells"
+unfoldable pub badDims : ℕ → Bool
+badDims dims = eqb dims 0 || ltb 4 dims
+
+unfoldable pub badSizes : List ℕ → Bool
+badSizes sizes = any (λ s. eqb s 0) sizes || ltb mostCells (cellCount sizes)
+
 unfoldable pub badGrid : (dims : ℕ) (sizes : List ℕ) → Bool
-badGrid dims sizes = (eqb dims 0 || ltb 4 dims) || (any (λ s. eqb s 0) sizes || ltb mostCells (cellCount sizes))
+badGrid dims sizes = badDims dims || badSizes sizes
 
 -- 4: n outside 1 to 32
 unfoldable pub badCount : ℕ → Bool

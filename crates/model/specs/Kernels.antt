@@ -1,10 +1,10 @@
 -- The kernels on words (document 01, "Kernels"). "Arithmetic is f32, each operation rounded once"; `toBits` writes what is not a number as 7FC00000.
-use Prim.Native.Nat.{ℕ, zero, suc}
-use mathlib.Core.Bool.{Bool, true, false, cond}
+use Prim.Native.Nat.{ℕ, suc}
+use mathlib.Core.Bool.{cond}
 use mathlib.Core.List.{List, [], _∷_, _++_, map}
 use mathlib.Core.Path.{_≡_, refl}
 use lib.IntN.{ℤ}
-use lib.Ieee.{Float, nan, Format, binary32, ofBits, toBits, add, sub, mul}
+use lib.Ieee.{Float, nan, binary32, ofBits, toBits, add, sub, mul}
 use lib.ListN.{take, drop, getD}
 use Rattle.model.specs.Vectors.{isZero}
 use Rattle.model.specs.declared.Factors.{Factors}

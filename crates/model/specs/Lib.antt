@@ -12,4 +12,10 @@ pub mod Clock
 pub mod Store
 pub mod Running
 pub mod CallLists
+pub mod Lines
+pub mod Frames
+pub mod Numbers
+pub mod Reading
+pub mod Writing
 pub mod Cases
+pub mod SheetCases

@@ -1,6 +1,6 @@
 -- A run call (document 01, "Running" and "Turned back on account of the state").
 use Prim.Native.Nat.{ℕ, zero, suc, _+_, _-_, _*_}
-use mathlib.Core.Bool.{Bool, true, false, not, cond, _&&_, _||_}
+use mathlib.Core.Bool.{Bool, false, not, cond, _&&_, _||_}
 use mathlib.Core.List.{List, [], _∷_, _++_, map}
 use lib.Dec.{eqb, ltb, leb}
 use lib.ListN.{length, getD, drop}
@@ -8,7 +8,7 @@ use lib.Seq.{sets}
 use Rattle.model.specs.Lists.{tabulate, sum}
 use Rattle.model.specs.Geometry.{cellCount, iterationCount, reads}
 use Rattle.model.specs.Values.{Trimmed, trimmed}
-use Rattle.model.specs.Answers.{Check, check, firstOf, byVerdict}
+use Rattle.model.specs.Answers.{check, firstOf, byVerdict}
 use Rattle.model.specs.Judging.{valueChecks}
 use Rattle.model.specs.Kernels.{written, width, centreOf}
 use Rattle.model.specs.Clock.{Layout, Counters, first, fires, next, moves}

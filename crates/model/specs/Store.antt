@@ -1,6 +1,6 @@
 -- The words behind the counters: what the filters are presented, and what a clock leaves in the store (document 01, "One clock" and "Running").
 use Prim.Native.Nat.{ℕ, suc, _+_, _%_}
-use mathlib.Core.Bool.{Bool, true, false, cond}
+use mathlib.Core.Bool.{cond}
 use mathlib.Core.List.{List, [], _∷_}
 use lib.Dec.{ltb}
 use lib.ListN.{getD, set}

@@ -3,12 +3,13 @@ use Prim.Native.Nat.{ℕ, _+_, _-_, _*_, _/_, _%_}
 use mathlib.Core.List.{List, []}
 use mathlib.Core.Path.{_≡_}
 use lib.IntN.{ℤ, pos}
-use lib.ListN.{length, getD}
+use lib.ListN.{length, getD, replicate}
 use Rattle.model.specs.Lists.{tabulate}
 use Rattle.model.specs.declared.Grid.{Grid}
 use Rattle.model.specs.declared.Window.{Window}
 use Rattle.model.specs.declared.Kernel.{Kernel}
 use Rattle.model.specs.declared.Kernel.the-variants as kernel
+use Rattle.model.specs.declared.Request.{Request}
 use Rattle.model.specs.declared.Chain.{Chain}
 
 unfoldable pub sizesOf : Grid → List ℕ
@@ -63,7 +64,15 @@ chainOf sizes offsets capacities kernel = record {
   kernel = kernel;
 }
 
--- What a refusal hands back in place of a chain.
-unfoldable pub blankChain : Chain
-unfolding chainOf
-blankChain = chainOf [] [] [] kernel.Raw
+-- What a refusal hands back in place of a chain: all counts and entries 0, and raw.
+abbrev pub blankChain : Chain
+blankChain = record {
+  grid = record { dims = 0; sizes = replicate 4 0 };
+  window = record { count = 0; offsets = replicate 128 (pos 0) };
+  capacities = replicate 31 0;
+  kernel = kernel.Raw;
+}
+
+-- The request that a chain without its capacities is.
+abbrev pub requestOf : Chain → Request
+requestOf c = record { grid = c .grid; window = c .window; kernel = c .kernel }

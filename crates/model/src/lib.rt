@@ -106,3 +106,47 @@ pub struct Ran {
     pub answer: Answer,
     pub state: State,
 }
+
+// The types of the sheet.
+
+// A line decoded as its characters arrive: the bytes that are kept (specs/Frames.antt), 0 past its end; how many it has, counted no further than those; whether
+// every character was a digit; and, where `half`, the digit `high` of a byte that is not whole yet.
+pub struct Frame {
+    pub first: [u8; 24],
+    pub len: usize,
+    pub sound: bool,
+    pub half: bool,
+    pub high: u8,
+}
+
+// Where the reading of a sheet stands. Stage 0 is before its `01` line, 1 after it, 2 after its `04` line; `given` counts its `03` lines; the chain holds
+// what was read.
+pub struct Reading {
+    pub stage: u8,
+    pub given: u8,
+    pub chain: Chain,
+}
+
+// What reading one line answers; where it refuses, the reading stays as it was.
+pub struct LineStep {
+    pub verdict: Verdict,
+    pub reading: Reading,
+}
+
+// What reading a chain sheet answers; where it refuses, the chain is the blank one.
+pub struct ReadChain {
+    pub verdict: Verdict,
+    pub chain: Chain,
+}
+
+// What reading a request sheet answers; where it refuses, the request is the blank one.
+pub struct ReadRequest {
+    pub verdict: Verdict,
+    pub request: Request,
+}
+
+// What writing a chain sheet answers, and how many bytes it wrote.
+pub struct Wrote {
+    pub verdict: Verdict,
+    pub bytes: usize,
+}

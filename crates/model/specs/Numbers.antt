@@ -1,0 +1,31 @@
+-- Numbers on a line: "Numbers are most significant byte first."
+use Prim.Native.Nat.{ℕ, _+_, _-_, _*_, _/_, _%_}
+use mathlib.Core.Bool.{cond}
+use mathlib.Core.List.{List, [], _∷_}
+use lib.Dec.{ltb}
+use lib.IntN.{ℤ, pos, negsuc}
+use lib.ListN.{getD}
+
+abbrev pub byteAt : List ℕ → ℕ → ℕ
+byteAt x i = getD x i 0
+
+-- Two bytes and four bytes, from byte i on.
+unfoldable pub halfAt : List ℕ → ℕ → ℕ
+halfAt x i = byteAt x i * 256 + byteAt x (i + 1)
+
+unfoldable pub wordAt : List ℕ → ℕ → ℕ
+wordAt x i = byteAt x i * 16777216 + byteAt x (i + 1) * 65536 + byteAt x (i + 2) * 256 + byteAt x (i + 3)
+
+unfoldable pub halfBytes : ℕ → List ℕ
+halfBytes w = w / 256 ∷ w % 256 ∷ []
+
+unfoldable pub wordBytes : ℕ → List ℕ
+wordBytes w = w / 16777216 ∷ w / 65536 % 256 ∷ w / 256 % 256 ∷ w % 256 ∷ []
+
+-- "two's complement", in 16 bits
+unfoldable pub signed : ℕ → ℤ
+signed w = cond (ltb w 32768) (pos w) (negsuc (65535 - w))
+
+unfoldable pub pattern : ℤ → ℕ
+pattern (pos n) = n
+pattern (negsuc n) = 65535 - n

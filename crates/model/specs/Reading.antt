@@ -1,0 +1,202 @@
+-- Reading a sheet line by line (document 01, "Lines of the sheet", "Turned back on account of the input").
+use Prim.Native.Nat.{ℕ, _+_, _*_}
+use mathlib.Core.Bool.{Bool, true, false, cond, not, _&&_}
+use mathlib.Core.List.{List, [], _∷_}
+use lib.Dec.{eqb, leb, ltb}
+use lib.IntN.{ℤ}
+use lib.ListN.{take, set}
+use lib.Seq.{sets}
+use lib.Ieee.{ofBits, binary32}
+use Rattle.model.specs.declared.Kernel.{Kernel}
+use Rattle.model.specs.declared.Kernel.the-variants as kernel
+use Rattle.model.specs.declared.Refusal.the-variants as refusal
+use Rattle.model.specs.declared.Verdict.{Verdict}
+use Rattle.model.specs.declared.Verdict.the-variants as verdict
+use Rattle.model.specs.declared.Reading.{Reading}
+use Rattle.model.specs.declared.LineStep.{LineStep}
+use Rattle.model.specs.declared.ReadChain.{ReadChain}
+use Rattle.model.specs.declared.ReadRequest.{ReadRequest}
+use Rattle.model.specs.Values.{blankChain, requestOf}
+use Rattle.model.specs.Answers.{Check, check, firstOf, byVerdict}
+use Rattle.model.specs.Judging.{badDims, badSizes, judgeChain}
+use Rattle.model.specs.Planning.{judgeRequest}
+use Rattle.model.specs.Lines.{Line, linesOf}
+use Rattle.model.specs.Frames.{Seen, seenOf}
+use Rattle.model.specs.Numbers.{byteAt, halfAt, wordAt, signed}
+
+-- The first byte, which says what kind of line it is; and the second: the dimension count of an `01` line, the kernel byte of an `04` line.
+abbrev pub kindOf : Seen → ℕ
+kindOf l = byteAt (l .first) 0
+
+abbrev pub secondOf : Seen → ℕ
+secondOf l = byteAt (l .first) 1
+
+-- 1: an unknown kernel byte, or a length other than the kernel's.
+unfoldable pub badKernel : (len second : ℕ) → Bool
+badKernel len second =
+    cond (leb second 1) (not (eqb len 2))
+    (cond (eqb second 2) (not (eqb len 6))
+    (cond (eqb second 3) (not (eqb len 10))
+    true))
+
+-- 1: an unknown first byte or kernel byte, a missing dimension count, or a length other than the one that the line itself sets.
+unfoldable pub badForm : (len kind second : ℕ) → Bool
+badForm len kind second =
+    cond (eqb kind 1) (ltb len 2)
+    (cond (eqb kind 2) false
+    (cond (eqb kind 3) (not (eqb len 5))
+    (cond (eqb kind 4) (badKernel len second)
+    (cond (eqb kind 5) (not (eqb len 5))
+    true))))
+
+-- 1, before the order of lines: no sound frame, an empty line, or a bad form.
+unfoldable pub malformed : (sound : Bool) (len kind second : ℕ) → Bool
+malformed sound len kind second = cond sound (cond (eqb len 0) true (badForm len kind second)) true
+
+-- 2: the line may not stand here, where `count` of the `02` lines and `given` of the `03` lines were read. "A request sheet is one `01`, one or more `02`, one
+-- `04`. A chain sheet has n−1 `03` lines before the `04`".
+unfoldable pub misplaced : (chainSheet : Bool) (stage given count kind : ℕ) → Bool
+misplaced chainSheet stage given count kind =
+    cond (eqb kind 1) (not (eqb stage 0))
+    (cond (eqb stage 1)
+    (cond (eqb kind 2) (not (eqb given 0))
+    (cond (eqb kind 3) (cond chainSheet (leb count (given + 1)) true)
+    (cond (eqb kind 4) (cond chainSheet (not (eqb count (given + 1))) (eqb count 0))
+    true)))
+    true)
+
+-- 1: a length other than the one that the dimension count sets, for an `02` line that of the `01` line read before.
+unfoldable pub badLength : (len kind second dims : ℕ) → Bool
+badLength len kind second dims =
+    cond (eqb kind 1) (not (eqb len (2 + 4 * second)))
+    (cond (eqb kind 2) (not (eqb len (1 + 2 * dims)))
+    false)
+
+-- The sizes on an `01` line with the bytes x, 0 past its end.
+unfoldable pub sizesIn : List ℕ → List ℕ
+sizesIn x = wordAt x 2 ∷ wordAt x 6 ∷ wordAt x 10 ∷ wordAt x 14 ∷ []
+
+-- "On one line 1 comes before 2, but a length that another line sets, as in `02`, is checked after 2; on an `01` line a fault of the frame or a missing count
+-- is 1, then its order 2, then a bad count 3, then a wrong length 1, then sizes 3. 4 comes at the 33rd line, after 1 and 2."
+unfoldable pub lineChecks : (chainSheet : Bool) → Reading → Seen → List Check
+lineChecks chainSheet r l =
+    let kind = kindOf l in
+    let second = secondOf l in
+    let count = r .chain .window .count in
+    check (malformed (l .sound) (l .len) kind second) refusal.Malformed
+    ∷ check (misplaced chainSheet (r .stage) (r .given) count kind) refusal.Misplaced
+    ∷ check (eqb kind 1 && badDims second) refusal.BadGrid
+    ∷ check (badLength (l .len) kind second (r .chain .grid .dims)) refusal.Malformed
+    ∷ check (eqb kind 1 && badSizes (take second (sizesIn (l .first)))) refusal.BadGrid
+    ∷ check (eqb kind 2 && leb 32 count) refusal.BadCount
+    ∷ []
+
+unfoldable pub lineVerdict : (chainSheet : Bool) → Reading → Seen → Verdict
+lineVerdict chainSheet r l = firstOf (lineChecks chainSheet r l)
+
+-- What a line with the bytes x adds. An `01` line: the grid.
+unfoldable pub withGrid : Reading → List ℕ → Reading
+withGrid r x =
+    let c = r .chain in
+    record {
+      stage = 1;
+      given = r .given;
+      chain = record { grid = record { dims = byteAt x 1; sizes = sizesIn x }; window = c .window; capacities = c .capacities; kernel = c .kernel };
+    }
+
+-- The entries on an `02` line, 0 past its end.
+unfoldable pub entriesIn : List ℕ → List ℤ
+entriesIn x = signed (halfAt x 1) ∷ signed (halfAt x 3) ∷ signed (halfAt x 5) ∷ signed (halfAt x 7) ∷ []
+
+-- An `02` line: the next reference's offset.
+unfoldable pub withOffset : Reading → List ℕ → Reading
+withOffset r x =
+    let c = r .chain in
+    let w = c .window in
+    record {
+      stage = r .stage;
+      given = r .given;
+      chain = record {
+        grid = c .grid;
+        window = record { count = w .count + 1; offsets = sets (w .offsets) (4 * w .count) (entriesIn x) };
+        capacities = c .capacities;
+        kernel = c .kernel;
+      };
+    }
+
+-- An `03` line: the next FIFO's capacity.
+unfoldable pub withCapacity : Reading → List ℕ → Reading
+withCapacity r x =
+    let c = r .chain in
+    record {
+      stage = r .stage;
+      given = r .given + 1;
+      chain = record { grid = c .grid; window = c .window; capacities = set (c .capacities) (r .given) (wordAt x 1); kernel = c .kernel };
+    }
+
+unfoldable pub kernelIn : List ℕ → Kernel
+kernelIn x =
+    let which = byteAt x 1 in
+    cond (eqb which 0) kernel.Raw
+    (cond (eqb which 1) kernel.Difference
+    (cond (eqb which 2) (kernel.Scaled (ofBits binary32 (wordAt x 2)))
+    (kernel.Blend (record { a = ofBits binary32 (wordAt x 2); b = ofBits binary32 (wordAt x 6) }))))
+
+-- An `04` line: the kernel.
+unfoldable pub withKernel : Reading → List ℕ → Reading
+withKernel r x =
+    let c = r .chain in
+    record { stage = 2; given = r .given; chain = record { grid = c .grid; window = c .window; capacities = c .capacities; kernel = kernelIn x } }
+
+-- Any line that is not turned back.
+unfoldable pub taken : Reading → List ℕ → Reading
+taken r x =
+    let kind = byteAt x 0 in
+    cond (eqb kind 1) (withGrid r x) (cond (eqb kind 2) (withOffset r x) (cond (eqb kind 3) (withCapacity r x) (withKernel r x)))
+
+-- One line, read.
+unfoldable pub stepOf : (chainSheet : Bool) → Reading → Seen → LineStep
+stepOf chainSheet r l =
+    let v = lineVerdict chainSheet r l in
+    record { verdict = v; reading = byVerdict v (taken r (l .first)) (λ x. r) }
+
+-- Before the first line.
+abbrev pub start : Reading
+start = record { stage = 0; given = 0; chain = blankChain }
+
+-- The lines from the top, up to the first that is turned back.
+unfoldable pub readLines : (chainSheet : Bool) → Reading → List Line → LineStep
+readLines chainSheet r [] = record { verdict = verdict.Accepted; reading = r }
+readLines chainSheet r (l ∷ ls) =
+    let s = stepOf chainSheet r (seenOf (l .ended) (l .chars)) in
+    let rest = readLines chainSheet (s .reading) ls in
+    byVerdict (s .verdict) rest (λ x. s)
+
+-- After the last line: 2 where one is "missing at the end"; then 5 to 9, by judging the value that was read, of which 3 and 4 hold no more.
+unfoldable pub endVerdict : LineStep → (judged : Verdict) → Verdict
+endVerdict s judged =
+    let atEnd = cond (eqb (s .reading .stage) 2) judged (verdict.Refused refusal.Misplaced) in
+    byVerdict (s .verdict) atEnd verdict.Refused
+
+unfoldable pub readChain : List ℕ → ReadChain
+readChain sheet =
+    let s = readLines true start (linesOf sheet) in
+    let v = endVerdict s (judgeChain (s .reading .chain)) in
+    record { verdict = v; chain = byVerdict v (s .reading .chain) (λ x. blankChain) }
+
+unfoldable pub readRequest : List ℕ → ReadRequest
+readRequest sheet =
+    let s = readLines false start (linesOf sheet) in
+    let v = endVerdict s (judgeRequest (requestOf (s .reading .chain))) in
+    record { verdict = v; request = requestOf (byVerdict v (s .reading .chain) (λ x. blankChain)) }
+
+-- Where a cell is wanted: 1 as on any line, then 2 for a line other than `05`; and the cell of an `05` line.
+unfoldable pub cellVerdict : Seen → Verdict
+cellVerdict l =
+    firstOf
+    (check (malformed (l .sound) (l .len) (kindOf l) (secondOf l)) refusal.Malformed
+    ∷ check (not (eqb (kindOf l) 5)) refusal.Misplaced
+    ∷ [])
+
+abbrev pub cellIn : Seen → ℕ
+cellIn l = wordAt (l .first) 1

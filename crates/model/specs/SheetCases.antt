@@ -1,0 +1,215 @@
+-- The sheets that document 01 prints, and damaged ones, read by computation; an accepted chain sheet is written back.
+use Prim.Native.Nat.{ℕ, zero, suc, _+_, _-_}
+use Prim.Native.Char.{code}
+use Prim.Native.String.{String, _++_}
+use Prim.Native.String as Text
+use mathlib.Core.Path.{_≡_, refl}
+use mathlib.Core.Bool.{Bool, true, false, _&&_}
+use mathlib.Core.List.{List, [], _∷_, flatMap}
+use lib.Dec.{eqb}
+use lib.ListN.{length, take, drop, replicate}
+use lib.Ieee.{ofBits, toBits}
+use Rattle.model.specs.declared.Chain.{Chain}
+use Rattle.model.specs.Lists.{tabulate, sum, product, greatest, all, any}
+use Rattle.model.specs.Vectors.{same, above, plus, equal, before, isZero}
+use Rattle.model.specs.Geometry.{cellCount, place, natural, position, firstEntry, otherEntries, leastFrom, least, lows, extent, extents, iterationCount}
+use Rattle.model.specs.Geometry.{indices, fromLows, iteration, reads, distance}
+use Rattle.model.specs.Values.{sizesOf, offsetOf, offsetsOf, capacitiesOf, trimmed, blankChain}
+use Rattle.model.specs.Answers.{numberOf, verdictNumber, firstOf, byVerdict}
+use Rattle.model.specs.Judging.{badDims, badSizes, badGrid, badCount, repeats, noIteration, needsCentre, lacksCentre, notFinite, badFactor, tooLarge, valueChecks, judged, judgeChain}
+use Rattle.model.specs.Planning.{insert, falling, distances, trimmedRequest, judgeRequest}
+use Rattle.model.specs.Lines.{linesOf}
+use Rattle.model.specs.Frames.{isDigit, valueOf, digitOf, whole, bytesOf, digitsOf, framed, padded, seenOf}
+use Rattle.model.specs.Numbers.{halfAt, wordAt, halfBytes, wordBytes, signed, pattern}
+use Rattle.model.specs.Reading.{badKernel, badForm, malformed, misplaced, badLength, sizesIn, lineChecks, lineVerdict}
+use Rattle.model.specs.Reading.{withGrid, entriesIn, withOffset, withCapacity, kernelIn, withKernel, taken, stepOf, readLines, endVerdict}
+use Rattle.model.specs.Reading.{readChain, readRequest, cellVerdict}
+use Rattle.model.specs.Writing.{gridLine, offsetLine, capacityLine, kernelLine, chainLines, sheetOf, writeVerdict, writeOf}
+
+-- A text's characters, as bytes.
+unfoldable pub bytesIn : String → List ℕ
+bytesIn Text.[] = []
+bytesIn (Text._∷_ c t) = code c ∷ bytesIn t
+
+unfoldable pub times : ℕ → String → String
+times zero t = ""
+times (suc n) t = t ++ times n t
+
+-- A sheet, and the number that turns it back, or 0.
+pub record Case : Type 0 where
+  pub sheet : String
+  pub number : ℕ
+
+abbrev pub case : String → ℕ → Case
+case t n = record { sheet = t; number = n }
+
+-- A grid of size 5.
+abbrev pub five : String
+five = "010100000005\n"
+
+-- Document 01's chain sheet.
+abbrev pub printed : String
+printed = "010100000005\n020003\n020000\n0300000003\n0400\n"
+
+unfoldable pub requests : List Case
+requests =
+    -- document 01's; a single reference; the most cells; the most places
+    case (five ++ "020000\n020003\n0400\n") 0
+    ∷ case (five ++ "020000\n0400\n") 0
+    ∷ case "01020000040000000400\n0200000000\n0400\n" 0
+    ∷ case "010100004E20\n020000\n024000\n0400\n" 0
+    -- no line; an empty line, also as the last; a last line without LF, also out of order
+    ∷ case "" 2
+    ∷ case "\n" 1
+    ∷ case (five ++ "020000\n0400\n\n") 1
+    ∷ case (five ++ "020000\n0400") 1
+    ∷ case "0400" 1
+    -- odd; another character: next to the digits, lowercase, CR, NUL, a space, a byte order mark
+    ∷ case "020\n" 1
+    ∷ case "020/\n" 1
+    ∷ case "020:\n" 1
+    ∷ case "020@\n" 1
+    ∷ case "020G\n" 1
+    ∷ case "020a\n" 1
+    ∷ case "020\r\n" 1
+    ∷ case "020\0\n" 1
+    ∷ case "02 0\n" 1
+    ∷ case "ï»¿010100000005\n" 1
+    -- unknown first bytes
+    ∷ case "100000000000000001\n" 1
+    ∷ case "110000000000\n" 1
+    ∷ case "1F01\n" 1
+    -- an `01` line: a missing count, also out of order; its order; its count; its length; its sizes
+    ∷ case "01\n" 1
+    ∷ case (five ++ "01\n") 1
+    ∷ case (five ++ "0100\n") 2
+    ∷ case "0100\n" 3
+    ∷ case "0105\n" 3
+    ∷ case "01050000000100000001000000010000000100000001\n" 3
+    ∷ case "0101\n" 1
+    ∷ case "0102FFFFFFFF\n" 1
+    ∷ case "010100000000\n" 3
+    ∷ case "010100100001\n" 3
+    ∷ case "010400010000000100000001000000010000\n" 3
+    -- an `02` line: its order, at any length, but the frame first; its length; a 33rd one
+    ∷ case "02\n" 2
+    ∷ case (times 60 "02" ++ "\n") 2
+    ∷ case (times 60 "02" ++ "0\n") 1
+    ∷ case (five ++ "0200000000\n") 1
+    ∷ case (five ++ times 33 "020000\n") 4
+    ∷ case (five ++ (times 32 "020000\n" ++ "0200\n")) 1
+    -- `03` and `05` lines, which have no place here; their length comes first
+    ∷ case (five ++ "020000\n0300000003\n") 2
+    ∷ case (five ++ "020000\n03000003\n") 1
+    ∷ case (five ++ "020000\n0500000003\n") 2
+    ∷ case (five ++ "020000\n05000003\n") 1
+    ∷ case printed 2
+    -- an `04` line: its kernel byte and its length, then its order; none
+    ∷ case "04\n" 1
+    ∷ case "0404\n" 1
+    ∷ case "040000\n" 1
+    ∷ case "04023F8000\n" 1
+    ∷ case "04033F800000\n" 1
+    ∷ case (five ++ "0400\n") 2
+    ∷ case (five ++ "020000\n") 2
+    -- a line after it, before 5
+    ∷ case (five ++ "020000\n020000\n0400\n0400\n") 2
+    ∷ case (five ++ "020000\n020000\n0400\n04\n") 1
+    -- 5 to 9, lowest first
+    ∷ case (five ++ (times 32 "020000\n" ++ "0401\n")) 5
+    ∷ case "010100000002\n02FFFF\n020001\n0401\n" 6
+    ∷ case (five ++ "020001\n04037F80000000000000\n") 7
+    ∷ case (five ++ "020000\n04027FC00000\n") 8
+    ∷ case "010100004E20\n020000\n024001\n0400\n" 9
+    ∷ []
+
+unfoldable pub chains : List Case
+chains =
+    -- document 01's; a single reference; two FIFOs; another order than the planned one; four dimensions; factors −0 and the least above 0
+    case printed 0
+    ∷ case (five ++ "020000\n0400\n") 0
+    ∷ case (five ++ "020003\n020001\n020000\n0300000002\n0300000001\n0401\n") 0
+    ∷ case (five ++ "020000\n020003\n0300000010\n0402BF800000\n") 0
+    ∷ case "010400000002000000020000000200000005\n02000100000000FFFF\n020000000000000003\n0300000001\n0400\n" 0
+    ∷ case (five ++ "020000\n04038000000000000001\n") 0
+    -- a request sheet with more than one reference
+    ∷ case (five ++ "020000\n020003\n0400\n") 2
+    -- `03` lines: one for a single reference, one too many, one too few, an `02` line after one, no `04` line after the last
+    ∷ case (five ++ "020000\n0300000003\n04\n") 2
+    ∷ case (five ++ "020003\n020000\n0300000003\n0300000003\n04\n") 2
+    ∷ case (five ++ "020003\n020001\n020000\n0300000002\n0400\n") 2
+    ∷ case (five ++ "020003\n020000\n0300000003\n020001\n0300000001\n0400\n") 2
+    ∷ case (five ++ "020003\n020000\n0300000003\n") 2
+    -- a line after the `04` line, before 5
+    ∷ case (printed ++ "0500000001\n") 2
+    ∷ case (five ++ "020000\n020000\n0300000003\n0400\n0500\n") 1
+    -- 5 before 9; the least and the greatest entry; 9 by the given capacities alone, whose sum is a whole number
+    ∷ case (five ++ "020000\n020000\n0380000000\n0400\n") 5
+    ∷ case "01010000FFFF\n027FFF\n028000\n0300004000\n0400\n" 6
+    ∷ case "010100010000\n027FFF\n028000\n0300004000\n0400\n" 0
+    ∷ case (five ++ "020003\n020000\n0300004001\n0400\n") 9
+    ∷ case (five ++ "020003\n020001\n020000\n0380000000\n0380000000\n0400\n") 9
+    ∷ []
+
+-- Lines where a cell is wanted.
+unfoldable pub cells : List Case
+cells =
+    case "0500000001\n" 0
+    ∷ case "0500000001" 1
+    ∷ case "05000001\n" 1
+    ∷ case "0404\n" 1
+    ∷ case "0400\n" 2
+    ∷ case "0109\n" 2
+    ∷ case "02\n" 2
+    ∷ []
+
+unfoldable pub sameBytes : List ℕ → List ℕ → Bool
+sameBytes [] [] = true
+sameBytes [] (y ∷ ys) = false
+sameBytes (x ∷ xs) [] = false
+sameBytes (x ∷ xs) (y ∷ ys) = eqb x y && sameBytes xs ys
+
+unfoldable pub requestRight : Case → Bool
+requestRight c = eqb (verdictNumber (readRequest (bytesIn (c .sheet)) .verdict)) (c .number)
+
+-- The sheet is what is written to an output with two places more, which stay as they were; with a place too few it is 12, and all stay.
+unfoldable pub writesBack : Chain → List ℕ → Bool
+writesBack c sheet =
+    let room = length sheet in
+    let long = writeOf c (replicate (room + 2) 7) in
+    let short = writeOf c (replicate (room - 1) 7) in
+    eqb (verdictNumber (long .answer .verdict)) 0
+    && (eqb (long .answer .bytes) room
+    && (sameBytes (take room (long .output)) sheet
+    && (sameBytes (drop room (long .output)) (7 ∷ 7 ∷ [])
+    && (eqb (verdictNumber (short .answer .verdict)) 12
+    && (eqb (short .answer .bytes) 0
+    && sameBytes (short .output) (replicate (room - 1) 7))))))
+
+unfoldable pub chainRight : Case → Bool
+chainRight c =
+    let sheet = bytesIn (c .sheet) in
+    let r = readChain sheet in
+    eqb (verdictNumber (r .verdict)) (c .number) && byVerdict (r .verdict) (writesBack (r .chain) sheet) (λ x. true)
+
+unfoldable pub cellRight : Case → Bool
+cellRight c = all (λ l. eqb (verdictNumber (cellVerdict (seenOf (l .ended) (l .chars)))) (c .number)) (linesOf (bytesIn (c .sheet)))
+
+-- 3 comes before 12.
+unfoldable pub blankRight : Bool
+blankRight =
+    let w = writeOf blankChain (7 ∷ []) in
+    eqb (verdictNumber (w .answer .verdict)) 3 && (eqb (w .answer .bytes) 0 && sameBytes (w .output) (7 ∷ []))
+
+pub table : (all requestRight requests && (all chainRight chains && (all cellRight cells && blankRight))) ≡ true
+unfolding bytesIn times requests chains cells sameBytes requestRight writesBack chainRight cellRight blankRight flatMap ofBits toBits
+    tabulate sum product greatest all any same above plus equal before isZero
+    cellCount place natural position firstEntry otherEntries leastFrom least lows extent extents iterationCount indices fromLows iteration reads distance
+    sizesOf offsetOf offsetsOf capacitiesOf numberOf verdictNumber firstOf
+    badDims badSizes badGrid badCount repeats noIteration needsCentre lacksCentre notFinite badFactor tooLarge valueChecks judged judgeChain
+    insert falling distances trimmedRequest judgeRequest trimmed
+    linesOf isDigit valueOf digitOf whole bytesOf digitsOf framed padded halfAt wordAt halfBytes wordBytes signed pattern
+    badKernel badForm malformed misplaced badLength sizesIn lineChecks lineVerdict
+    withGrid entriesIn withOffset withCapacity kernelIn withKernel taken stepOf readLines endVerdict readChain readRequest cellVerdict
+    gridLine offsetLine capacityLine kernelLine chainLines sheetOf writeVerdict writeOf
+table = refl

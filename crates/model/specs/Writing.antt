@@ -1,0 +1,68 @@
+-- Writing a chain sheet (document 01, "Lines of the sheet"; number 12).
+use Prim.Native.Nat.{ℕ}
+use mathlib.Core.List.{List, [], _∷_, _++_, map, flatMap}
+use lib.Dec.{ltb}
+use lib.IntN.{ℤ}
+use lib.ListN.{length, drop}
+use lib.Ieee.{toBits, binary32}
+use Rattle.model.specs.declared.Grid.{Grid}
+use Rattle.model.specs.declared.Kernel.{Kernel}
+use Rattle.model.specs.declared.Kernel.the-variants as kernel
+use Rattle.model.specs.declared.Chain.{Chain}
+use Rattle.model.specs.declared.Refusal.the-variants as refusal
+use Rattle.model.specs.declared.Verdict.{Verdict}
+use Rattle.model.specs.declared.Verdict.the-variants as verdict
+use Rattle.model.specs.declared.Wrote.{Wrote}
+use Rattle.model.specs.Values.{sizesOf, offsetsOf, capacitiesOf}
+use Rattle.model.specs.Answers.{check, firstOf, byVerdict}
+use Rattle.model.specs.Judging.{judgeChain}
+use Rattle.model.specs.Frames.{framed}
+use Rattle.model.specs.Numbers.{halfBytes, wordBytes, pattern}
+
+-- "`01` dimension count (1 byte), then each size (4 bytes)"
+unfoldable pub gridLine : Grid → List ℕ
+gridLine g = 1 ∷ g .dims ∷ flatMap wordBytes (sizesOf g)
+
+-- "`02` one offset, 2 bytes an entry, two's complement"
+unfoldable pub offsetLine : List ℤ → List ℕ
+offsetLine o = 2 ∷ flatMap (λ e. halfBytes (pattern e)) o
+
+-- "`03` one capacity, 4 bytes"
+unfoldable pub capacityLine : ℕ → List ℕ
+capacityLine places = 3 ∷ wordBytes places
+
+-- "`04` kernel: byte 00 raw, 01 difference, 02 scaled and its factor's bits (4 bytes), 03 blend and a, b (4 bytes each)"
+unfoldable pub kernelLine : Kernel → List ℕ
+kernelLine kernel.Raw = 4 ∷ 0 ∷ []
+kernelLine kernel.Difference = 4 ∷ 1 ∷ []
+kernelLine (kernel.Scaled f) = 4 ∷ 2 ∷ wordBytes (toBits binary32 f)
+kernelLine (kernel.Blend g) = 4 ∷ 3 ∷ (wordBytes (toBits binary32 (g .a)) ++ wordBytes (toBits binary32 (g .b)))
+
+-- The lines of a chain sheet, as their bytes. "A chain sheet has n−1 `03` lines before the `04`, FIFO 0 first; its `02` lines are filter 0 first".
+unfoldable pub chainLines : Chain → List (List ℕ)
+chainLines c =
+    gridLine (c .grid)
+    ∷ (map offsetLine (offsetsOf (c .grid .dims) (c .window)) ++ (map capacityLine (capacitiesOf c) ++ (kernelLine (c .kernel) ∷ [])))
+
+unfoldable pub sheetOf : Chain → List ℕ
+sheetOf c = flatMap framed (chainLines c)
+
+-- 3 to 9 of the chain as a value, then 12: "a sheet to be written is longer than the output lent; looked at last".
+unfoldable pub writeVerdict : Chain → (room : ℕ) → Verdict
+writeVerdict c room =
+    let last = firstOf (check (ltb room (length (sheetOf c))) refusal.ShortOutput ∷ []) in
+    byVerdict (judgeChain c) last verdict.Refused
+
+-- What a write call answers, and the output as it leaves it.
+pub record Written : Type 0 where
+  pub answer : Wrote
+  pub output : List ℕ
+
+-- The sheet from the first place on; later places, and after a refusal all places, stay as they were.
+unfoldable pub writeOf : Chain → List ℕ → Written
+writeOf c output =
+    let v = writeVerdict c (length output) in
+    let sheet = sheetOf c in
+    byVerdict v
+    (record { answer = record { verdict = verdict.Accepted; bytes = length sheet }; output = sheet ++ drop (length sheet) output })
+    (λ r. record { answer = record { verdict = verdict.Refused r; bytes = 0 }; output = output })
