@@ -1,6 +1,10 @@
+pub mod Tests
 pub mod ListLaws
 pub mod IntegerLaws
 pub mod PlaceLaws
 pub mod WindowLaws
 pub mod IterationLaws
 pub mod Distances
+pub mod OrderLaws
+pub mod SortLaws
+pub mod ChainLaws

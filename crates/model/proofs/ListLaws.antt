@@ -7,6 +7,7 @@ use native.Mathlib.Decide.{decLe}
 use native.Mathlib.Nat.{le-of-suc-le-suc, le-antisymm}
 use native.Mathlib.Omega.{arith}
 use lib.ListN.{length, getD, length-map, List·getD-map}
+use lib.Seq.{ext-getD}
 use Rattle.model.specs.Lists.{tabulate, greatest, all}
 use Rattle.model.specs.Windows.{Among}
 
@@ -21,6 +22,11 @@ module _ {A : Type 0} where
   getD-tabulate zero f k d h = absurd (omega arith)
   getD-tabulate (suc n) f zero d h = refl
   getD-tabulate (suc n) f (suc k) d h = getD-tabulate n (λ i. f (suc i)) k d (le-of-suc-le-suc h)
+
+  -- A list is what stands in it, place by place.
+  pub tabulate-back : (d : A) (xs : List A) (n : ℕ) (f : ℕ → A) → length xs ≡ n → ((k : ℕ) → k < n → f k ≡ getD xs k d) → tabulate n f ≡ xs
+  tabulate-back d xs n f e same =
+      ext-getD d (tabulate n f) xs (length-tabulate n f ∙ sym e) (λ k h. let b = rw length-tabulate at h in getD-tabulate n f k d b ∙ same k b)
 
   -- A test that all entries pass is passed by each, and the other way.
   pub all-each : (p : A → Bool) (xs : List A) (d : A) → all p xs ≡ true → (k : ℕ) → k < length xs → p (getD xs k d) ≡ true

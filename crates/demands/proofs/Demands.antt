@@ -1,0 +1,32 @@
+-- The demands and the other promises hold.
+use Rattle.demands.specs.Demand3.{ListOfCalls, Demand3}
+use Rattle.demands.specs.Demand2.{Demand2}
+use Rattle.demands.specs.Plan.{PlanDemand}
+use Rattle.demands.specs.Promises.{Promises}
+use Rattle.demands.proofs.Finishing.{finishes, stalls, numbered}
+use Rattle.demands.proofs.Timing.{on-time, not-earlier}
+use Rattle.demands.proofs.Words.{demand-2}
+use Rattle.demands.proofs.Plans.{plan-demand}
+use Rattle.demands.proofs.Again.{makes-clock, called-again}
+use Rattle.demands.proofs.Promised.{clocks-few, never-stale, split, refused-keeps, past-count, alike}
+
+pub demand-2-plans : PlanDemand
+demand-2-plans = plan-demand
+
+pub demand-2-runs : (q : ListOfCalls) → Demand2 q
+demand-2-runs = demand-2
+
+pub demand-3 : Demand3
+demand-3 = record { finishes = finishes; stalls = stalls; numbered = numbered; on-time = on-time; not-earlier = not-earlier }
+
+pub promises : Promises
+promises = record {
+  few-clocks = clocks-few;
+  never-stale = never-stale;
+  makes-clock = makes-clock;
+  again = called-again;
+  split = split;
+  refused-keeps = refused-keeps;
+  past-count = past-count;
+  alike = alike;
+}

@@ -1,0 +1,42 @@
+-- Demand 2, of a plan: the sorted window and the reuse distances.
+use Prim.Native.Nat.{ℕ, suc, _+_, _-_, _<_}
+use mathlib.Core.Path.{_≡_}
+use lib.ListN.{getD}
+use Rattle.model.specs.Lists.{sum}
+use Rattle.model.specs.Geometry.{iterationCount, reads}
+use Rattle.model.specs.Windows.{Members}
+use Rattle.model.specs.Values.{Trimmed, sizesOf, offsetsOf, trimmed}
+use Rattle.model.specs.Judging.{judgeChain}
+use Rattle.model.specs.Planning.{judgeRequest, planOf}
+use Rattle.model.specs.declared.Request.{Request}
+use Rattle.model.specs.declared.Verdict.the-variants as verdict
+use Rattle.demands.specs.Right.{Planned}
+
+-- t: the planned chain of the request r, trimmed.
+pub record PlanRight (r : Request) (t : Trimmed) : Type 0 where
+  -- The grid and the kernel are the request's.
+  pub dims : t .dims ≡ r .grid .dims
+  pub sizes : t .sizes ≡ sizesOf (r .grid)
+  pub kernel : t .kernel ≡ r .kernel
+  -- The offsets are the request's, as many, each once.
+  pub count : t .count ≡ r .window .count
+  pub each : Members (offsetsOf (r .grid .dims) (r .window)) (t .offsets)
+  pub no-other : Members (t .offsets) (offsetsOf (r .grid .dims) (r .window))
+  -- They fall, and the capacities are the reuse distances of neighbours,
+  pub planned : Planned t
+  -- in every iteration;
+  pub every : (j k : ℕ) → j < iterationCount (t .sizes) (t .offsets) → suc k < t .count
+      → reads (t .sizes) (t .offsets) j k ≡ reads (t .sizes) (t .offsets) j (suc k) + getD (t .capacities) k 0
+  -- their sum is the reuse distance of the first and the last reference.
+  pub total : (j : ℕ) → j < iterationCount (t .sizes) (t .offsets)
+      → reads (t .sizes) (t .offsets) j 0 ≡ reads (t .sizes) (t .offsets) j (t .count - 1) + sum (t .capacities)
+
+-- What planning gives.
+pub record PlanGives (r : Request) : Type 0 where
+  pub answer : planOf r .verdict ≡ verdict.Accepted
+  pub accepted : judgeChain (planOf r .chain) ≡ verdict.Accepted
+  pub right : PlanRight r (trimmed (planOf r .chain))
+
+-- A request that no number turns back is planned, and its chain is accepted.
+abbrev pub PlanDemand : Type 0
+PlanDemand = (r : Request) → judgeRequest r ≡ verdict.Accepted → PlanGives r

@@ -1,0 +1,99 @@
+-- The other promises of document 01, "Running" and "Turned back".
+use Prim.Native.Nat.{ℕ, _+_, _*_, _≤_, _<_}
+use mathlib.Core.Bool.{true, false}
+use mathlib.Core.List.{List}
+use mathlib.Core.Logic.{_⊎_}
+use mathlib.Core.Path.{_≡_}
+use lib.ListN.{length, take, drop}
+use Rattle.model.specs.Values.{trimmed, Same}
+use Rattle.model.specs.Answers.{noCounts, answerNumber, answerCounts}
+use Rattle.model.specs.Judging.{judgeChain}
+use Rattle.model.specs.Running.{layout, countersOf, widthOf, shortStore, Run, runOf}
+use Rattle.model.specs.CallLists.{Lending, LentEnough, callRun, after, allWords, clocksMade, firingsMade}
+use Rattle.model.specs.declared.Chain.{Chain}
+use Rattle.model.specs.declared.State.{State}
+use Rattle.model.specs.declared.Refusal.{Refusal}
+use Rattle.model.specs.declared.Outcome.the-variants as outcome
+use Rattle.model.specs.declared.Answer.the-variants as answer
+use Rattle.demands.specs.Reports.{Reports, clocksOf}
+use Rattle.demands.specs.Demand3.{ListOfCalls, runsOf, handedOn, oneMore}
+
+module _ (q : ListOfCalls) where
+  -- Clocks made is "over a whole run at most n times the number of cells".
+  abbrev pub FewClocks : Type 0
+  FewClocks = clocksMade (runsOf q) ≤ trimmed (q .chain) .count * layout (trimmed (q .chain)) .cells
+
+  -- A state that the list reaches is never refused by 11: of all numbers only 10 turns a call of it back, and only where the store that is lent is short.
+  abbrev pub NeverStale : Type 0
+  NeverStale = (l : Lending) → (answerNumber (oneMore q l .answer) ≡ 0)
+      ⊎ ((answerNumber (oneMore q l .answer) ≡ 10) × (shortStore (trimmed (q .chain)) (take (l .front) (handedOn q .store)) ≡ true))
+
+  -- "A call lent a clock, a cell, places for a firing and such a store makes a clock unless it ends Done or Stalled".
+  abbrev pub MakesClock : Type 0
+  MakesClock = (l : Lending) → 0 < l .allowance → 0 < l .cells → widthOf (trimmed (q .chain)) ≤ length (l .output)
+      → shortStore (trimmed (q .chain)) (take (l .front) (handedOn q .store)) ≡ false
+      → (0 < clocksOf (oneMore q l)) ⊎ (Reports outcome.Done (oneMore q l) ⊎ Reports outcome.Stalled (oneMore q l))
+
+  -- The call m after the call l.
+  abbrev pub again : (l m : Lending) → Run
+  again l m = callRun (trimmed (q .chain)) (q .stream) m (after (trimmed (q .chain)) (q .stream) l (handedOn q))
+
+  abbrev pub againStore : (l m : Lending) → List ℕ
+  againStore l m = take (m .front) (after (trimmed (q .chain)) (q .stream) l (handedOn q) .store)
+
+  -- "Calling again after Done or Stalled gives the same outcome with zeros, unless an earlier line of the list applies." The line before Stalled are Spent, with no clock allowed, and
+  -- Starved, with no cell lent.
+  pub record Again (l m : Lending) : Type 0 where
+    pub done : Reports outcome.Done (oneMore q l) → shortStore (trimmed (q .chain)) (againStore l m) ≡ false → again l m .answer ≡ answer.Ended (outcome.Done noCounts)
+    pub stalled : Reports outcome.Stalled (oneMore q l) → shortStore (trimmed (q .chain)) (againStore l m) ≡ false → 0 < m .allowance → 0 < m .cells
+        → again l m .answer ≡ answer.Ended (outcome.Stalled noCounts)
+    pub spent : Reports outcome.Stalled (oneMore q l) → shortStore (trimmed (q .chain)) (againStore l m) ≡ false → m .allowance ≡ 0
+        → again l m .answer ≡ answer.Ended (outcome.Spent noCounts)
+    pub starved : Reports outcome.Stalled (oneMore q l) → shortStore (trimmed (q .chain)) (againStore l m) ≡ false → 0 < m .allowance → m .cells ≡ 0
+        → again l m .answer ≡ answer.Ended (outcome.Starved noCounts)
+
+-- Two lists of calls on one chain and one stream.
+pub record SameRun (p q : ListOfCalls) : Type 0 where
+  pub chain : trimmed (p .chain) ≡ trimmed (q .chain)
+  pub stream : p .stream ≡ q .stream
+
+-- "A run split over calls makes the same firings, clocks and end state as one call": two lists that made equally many clocks stand at the same counters, and made the same firings and
+-- words; and two lists, each with one more call that is lent enough, made equally many clocks. (One of them may be empty, so that its one more call is the whole run.)
+pub record Split (p q : ListOfCalls) : Type 0 where
+  pub counters : SameRun p q → clocksMade (runsOf p) ≡ clocksMade (runsOf q)
+      → countersOf (trimmed (p .chain) .count) (handedOn p .state) ≡ countersOf (trimmed (q .chain) .count) (handedOn q .state)
+  pub firings : SameRun p q → clocksMade (runsOf p) ≡ clocksMade (runsOf q) → firingsMade (runsOf p) ≡ firingsMade (runsOf q)
+  pub words : SameRun p q → clocksMade (runsOf p) ≡ clocksMade (runsOf q)
+      → allWords (trimmed (p .chain)) (p .stream) (p .calls) (p .start) ≡ allWords (trimmed (q .chain)) (q .stream) (q .calls) (q .start)
+  pub clocks : SameRun p q → (l m : Lending) → LentEnough (trimmed (p .chain)) l (handedOn p) → LentEnough (trimmed (q .chain)) m (handedOn q)
+      → clocksMade (runsOf p) + clocksOf (oneMore p l) ≡ clocksMade (runsOf q) + clocksOf (oneMore q m)
+
+-- A refused call, of any chain and any state, changes nothing and counts 0.
+abbrev pub RefusedKeeps : Type 0
+RefusedKeeps = (c : Chain) (s : State) (store lent output : List ℕ) (allowance : ℕ) (x : Refusal) → runOf c s store lent output allowance .answer ≡ answer.Refused x
+    → (runOf c s store lent output allowance .state ≡ s)
+    × (runOf c s store lent output allowance .store ≡ store)
+    × (runOf c s store lent output allowance .output ≡ output)
+    × (answerCounts (runOf c s store lent output allowance .answer) ≡ noCounts)
+
+-- "input counters past n play no part and are handed back as they came"
+abbrev pub PastCount : Type 0
+PastCount = (c : Chain) (s : State) (store lent output : List ℕ) (allowance : ℕ)
+    → drop (c .window .count) (runOf c s store lent output allowance .state .passed) ≡ drop (c .window .count) (s .passed)
+
+-- "chains that differ only there are the same": they are judged and run alike.
+abbrev pub Alike : Type 0
+Alike = (c d : Chain) → Same c d
+    → (judgeChain c ≡ judgeChain d)
+    × ((s : State) (store lent output : List ℕ) (allowance : ℕ) → runOf c s store lent output allowance ≡ runOf d s store lent output allowance)
+
+-- All of them.
+pub record Promises : Type 0 where
+  pub few-clocks : (q : ListOfCalls) → FewClocks q
+  pub never-stale : (q : ListOfCalls) → NeverStale q
+  pub makes-clock : (q : ListOfCalls) → MakesClock q
+  pub again : (q : ListOfCalls) (l m : Lending) → Again q l m
+  pub split : (p q : ListOfCalls) → Split p q
+  pub refused-keeps : RefusedKeeps
+  pub past-count : PastCount
+  pub alike : Alike
