@@ -12,7 +12,7 @@ use Rattle.model.specs.Geometry.{iterationCount}
 use Rattle.model.specs.Sized.{Sized}
 use Rattle.model.specs.Values.{Trimmed, trimmed, sizesOf, offsetOf, offsetsOf, capacitiesOf}
 use Rattle.model.specs.Answers.{Check, check, firstOf}
-use Rattle.model.specs.Judging.{badCount, noIteration, tooLarge, valueChecks, judged}
+use Rattle.model.specs.Judging.{badCount, noIteration, tooLarge, valueChecks, judged, judgeChain}
 use Rattle.model.specs.declared.Chain.{Chain}
 use Rattle.model.specs.declared.Refusal.{Refusal}
 use Rattle.model.specs.declared.Verdict.the-variants as verdict
@@ -69,3 +69,7 @@ accepted t e =
     let one = eqb-false (t .count) 0 (count .0) in
     let none = eqb-false (iterationCount (t .sizes) (t .offsets)) 0 (p6 .0) in
     record { checks = e; some = omega arith; few = ltb-false 32 (t .count) (count .1); iterates = omega arith; places = ltb-false 16384 (sum (t .capacities)) (p9 .0) }
+
+pub accepted-chain : (c : Chain) → judgeChain c ≡ verdict.Accepted → Accepted (trimmed c)
+unfolding judgeChain
+accepted-chain c e = accepted (trimmed c) e

@@ -52,7 +52,16 @@ counters-back n s c e = rw (← e) (ap (λ (ps : List ℕ). let r : Counters = r
     go [] rest = refl
     go (p ∷ ps) rest = ap (λ (l : List ℕ). p ∷ l) (go ps rest)
 
-module _ (t : Trimmed) (proper : Proper t) (ok : Accepted t) (stream : ℕ → ℕ) where
+-- A list's chain, trimmed, and its stream.
+pub record Setting : Type 0 where
+  pub trimmed : Trimmed
+  pub proper : Proper trimmed
+  pub accepted : Accepted trimmed
+  pub stream : ℕ → ℕ
+
+module _ (S : Setting) where
+  open Setting S using (trimmed as t, proper, accepted as ok, stream)
+
   -- The counters between two calls.
   abbrev pub now : Between → Counters
   now b = countersOf (t .count) (b .state)

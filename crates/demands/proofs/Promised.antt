@@ -32,19 +32,19 @@ use Rattle.demands.proofs.Looks.{along-call}
 use Rattle.demands.proofs.Traces.{Traced, traced-ran, traced-same}
 use Rattle.demands.proofs.Between.{refused, ran, by-call, after-reached}
 use Rattle.demands.proofs.CallEnds.{call-clocks}
-use Rattle.demands.proofs.Finishing.{proper, ok, reached, numbered}
+use Rattle.demands.proofs.Finishing.{setting, reached, numbered}
 use Rattle.demands.proofs.Again.{call-stops}
 use Rattle.demands.proofs.Words.{demand-2}
 
 module _ (q : ListOfCalls) where
   pub clocks-few : FewClocks q
   unfolding layout
-  clocks-few = omega (arith, few-clocks (layout (trimmed (q .chain))) (lawful (trimmed (q .chain)) (proper q) (ok q)) (traced-ran (layout (trimmed (q .chain))) (reached q .traced)), numbered q .clocks)
+  clocks-few = omega (arith, few-clocks (layout (trimmed (q .chain))) (lawful (trimmed (q .chain)) (setting q .proper) (setting q .accepted)) (traced-ran (layout (trimmed (q .chain))) (reached q .traced)), numbered q .clocks)
 
   pub never-stale : NeverStale q
   unfolding refused ran answerNumber numberOf
   never-stale l =
-      by-call (trimmed (q .chain)) (proper q) (ok q) (q .stream) l (handedOn q) (reached q)
+      by-call (setting q) l (handedOn q) (reached q)
       (λ x _. (answerNumber (x .answer) ≡ 0) ⊎ ((answerNumber (x .answer) ≡ 10) × (shortStore (trimmed (q .chain)) (take (l .front) (handedOn q .store)) ≡ true)))
       (λ s. inr (refl, s)) (λ _. inl refl)
 
@@ -76,13 +76,13 @@ pub record Stops (t : Trimmed) (n : ℕ) : Type 0 where
 stops : (q : ListOfCalls) (l : Lending) → LentEnough (trimmed (q .chain)) l (handedOn q) → Stops (trimmed (q .chain)) (clocksMade (runsOf q) + clocksOf (oneMore q l))
 stops q l h =
     let t = trimmed (q .chain) in
-    let r = after-reached t (proper q) (ok q) (q .stream) l (handedOn q) (reached q) in
+    let r = after-reached (setting q) l (handedOn q) (reached q) in
     record {
       counters = countersOf (t .count) (after t (q .stream) l (handedOn q) .state);
       ran = subst (λ (n : ℕ). Ran (layout t) (fresh (layout t)) n (countersOf (t .count) (after t (q .stream) l (handedOn q) .state)))
           (length-append (eventsOf q) (callEvents t (q .stream) l (handedOn q))
-          ∙ ap₂ (λ (x y : ℕ). x + y) (numbered q .clocks) (sym (call-clocks t (proper q) (ok q) (q .stream) l (handedOn q) (reached q)))) (traced-ran (layout t) (r .traced));
-      dead = call-stops t (proper q) (ok q) (q .stream) l (handedOn q) (reached q) h;
+          ∙ ap₂ (λ (x y : ℕ). x + y) (numbered q .clocks) (sym (call-clocks (setting q) l (handedOn q) (reached q)))) (traced-ran (layout t) (r .traced));
+      dead = call-stops (setting q) l (handedOn q) (reached q) h;
     }
 
 all-clocks : {n m : ℕ} (t : Trimmed) → Stops t n → Stops t m → n ≡ m

@@ -18,7 +18,7 @@ use Rattle.demands.specs.Demand3.{ListOfCalls, newestOf, eventsOf, OnTim
 use Rattle.demands.proofs.Accepts.{Proper, Accepted}
 use Rattle.demands.proofs.Layouts.{lawful, wants-read, right-flows, planned-right, planned-layout}
 use Rattle.demands.proofs.Traces.{Traced, at, fired-next}
-use Rattle.demands.proofs.Finishing.{proper, ok, reached, numbered}
+use Rattle.demands.proofs.Finishing.{setting, reached, numbered}
 
 module _ (t : Trimmed) (proper : Proper t) (ok : Accepted t) where
   -- Where all FIFOs span their distances, filter 0's reference reads the newest cell.
@@ -96,14 +96,14 @@ module _ (q : ListOfCalls) where
       let tr = reached q .traced in
       record {
         fired = λ planned j h. (
-          λ f. omega (arith, fires-on-time t (proper q) (ok q) tr planned (f .0) j (f .1), f .1 .made, numbered q .clocks),
-          λ due. (newestOf q j, due-fires t (proper q) (ok q) tr planned j h (omega (arith, numbered q .clocks))),
+          λ f. omega (arith, fires-on-time t (setting q .proper) (setting q .accepted) tr planned (f .0) j (f .1), f .1 .made, numbered q .clocks),
+          λ due. (newestOf q j, due-fires t (setting q .proper) (setting q .accepted) tr planned j h (omega (arith, numbered q .clocks))),
         );
-        clock = λ planned j u f. fires-on-time t (proper q) (ok q) tr planned u j f;
+        clock = λ planned j u f. fires-on-time t (setting q .proper) (setting q .accepted) tr planned u j f;
       }
 
   pub newest-not-early : (j u : ℕ) → FiresIn (eventsOf q) u j → newestOf q j ≤ u
-  newest-not-early j u f = newest-before (trimmed (q .chain)) (proper q) (ok q) (reached q .traced) u j f
+  newest-not-early j u f = newest-before (trimmed (q .chain)) (setting q .proper) (setting q .accepted) (reached q .traced) u j f
 
 pub not-earlier : (p q : ListOfCalls) → NotEarlier p q
 not-earlier p q = record {
