@@ -1,7 +1,4 @@
 -- Demand 3: one statement about a whole list of calls (document 01, "Running", last paragraph).
---
--- The chain c is accepted: handed over as a value, no number turns it back. `stream` is the word of each position. The list `ls` of calls, perhaps empty, starts at b with a fresh
--- state, any counters past n and a store of any content; each call lends what it likes, refused ones stay in the list and add 0.
 use Prim.Native.Nat.{ℕ, _+_, _≤_, _<_}
 use mathlib.Core.Bool.{Bool}
 use mathlib.Core.List.{List}
@@ -20,7 +17,8 @@ use Rattle.model.specs.declared.Verdict.the-variants as verdict
 use Rattle.demands.specs.Right.{Right, Planned}
 use Rattle.demands.specs.Reports.{Reports, firingsOf, Each}
 
--- A list of calls on one accepted chain.
+-- A list of calls, perhaps empty, on one accepted chain: one that, handed over as a value, no number turns back. `stream` is the word of each position. At `start` the state is fresh,
+-- its counters past n and the store are as they may be. Each call lends what it likes; refused ones stay in the list and add 0.
 pub record ListOfCalls : Type 0 where
   pub chain : Chain
   pub accepted : judgeChain chain ≡ verdict.Accepted
