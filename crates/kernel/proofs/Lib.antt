@@ -1,0 +1,3 @@
+pub mod FloatLaws
+pub mod SumLaws
+pub mod AppliedLaws
