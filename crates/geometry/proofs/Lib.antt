@@ -1,0 +1,9 @@
+pub mod PartLaws
+pub mod FillLaws
+pub mod EntryLaws
+pub mod OffsetLaws
+pub mod GridLaws
+pub mod SpanLaws
+pub mod PlacingLaws
+pub mod ShapeLaws
+pub mod Answers

@@ -1,0 +1,66 @@
+-- What this crate's public functions answer, on any value: the model's definitions where 3 and 4 let the value pass, and a fixed answer elsewhere.
+use Prim.Native.Nat.{ℕ, zero, suc}
+use mathlib.Core.Bool.{Bool, not, cond, _&&_}
+use mathlib.Core.List.{List, [], _∷_}
+use lib.Dec.{leb}
+use lib.IntN.{ℤ}
+use lib.ListN.{getD}
+use Rattle.model.specs.Lists.{tabulate, any}
+use Rattle.model.specs.Vectors.{isZero}
+use Rattle.model.specs.Geometry.{cellCount, extents, iterationCount, reads}
+use Rattle.model.specs.Values.{sizesOf, offsetsOf}
+use Rattle.model.specs.Judging.{badGrid, badCount, repeats, noIteration}
+use Rattle.model.specs.Kernels.{centreOf}
+use Rattle.model.specs.declared.Grid.{Grid}
+use Rattle.model.specs.declared.Window.{Window}
+use Rattle.geometry.specs.declared.Shape.{Shape}
+
+-- The arrays have as many entries as the counts say. A window of which they have not has no equal offsets and no centre.
+unfoldable pub held : (dims : ℕ) → Window → Bool
+held dims w = leb dims 4 && leb (w .count) 32
+
+-- 5: two equal offsets
+unfoldable pub repeatsIn : (dims : ℕ) → Window → Bool
+repeatsIn dims w = held dims w && repeats (offsetsOf dims w)
+
+-- Which reference is the centre; the count where there is none.
+unfoldable pub centreIn : (dims : ℕ) → Window → ℕ
+centreIn dims w = cond (held dims w) (centreOf (offsetsOf dims w)) (w .count)
+
+unfoldable pub hasCentre : (dims : ℕ) → Window → Bool
+hasCentre dims w = held dims w && any isZero (offsetsOf dims w)
+
+-- Neither 3 nor 4.
+unfoldable pub sound : Grid → Window → Bool
+sound g w = not (badGrid (g .dims) (sizesOf g)) && not (badCount (w .count))
+
+-- How many iterations there are; 0 where 3 or 4 turns grid and window back.
+unfoldable pub iterationsIn : Grid → Window → ℕ
+iterationsIn g w = cond (sound g w) (iterationCount (sizesOf g) (offsetsOf (g .dims) w)) 0
+
+-- How many cells lie between two neighbours in dimension d: "strides are those of the whole grid".
+unfoldable pub stride : List ℕ → (d : ℕ) → ℕ
+stride [] d = 0
+stride (s ∷ ss) zero = cellCount ss
+stride (s ∷ ss) (suc d) = stride ss d
+
+-- A window on a grid as numbers. Past the last dimension and the last reference they are 0.
+unfoldable pub shapeFor : List ℕ → List (List ℤ) → Shape
+shapeFor sizes offsets = record {
+  cells = cellCount sizes;
+  iterations = iterationCount sizes offsets;
+  extents = tabulate 4 (λ d. getD (extents sizes offsets) d 0);
+  strides = tabulate 4 (λ d. stride sizes d);
+  at = tabulate 32 (λ k. reads sizes offsets 0 k);
+}
+
+unfoldable pub blankShape : Shape
+blankShape = record { cells = 0; iterations = 0; extents = tabulate 4 (λ d. 0); strides = tabulate 4 (λ d. 0); at = tabulate 32 (λ k. 0) }
+
+-- Blank where 3, 4 or 6 turns the two back.
+unfoldable pub shapeOf : Grid → Window → Shape
+shapeOf g w =
+    let sizes = sizesOf g in
+    let offsets = offsetsOf (g .dims) w in
+    let whole = shapeFor sizes offsets in
+    cond (sound g w && not (noIteration sizes offsets)) whole blankShape

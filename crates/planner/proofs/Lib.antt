@@ -1,0 +1,7 @@
+pub mod FallingLaws
+pub mod OrderLaws
+pub mod InsertLaws
+pub mod ArrangeLaws
+pub mod DistanceLaws
+pub mod JudgeLaws
+pub mod PlanLaws

@@ -1,0 +1,170 @@
+-- Laws that lead from the steps to the plan.
+use Prim.Native.Nat.{ℕ, _+_, _-_, _*_, _≤_, _<_}
+use mathlib.Core.Bool.{Bool, true, false, cond}
+use mathlib.Core.List.{List, [], _∷_}
+use mathlib.Core.Path.{_≡_, refl, sym, _∙_, ap, ap₂}
+use native.Mathlib.Omega.{arith}
+use lib.IntN.{ℤ, pos}
+use lib.ListN.{length, getD, List·getD-eq-default}
+use Rattle.model.specs.Lists.{tabulate}
+use Rattle.model.specs.Geometry.{distance}
+use Rattle.model.specs.Values.{sizesOf, offsetOf, offsetsOf, chainOf}
+use Rattle.model.specs.Answers.{byVerdict}
+use Rattle.model.specs.Judging.{tooLarge, valueChecks}
+use Rattle.model.specs.Planning.{falling, distances, trimmedRequest, judgeRequest, plannedChain, planOf}
+use Rattle.model.specs.declared.Grid.{Grid}
+use Rattle.model.specs.declared.Window.{Window}
+use Rattle.model.specs.declared.Kernel.{Kernel}
+use Rattle.model.specs.declared.Chain.{Chain}
+use Rattle.model.specs.declared.Planned.{Planned}
+use Rattle.model.specs.declared.Request.{Request}
+use Rattle.model.specs.declared.Refusal.{Refusal}
+use Rattle.model.specs.declared.Refusal.the-variants as refusal
+use Rattle.model.specs.declared.Verdict.{Verdict}
+use Rattle.model.specs.declared.Verdict.the-variants as verdict
+use Rattle.model.proofs.ListLaws.{length-tabulate, getD-tabulate}
+use Rattle.model.proofs.Distances.{same-count}
+use Rattle.geometry.specs.Parts.{numberAt, entryAt, Filled}
+use Rattle.geometry.proofs.PartLaws.{tabulate-same}
+use Rattle.geometry.proofs.FillLaws.{filled-all}
+use Rattle.geometry.proofs.GridLaws.{few-dimensions}
+use Rattle.geometry.proofs.ShapeLaws.{few-references}
+use Rattle.planner.specs.Checks.{uncapped, judgedWindow}
+use Rattle.planner.specs.Order.{entryIn, arrangedOf, Arranged, capacityArray}
+use Rattle.planner.specs.Plans.{requestOf, refusedPlan}
+use Rattle.model.proofs.SortLaws.{length-falling, falling-each, falling-no-other}
+use Rattle.planner.proofs.FallingLaws.{none-before-next}
+use Rattle.planner.proofs.JudgeLaws.{judged-refused, judged-capacities, accepted-grid, accepted-count, accepted-iterations}
+
+-- A list is its entries.
+entries-of : {A : Type 0} (d : A) (xs : List A) → tabulate (length xs) (λ i. getD xs i d) ≡ xs
+unfolding tabulate
+entries-of d [] = refl
+entries-of d (x ∷ xs) = ap (_∷_ x) (entries-of d xs)
+
+-- An arranged window's offsets are those of the window, in falling order.
+module _ (dims : ℕ) (w : Window) (few : dims ≤ 4) (held : w .count ≤ 32) where
+  abbrev arrangement : List (List ℤ)
+  arrangement = falling (offsetsOf dims w)
+
+  pub count-of : length arrangement ≡ w .count
+  unfolding offsetsOf
+  count-of = length-falling (offsetsOf dims w) ∙ length-tabulate (w .count) (offsetOf dims w)
+
+  entries-each : (k : ℕ) → k < w .count → length (getD arrangement k []) ≡ dims
+  unfolding offsetsOf offsetOf
+  entries-each k h =
+      let (l, b, e) = falling-no-other (offsetsOf dims w) k (rw count-of h) in
+      ap length (sym e ∙ getD-tabulate (w .count) (offsetOf dims w) l [] (rw length-tabulate at b)) ∙ length-tabulate dims (entryAt (w .offsets) l)
+
+  pub arranged-offsets : offsetsOf dims (arrangedOf dims w) ≡ arrangement
+  unfolding arrangedOf offsetsOf offsetOf
+  arranged-offsets = tabulate-same (w .count) _ (λ k. getD arrangement k []) offset ∙ ap (λ (n : ℕ). tabulate n (λ k. getD arrangement k [])) (sym count-of) ∙ entries-of [] arrangement
+    where
+      entry : (k d : ℕ) → k < w .count → d < dims → getD (tabulate 128 (entryIn arrangement)) (4 * k + d) (pos 0) ≡ getD (getD arrangement k []) d (pos 0)
+      entry k d h l =
+          getD-tabulate 128 (entryIn arrangement) (4 * k + d) (pos 0) (omega arith)
+          ∙ ap₂ (λ (i j : ℕ). getD (getD arrangement i []) j (pos 0)) (omega arith) (omega arith)
+
+      offset : (k : ℕ) → k < w .count → tabulate dims (λ d. getD (tabulate 128 (entryIn arrangement)) (4 * k + d) (pos 0)) ≡ getD arrangement k []
+      offset k h =
+          tabulate-same dims _ (λ d. getD (getD arrangement k []) d (pos 0)) (λ d l. entry k d h l)
+          ∙ ap (λ (n : ℕ). tabulate n (λ d. getD (getD arrangement k []) d (pos 0))) (sym (entries-each k h)) ∙ entries-of (pos 0) (getD arrangement k [])
+
+-- A request that 3 to 8 let pass.
+module _ (g : Grid) (w : Window) (k : Kernel) (e : judgedWindow g w k ≡ verdict.Accepted) where
+  few : g .dims ≤ 4
+  few = few-dimensions g (accepted-grid g w k e)
+
+  held : w .count ≤ 32
+  held = few-references w (accepted-count g w k e)
+
+  -- The request, its sizes and its offsets as they are planned.
+  abbrev planning : Request
+  planning = requestOf g w k
+
+  abbrev planned-distances : List ℕ
+  planned-distances = distances (sizesOf g) (falling (offsetsOf (g .dims) w))
+
+  pub is-arranged : Arranged g (arrangedOf (g .dims) w)
+  unfolding arrangedOf
+  is-arranged = record {
+    good-grid = accepted-grid g w k e;
+    good-count = accepted-count g w k e;
+    some-iteration =
+        rw (arranged-offsets (g .dims) w few held, same-count (sizesOf g) (falling os) os (falling-no-other os) (falling-each os)) (accepted-iterations g w k e);
+    falls = λ i h. rw (arranged-offsets (g .dims) w few held) (none-before-next os i (rw (sym (length-falling os) ∙ count-of (g .dims) w few held) h));
+  }
+    where
+      os : List (List ℤ)
+      os = offsetsOf (g .dims) w
+
+  -- The capacities in an array, of which as many count as there are distances.
+  module _ (xs : List ℕ) (c : xs ≡ capacityArray (distances (sizesOf g) (offsetsOf (g .dims) (arrangedOf (g .dims) w)))) where
+    capacities-are : xs ≡ capacityArray planned-distances
+    capacities-are = c ∙ ap (λ (os : List (List ℤ)). capacityArray (distances (sizesOf g) os)) (arranged-offsets (g .dims) w few held)
+
+    counted : tabulate (w .count - 1) (numberAt xs) ≡ planned-distances
+    unfolding distances
+    counted =
+        tabulate-same (w .count - 1) (numberAt xs) (λ i. getD planned-distances i 0)
+        (λ i h. ap (λ (ys : List ℕ). getD ys i 0) capacities-are ∙ getD-tabulate 31 (λ j. getD planned-distances j 0) i 0 (omega (arith, held)))
+        ∙ ap (λ (n : ℕ). tabulate n (λ i. getD planned-distances i 0)) (sym count) ∙ entries-of 0 planned-distances
+      where
+        count : length planned-distances ≡ w .count - 1
+        count =
+            length-tabulate (length (falling (offsetsOf (g .dims) w)) - 1) (distance (sizesOf g) (falling (offsetsOf (g .dims) w)))
+            ∙ ap (λ (n : ℕ). n - 1) (count-of (g .dims) w few held)
+
+    verdict-is : (b : Bool) → tooLarge (tabulate (w .count - 1) (numberAt xs)) ≡ b → cond b (verdict.Refused refusal.TooLarge) verdict.Accepted ≡ judgeRequest planning
+    unfolding judgeRequest trimmedRequest judgedWindow uncapped valueChecks
+    verdict-is b f = judged-capacities (trimmedRequest planning) b e (ap tooLarge (sym counted) ∙ f)
+
+    chain-is : (ys : List ℕ) → Filled 4 0 (numberAt (g .sizes)) (g .dims) ys
+        → _≡_ {A = Chain} (record { grid = record { dims = g .dims; sizes = ys }; window = arrangedOf (g .dims) w; capacities = xs; kernel = k }) (plannedChain planning)
+    unfolding plannedChain trimmedRequest chainOf arrangedOf sizesOf
+    chain-is ys r = λ i. record {
+      grid = record { dims = dims i; sizes = sizes i };
+      window = record { count = sym (count-of (g .dims) w few held) i; offsets = tabulate 128 (entryIn (falling (offsetsOf (g .dims) w))) };
+      capacities = capacities-are i;
+      kernel = k;
+    }
+      where
+        dims : g .dims ≡ length (sizesOf g)
+        dims = sym (length-tabulate (g .dims) (numberAt (g .sizes)))
+
+        sizes : ys ≡ tabulate 4 (λ d. getD (sizesOf g) d 0)
+        sizes =
+            filled-all 4 0 (numberAt (g .sizes)) (λ d. getD (sizesOf g) d 0) (g .dims) ys (λ d h. sym (getD-tabulate (g .dims) (numberAt (g .sizes)) d 0 h))
+            (λ d h. List·getD-eq-default (sizesOf g) 0 (rw length-tabulate h)) r
+
+    pub refused-capacities : tooLarge (tabulate (w .count - 1) (numberAt xs)) ≡ true → refusedPlan refusal.TooLarge ≡ planOf planning
+    unfolding planOf
+    refused-capacities f = rw (← verdict-is true f)
+
+    pub planned-from : tooLarge (tabulate (w .count - 1) (numberAt xs)) ≡ false → (ys : List ℕ) → Filled 4 0 (numberAt (g .sizes)) (g .dims) ys
+        → _≡_ {A = Planned}
+        (record {
+          verdict = verdict.Accepted;
+          chain = record { grid = record { dims = g .dims; sizes = ys }; window = arrangedOf (g .dims) w; capacities = xs; kernel = k };
+        })
+        (planOf planning)
+    unfolding planOf
+    planned-from f ys r =
+        ap (λ (c : Chain). record { verdict = verdict.Accepted; chain = c }) (chain-is ys r)
+        ∙ ap (λ (v : Verdict). byVerdict v (record { verdict = verdict.Accepted; chain = plannedChain planning }) (λ x. refusedPlan x)) (verdict-is false f)
+
+-- A request that one of 3 to 8 turns back.
+pub refused-window : (r : Request) (x : Refusal) → judgedWindow (r .grid) (r .window) (r .kernel) ≡ verdict.Refused x → refusedPlan x ≡ planOf r
+unfolding planOf judgeRequest trimmedRequest judgedWindow uncapped valueChecks
+refused-window r x e =
+    ap (λ (v : Verdict). byVerdict v (record { verdict = verdict.Accepted; chain = plannedChain r }) (λ y. refusedPlan y)) (judged-refused (trimmedRequest r) x e)
+
+-- The verdict of a plan is that on the request.
+pub plan-verdict : (r : Request) → planOf r .verdict ≡ judgeRequest r
+unfolding planOf
+plan-verdict r = go (judgeRequest r)
+  where
+    go : (v : Verdict) → byVerdict v (record { verdict = verdict.Accepted; chain = plannedChain r }) (λ x. refusedPlan x) .verdict ≡ v
+    go verdict.Accepted = refl
+    go (verdict.Refused x) = refl
