@@ -60,4 +60,5 @@ module _ {A : Type 0} where
       go : (n from : ℕ) → mid ≡ from + n → part f from to ≡ part f from mid ++ part f mid to
       go zero from e = rw (part-none f from mid (omega arith)) (ap (λ (i : ℕ). part f i to) (omega arith))
       go (suc n) from e =
-          part-more f from to (omega arith) ∙ ap (_∷_ (f from)) (go n (from + 1) (omega arith)) ∙ ap (λ (xs : List A). xs ++ part f mid to) (sym (part-more f from mid (omega arith)))
+          part-more f from to (omega arith) ∙ ap (_∷_ (f from)) (go n (from + 1) (omega arith))
+          ∙ ap (λ (xs : List A). xs ++ part f mid to) (sym (part-more f from mid (omega arith)))

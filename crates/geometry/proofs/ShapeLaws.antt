@@ -140,7 +140,8 @@ module _ (g : Grid) (w : Window) (a : badGrid (g .dims) (sizesOf g) ≡ false) (
           → placeBy (g .dims) ls st (w .offsets) k ≡ place (sizesOf g) (relative (getD (offsetsOf (g .dims) w) k []) (lows (sizesOf g) (offsetsOf (g .dims) w)))
       unfolding sizesOf offsetsOf offsetOf
       counted-from-lows k h =
-          ap sum (tabulate-same (g .dims) _ (λ d. above (entryAt (w .offsets) k d) (least (entriesIn (w .count) (w .offsets) d)) * product (part (numberAt (g .sizes)) (d + 1) (g .dims)))
+          ap sum (tabulate-same (g .dims) _
+          (λ d. above (entryAt (w .offsets) k d) (least (entriesIn (w .count) (w .offsets) d)) * product (part (numberAt (g .sizes)) (d + 1) (g .dims)))
           (λ d i. ap₂ (λ (z : ℤ) (s : ℕ). above (entryAt (w .offsets) k d) z * s) (l .done d i) (r .done d i)))
           ∙ sym (place-by-strides (g .dims) (numberAt (g .sizes)) (λ d. above (entryAt (w .offsets) k d) (least (entriesIn (w .count) (w .offsets) d))))
           ∙ ap (place (sizesOf g)) (sym (

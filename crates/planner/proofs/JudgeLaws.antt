@@ -67,7 +67,8 @@ module _ (g : Grid) (w : Window) (k : Kernel) where
             accepted e = rw (a, b, sym (repeats-is g w a b) ∙ c, some, centre false f, e)
 
 -- A check behind others answers only where these pass.
-last-check : (cs : List Check) (c : Check) → firstOf (cs ++ c ∷ []) ≡ byVerdict (firstOf cs) (cond (c .holds) (verdict.Refused (c .refusal)) verdict.Accepted) (λ x. verdict.Refused x)
+last-check : (cs : List Check) (c : Check)
+    → firstOf (cs ++ c ∷ []) ≡ byVerdict (firstOf cs) (cond (c .holds) (verdict.Refused (c .refusal)) verdict.Accepted) (λ x. verdict.Refused x)
 unfolding firstOf
 last-check [] c = refl
 last-check (d ∷ cs) c = go (d .holds) (last-check cs c)
@@ -81,14 +82,16 @@ last-check (d ∷ cs) c = go (d .holds) (last-check cs c)
 
 -- 9 is looked at where 3 to 8 pass.
 module _ (t : Trimmed) where
-  by-capacities : judged t ≡ byVerdict (firstOf (take 6 (valueChecks t))) (cond (tooLarge (t .capacities)) (verdict.Refused refusal.TooLarge) verdict.Accepted) (λ x. verdict.Refused x)
+  by-capacities : judged t
+      ≡ byVerdict (firstOf (take 6 (valueChecks t))) (cond (tooLarge (t .capacities)) (verdict.Refused refusal.TooLarge) verdict.Accepted) (λ x. verdict.Refused x)
   unfolding judged valueChecks
   by-capacities = last-check (take 6 (valueChecks t)) (check (tooLarge (t .capacities)) refusal.TooLarge)
 
   pub judged-refused : (x : Refusal) → firstOf (take 6 (valueChecks t)) ≡ verdict.Refused x → verdict.Refused x ≡ judged t
   judged-refused x e = sym (rw e at by-capacities)
 
-  pub judged-capacities : (b : Bool) → firstOf (take 6 (valueChecks t)) ≡ verdict.Accepted → tooLarge (t .capacities) ≡ b → cond b (verdict.Refused refusal.TooLarge) verdict.Accepted ≡ judged t
+  pub judged-capacities : (b : Bool) → firstOf (take 6 (valueChecks t)) ≡ verdict.Accepted → tooLarge (t .capacities) ≡ b
+      → cond b (verdict.Refused refusal.TooLarge) verdict.Accepted ≡ judged t
   judged-capacities b e f = sym (rw (e, f) at by-capacities)
 
 -- Where all checks pass, each does.
@@ -126,7 +129,8 @@ module _ (c : Chain) where
   unfolding judgeChain trimmed judgedWindow uncapped valueChecks
   chain-refused x e = judged-refused (trimmed c) x e
 
-  pub chain-capacities : (b : Bool) → judgedWindow (c .grid) (c .window) (c .kernel) ≡ verdict.Accepted → tooLarge (tabulate (c .window .count - 1) (numberAt (c .capacities))) ≡ b
+  pub chain-capacities : (b : Bool) → judgedWindow (c .grid) (c .window) (c .kernel) ≡ verdict.Accepted
+      → tooLarge (tabulate (c .window .count - 1) (numberAt (c .capacities))) ≡ b
       → cond b (verdict.Refused refusal.TooLarge) verdict.Accepted ≡ judgeChain c
   unfolding judgeChain trimmed judgedWindow uncapped valueChecks capacitiesOf
   chain-capacities b e f = judged-capacities (trimmed c) b e f

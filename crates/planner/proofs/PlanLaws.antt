@@ -59,7 +59,9 @@ module _ (dims : ℕ) (w : Window) (few : dims ≤ 4) (held : w .count ≤ 32) w
 
   pub arranged-offsets : offsetsOf dims (arrangedOf dims w) ≡ arrangement
   unfolding arrangedOf offsetsOf offsetOf
-  arranged-offsets = tabulate-same (w .count) _ (λ k. getD arrangement k []) offset ∙ ap (λ (n : ℕ). tabulate n (λ k. getD arrangement k [])) (sym count-of) ∙ entries-of [] arrangement
+  arranged-offsets =
+      tabulate-same (w .count) _ (λ k. getD arrangement k []) offset
+      ∙ ap (λ (n : ℕ). tabulate n (λ k. getD arrangement k [])) (sym count-of) ∙ entries-of [] arrangement
     where
       entry : (k d : ℕ) → k < w .count → d < dims → getD (tabulate 128 (entryIn arrangement)) (4 * k + d) (pos 0) ≡ getD (getD arrangement k []) d (pos 0)
       entry k d h l =

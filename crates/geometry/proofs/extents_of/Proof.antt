@@ -71,7 +71,8 @@ returns : tie.Need-returns Inv-loop μ-loop
 returns c =
     let l = c .before in
     let a = l .before .args in
-    filled-up-to 4 0 (λ i. extent (numberAt (a .sizes .now) i) (entriesIn (a .count) (a .offsets .now) i)) (l .loop .d) (a .dims) (l .loop .extents) (omega arith) (l .loop .inv .1)
+    filled-up-to 4 0 (λ i. extent (numberAt (a .sizes .now) i) (entriesIn (a .count) (a .offsets .now) i)) (l .loop .d) (a .dims) (l .loop .extents) (omega arith)
+    (l .loop .inv .1)
 
 pub extents-of-spec : {M : Type 1} → statement M
 extents-of-spec =

@@ -36,7 +36,8 @@ loop-holds c =
     let first = entry-back (getD (a .offsets .now) (a .d) (pos 0)) (c .low .given) ∙ ap (λ (i : ℕ). getD (a .offsets .now) i (pos 0)) (sym (zero-add (a .d))) in (
       omega arith,
       omega arith,
-      ap (λ (z : ℤ). leastFrom z (part (λ i. entryAt (a .offsets .now) i (a .d)) 1 (a .count))) first ∙ least-start (λ i. entryAt (a .offsets .now) i (a .d)) (a .count) (omega arith),
+      ap (λ (z : ℤ). leastFrom z (part (λ i. entryAt (a .offsets .now) i (a .d)) 1 (a .count))) first
+          ∙ least-start (λ i. entryAt (a .offsets .now) i (a .d)) (a .count) (omega arith),
     )
 
 mul-x : tie.Need-mul-x Inv-loop μ-loop

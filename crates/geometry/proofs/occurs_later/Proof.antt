@@ -12,7 +12,8 @@ use Rattle.geometry.proofs.occurs_later.Tie as tie
 
 abbrev Inv-loop : tie.InvT-loop
 Inv-loop offsets k count dims j₀ j =
-    (k < j) × (j ≤ count) × (any (λ p. equal (offsetAt dims offsets k) p) (part (offsetAt dims offsets) j count) ≡ any (λ p. equal (offsetAt dims offsets k) p) (part (offsetAt dims offsets) (k + 1) count))
+    (k < j) × (j ≤ count)
+    × (any (equal (offsetAt dims offsets k)) (part (offsetAt dims offsets) j count) ≡ any (equal (offsetAt dims offsets k)) (part (offsetAt dims offsets) (k + 1) count))
 
 abbrev μ-loop : tie.MeasureT-loop
 μ-loop offsets k count dims j₀ j = count - j
@@ -30,7 +31,7 @@ returns : tie.Need-returns Inv-loop μ-loop
 returns c =
     let l = c .before .before .before in
     let a = l .before .args in
-    any-here (offsetAt (a .dims) (a .offsets .now)) (l .loop .j) (a .count) (λ p. equal (offsetAt (a .dims) (a .offsets .now) (a .k)) p) (omega arith)
+    any-here (offsetAt (a .dims) (a .offsets .now)) (l .loop .j) (a .count) (equal (offsetAt (a .dims) (a .offsets .now) (a .k))) (omega arith)
     (sym (c .before .same-offset .ensures) ∙ c .if1 .taken) ∙ l .loop .inv .2
 
 add-j-2 : tie.Need-add-j-2 Inv-loop μ-loop
@@ -45,7 +46,7 @@ loop-again c =
     let a = l .before .args in (
       omega arith,
       omega arith,
-      any-on (offsetAt (a .dims) (a .offsets .now)) (l .loop .j) (a .count) (λ p. equal (offsetAt (a .dims) (a .offsets .now) (a .k)) p) (omega arith)
+      any-on (offsetAt (a .dims) (a .offsets .now)) (l .loop .j) (a .count) (equal (offsetAt (a .dims) (a .offsets .now) (a .k))) (omega arith)
           (sym (c .before .same-offset .ensures) ∙ c .if1 .left) ∙ l .loop .inv .2,
     )
 
@@ -53,7 +54,7 @@ returns-2 : tie.Need-returns-2 Inv-loop μ-loop
 returns-2 c =
     let l = c .before in
     let a = l .before .args in
-    any-end (offsetAt (a .dims) (a .offsets .now)) (l .loop .j) (a .count) (λ p. equal (offsetAt (a .dims) (a .offsets .now) (a .k)) p) (omega arith) ∙ l .loop .inv .2
+    any-end (offsetAt (a .dims) (a .offsets .now)) (l .loop .j) (a .count) (equal (offsetAt (a .dims) (a .offsets .now) (a .k))) (omega arith) ∙ l .loop .inv .2
 
 pub occurs-later-spec : {M : Type 1} → statement M
 occurs-later-spec =

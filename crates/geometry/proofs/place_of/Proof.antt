@@ -59,14 +59,16 @@ element-copy-out-at c = omega arith
 whole : (c : tie.After-at Inv-loop μ-loop) →
     let l = c .before .before .before .before .before in
     let a = l .before .args in
-    l .loop .at + c .before .height .result * numberAt (a .strides .now) (l .loop .d) + sum (part (steps (a .offsets .now) (a .lows .now) (a .strides .now) (a .k)) (l .loop .d + 1) (a .dims))
+    l .loop .at + c .before .height .result * numberAt (a .strides .now) (l .loop .d)
+    + sum (part (steps (a .offsets .now) (a .lows .now) (a .strides .now) (a .k)) (l .loop .d + 1) (a .dims))
     ≡ placeBy (a .dims) (a .lows .now) (a .strides .now) (a .offsets .now) (a .k)
 whole c =
     let l = c .before .before .before .before .before in
     let a = l .before .args in
     let x = entry-back (entryAt (a .offsets .now) (a .k) (l .loop .d)) (c .before .before .before .x .given) in
     let low = entry-back (getD (a .lows .now) (l .loop .d) (pos 0)) (c .before .before .low .given) in
-    ap (λ (h : ℕ). l .loop .at + h * numberAt (a .strides .now) (l .loop .d) + sum (part (steps (a .offsets .now) (a .lows .now) (a .strides .now) (a .k)) (l .loop .d + 1) (a .dims)))
+    let left = sum (part (steps (a .offsets .now) (a .lows .now) (a .strides .now) (a .k)) (l .loop .d + 1) (a .dims)) in
+    ap (λ (h : ℕ). l .loop .at + h * numberAt (a .strides .now) (l .loop .d) + left)
     (c .before .height .ensures ∙ ap₂ above x low)
     ∙ sum-on (steps (a .offsets .now) (a .lows .now) (a .strides .now) (a .k)) (l .loop .at) (l .loop .d) (a .dims) (omega arith) ∙ l .loop .inv .1
 

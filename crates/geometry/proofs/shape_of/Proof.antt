@@ -7,7 +7,23 @@ use Rattle.model.specs.Geometry.{iterationCount}
 use Rattle.model.specs.Values.{sizesOf, offsetsOf}
 use Rattle.model.specs.Judging.{badGrid, badCount}
 use Rattle.geometry.proofs.GridLaws.{few-dimensions}
-use Rattle.geometry.proofs.ShapeLaws.{some-references, few-references, small-sizes, cells-are, small-extents, iterations-are, extents-are, strides-are, place-small, places-are, blank-grid, blank-count, blank-iterations, whole-shape, shape-from}
+use Rattle.geometry.proofs.ShapeLaws.{
+  some-references,
+  few-references,
+  small-sizes,
+  cells-are,
+  small-extents,
+  iterations-are,
+  extents-are,
+  strides-are,
+  place-small,
+  places-are,
+  blank-grid,
+  blank-count,
+  blank-iterations,
+  whole-shape,
+  shape-from,
+}
 use Rattle.geometry.proofs.shape_of.Statement.{statement}
 use Rattle.geometry.proofs.shape_of.Tie as tie
 

@@ -85,7 +85,8 @@ returns-6 c =
     let f = h .before .before in
     let e = f .before .before in
     let a = e .before .before .args in
-    refused-factor (a .grid) (a .window) (a .kernel) (not-grid e) (not-count f) (not-repeats h) (not-empty i) (not-lacking j) (sym (c .before .bad-factor .ensures) ∙ c .if6 .taken)
+    refused-factor (a .grid) (a .window) (a .kernel) (not-grid e) (not-count f) (not-repeats h) (not-empty i) (not-lacking j)
+    (sym (c .before .bad-factor .ensures) ∙ c .if6 .taken)
 
 returns-7 : tie.Need-returns-7
 returns-7 c =

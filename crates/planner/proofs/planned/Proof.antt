@@ -66,7 +66,8 @@ returns-2 c =
       verdict = verdict.Accepted;
       chain = record { grid = record { dims = a .grid .dims; sizes = c .trimmed-sizes .result }; window = w; capacities = d .distances .result; kernel = a .kernel };
     }) (d .before .arranged .ensures)
-    ∙ planned-from (a .grid) (a .window) (a .kernel) (s .pre) (d .distances .result) (of-arranged d) (sym (t .too-large .ensures) ∙ f .if1 .left) (c .trimmed-sizes .result) (c .trimmed-sizes .ensures)
+    ∙ planned-from (a .grid) (a .window) (a .kernel) (s .pre) (d .distances .result) (of-arranged d) (sym (t .too-large .ensures) ∙ f .if1 .left)
+    (c .trimmed-sizes .result) (c .trimmed-sizes .ensures)
 
 pub planned-spec : {M : Type 1} → statement M
 planned-spec =
