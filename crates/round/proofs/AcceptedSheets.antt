@@ -1,0 +1,46 @@
+-- What is known of a chain sheet that is accepted: every line is, none is missing, and the chain that was read is.
+use Prim.Native.Nat.{ℕ}
+use mathlib.Core.Bool.{true, cond}
+use mathlib.Core.List.{List}
+use mathlib.Core.Path.{_≡_, refl}
+use lib.Dec.{eqb}
+use borrow.Author.Tests.{eqb-true}
+use Rattle.model.specs.declared.LineStep.{LineStep}
+use Rattle.model.specs.declared.Refusal.the-variants as refusal
+use Rattle.model.specs.declared.Verdict.{Verdict}
+use Rattle.model.specs.declared.Verdict.the-variants as verdict
+use Rattle.model.specs.Answers.{byVerdict}
+use Rattle.model.specs.Judging.{judgeChain}
+use Rattle.model.specs.Lines.{linesOf}
+use Rattle.model.specs.Reading.{start, readLines, endVerdict, readChain}
+use Rattle.sheet_laws.proofs.Cases.{by-bool}
+use Rattle.sheet_laws.proofs.AcceptedLines.{refused-accepted}
+
+accepted-end : (s : LineStep) (v : Verdict) → endVerdict s v ≡ verdict.Accepted
+    → (s .verdict ≡ verdict.Accepted) × ((s .reading .stage ≡ 2) × (v ≡ verdict.Accepted))
+unfolding endVerdict
+accepted-end s v h = go (s .verdict) refl
+  where
+    last : byVerdict (s .verdict) (cond (eqb (s .reading .stage) 2) v (verdict.Refused refusal.Misplaced)) verdict.Refused ≡ verdict.Accepted
+        → s .verdict ≡ verdict.Accepted → (s .reading .stage ≡ 2) × (v ≡ verdict.Accepted)
+    last q e =
+        by-bool (eqb (s .reading .stage) 2)
+        (λ t. (eqb-true _ _ t, rw (e, t) at q))
+        (λ t. absurd (refused-accepted (rw (e, t) at q)))
+
+    go : (w : Verdict) → s .verdict ≡ w → (s .verdict ≡ verdict.Accepted) × ((s .reading .stage ≡ 2) × (v ≡ verdict.Accepted))
+    go verdict.Accepted e = (e, last h e)
+    go (verdict.Refused x) e = absurd (refused-accepted (rw e at h))
+
+module _ (sheet : List ℕ) where
+  abbrev pub read : LineStep
+  read = readLines true start (linesOf sheet)
+
+  pub accepted-sheet : readChain sheet .verdict ≡ verdict.Accepted
+      → (read .verdict ≡ verdict.Accepted) × ((read .reading .stage ≡ 2) × (judgeChain (read .reading .chain) ≡ verdict.Accepted))
+  unfolding readChain
+  accepted-sheet h = accepted-end read (judgeChain (read .reading .chain)) h
+
+  pub accepted-read : readChain sheet .verdict ≡ verdict.Accepted → readChain sheet .chain ≡ read .reading .chain
+  unfolding readChain
+  accepted-read h = rw h

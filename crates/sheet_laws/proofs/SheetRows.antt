@@ -1,0 +1,183 @@
+-- The sheet of a chain is its lines from line 0 on.
+use Prim.Native.Nat.{ℕ, zero, suc, _+_, _-_, _*_, _≤_, _<_}
+use mathlib.Core.List.{List, [], _∷_, _++_, map, flatMap, append-assoc}
+use mathlib.Core.Path.{_≡_, refl, sym, ap, _∙_}
+use native.Mathlib.Omega.{arith}
+use lib.IntN.{ℤ}
+use lib.ListN.{take, getD}
+use lib.Seq.{take-length}
+use borrow.Author.Tests.{ne-eqb, le-leb, lt-leb, lt-ltb, le-ltb}
+use Rattle.model.specs.declared.Chain.{Chain}
+use Rattle.model.specs.declared.Grid.{Grid}
+use Rattle.model.specs.declared.Window.{Window}
+use Rattle.model.specs.Lists.{tabulate}
+use Rattle.model.specs.Values.{sizesOf, entryOf, offsetOf, offsetsOf, capacityOf, capacitiesOf}
+use Rattle.model.specs.Frames.{framed}
+use Rattle.model.specs.Numbers.{halfBytes, wordBytes, pattern}
+use Rattle.model.specs.Writing.{gridLine, offsetLine, capacityLine, kernelLine, chainLines, sheetOf}
+use Rattle.sheet_laws.specs.Rows.{gridRow, offsetRow, rowAt, lenAt, lineAt, linesFrom}
+
+-- Up to four words and halves are the front of four.
+four-words : (d : ℕ) (f : ℕ → ℕ) → d ≤ 4
+    → flatMap wordBytes (tabulate d f) ≡ take (4 * d) (wordBytes (f 0) ++ (wordBytes (f 1) ++ (wordBytes (f 2) ++ wordBytes (f 3))))
+unfolding flatMap tabulate wordBytes
+four-words zero f h = refl
+four-words (suc zero) f h = refl
+four-words (suc (suc zero)) f h = refl
+four-words (suc (suc (suc zero))) f h = refl
+four-words (suc (suc (suc (suc zero)))) f h = refl
+four-words (suc (suc (suc (suc (suc d))))) f h = absurd (omega arith)
+
+four-halves : (d : ℕ) (f : ℕ → ℤ) → d ≤ 4
+    → flatMap (λ e. halfBytes (pattern e)) (tabulate d f)
+    ≡ take (2 * d) (halfBytes (pattern (f 0)) ++ (halfBytes (pattern (f 1)) ++ (halfBytes (pattern (f 2)) ++ halfBytes (pattern (f 3)))))
+unfolding flatMap tabulate halfBytes
+four-halves zero f h = refl
+four-halves (suc zero) f h = refl
+four-halves (suc (suc zero)) f h = refl
+four-halves (suc (suc (suc zero))) f h = refl
+four-halves (suc (suc (suc (suc zero)))) f h = refl
+four-halves (suc (suc (suc (suc (suc d))))) f h = absurd (omega arith)
+
+-- A line is the front of its row.
+grid-front : (g : Grid) → g .dims ≤ 4 → gridLine g ≡ take (2 + 4 * g .dims) (gridRow g)
+unfolding gridLine gridRow sizesOf
+grid-front g h =
+    let e : 2 + 4 * g .dims ≡ suc (suc (4 * g .dims)) = omega arith in
+    rw e (ap (λ t. 1 ∷ g .dims ∷ t) (four-words (g .dims) (λ d. getD (g .sizes) d 0) h))
+
+offset-front : (d : ℕ) (w : Window) (k : ℕ) → d ≤ 4 → offsetLine (offsetOf d w k) ≡ take (1 + 2 * d) (offsetRow w k)
+unfolding offsetLine offsetRow offsetOf
+offset-front d w k h =
+    let e : 1 + 2 * d ≡ suc (2 * d) = omega arith in
+    rw e (ap (λ t. 2 ∷ t) (four-halves d (λ i. entryOf w k i) h))
+
+-- Line m by its place.
+module _ (c : Chain) where
+  pub line-grid : lineAt c 0 ≡ take (2 + 4 * c .grid .dims) (gridRow (c .grid))
+  unfolding lineAt lenAt rowAt
+  line-grid = refl
+
+  pub line-offset : (j : ℕ) → j < c .window .count → lineAt c (1 + j) ≡ take (1 + 2 * c .grid .dims) (offsetRow (c .window) j)
+  unfolding lineAt lenAt rowAt
+  line-offset j h =
+      let z : 1 + j ≡ 0 → ⊥ = λ e. omega arith in
+      let l : 1 + j ≤ c .window .count = omega arith in
+      let e : 1 + j - 1 ≡ j = omega arith in
+      rw (ne-eqb _ _ z, le-leb _ _ l, e)
+
+  pub line-capacity : (j : ℕ) → j + 1 < c .window .count → lineAt c (1 + c .window .count + j) ≡ capacityLine (capacityOf c j)
+  unfolding lineAt lenAt rowAt capacityLine wordBytes
+  line-capacity j h =
+      let n = c .window .count in
+      let z : 1 + n + j ≡ 0 → ⊥ = λ e. omega arith in
+      let l : n < 1 + n + j = omega arith in
+      let q : 1 + n + j < 2 * n = omega arith in
+      let e : 1 + n + j - 1 - n ≡ j = omega arith in
+      rw (ne-eqb _ _ z, lt-leb _ _ l, lt-ltb _ _ q, e)
+
+  pub line-kernel : 0 < c .window .count → lineAt c (2 * c .window .count) ≡ kernelLine (c .kernel)
+  unfolding lineAt lenAt rowAt
+  line-kernel h =
+      let n = c .window .count in
+      let z : 2 * n ≡ 0 → ⊥ = λ e. omega arith in
+      let l : n < 2 * n = omega arith in
+      let q : 2 * n ≤ 2 * n = omega arith in
+      rw (ne-eqb _ _ z, lt-leb _ _ l, le-ltb _ _ q) (take-length (kernelLine (c .kernel)))
+
+-- Lines one after the other.
+pub lines-join : (c : Chain) (m a b : ℕ) → linesFrom c m a ++ linesFrom c (m + a) b ≡ linesFrom c m (a + b)
+unfolding linesFrom
+lines-join c m zero b =
+    let e : m + 0 ≡ m = omega arith in
+    let f : 0 + b ≡ b = omega arith in
+    rw (e, f)
+lines-join c m (suc a) b =
+    let e : m + suc a ≡ m + 1 + a = omega arith in
+    let f : suc a + b ≡ suc (a + b) = omega arith in
+    rw (e, f)
+    (append-assoc (framed (lineAt c m)) (linesFrom c (m + 1) a) (linesFrom c (m + 1 + a) b)
+    ∙ ap (λ t. framed (lineAt c m) ++ t) (lines-join c (m + 1) a b))
+
+frames-join : (xs ys : List (List ℕ)) → flatMap framed (xs ++ ys) ≡ flatMap framed xs ++ flatMap framed ys
+unfolding flatMap
+frames-join [] ys = refl
+frames-join (x ∷ xs) ys = ap (λ t. framed x ++ t) (frames-join xs ys) ∙ sym (append-assoc (framed x) (flatMap framed xs) (flatMap framed ys))
+
+pub tabulate-same : {A : Type 0} (n : ℕ) (f g : ℕ → A) → ((i : ℕ) → f i ≡ g i) → tabulate n f ≡ tabulate n g
+unfolding tabulate
+tabulate-same zero f g h = refl
+tabulate-same (suc n) f g h = rw (h 0) (ap (λ t. g 0 ∷ t) (tabulate-same n (λ i. f (suc i)) (λ i. g (suc i)) (λ i. h (suc i))))
+
+module _ (c : Chain) (few : c .grid .dims ≤ 4) where
+  abbrev n : ℕ
+  n = c .window .count
+
+  abbrev offsetAt : ℕ → List ℤ
+  offsetAt k = offsetOf (c .grid .dims) (c .window) k
+
+  offset-lines : (i j : ℕ) → j + i ≤ n → flatMap framed (map offsetLine (tabulate i (λ k. offsetAt (j + k)))) ≡ linesFrom c (1 + j) i
+  unfolding linesFrom flatMap tabulate
+  offset-lines zero j h = refl
+  offset-lines (suc i) j h =
+      let y : 1 + j + 1 ≡ 1 + suc j = omega arith in
+      let z : j + 0 ≡ j = omega arith in
+      let t : (k : ℕ) → offsetAt (j + suc k) ≡ offsetAt (suc j + k) = λ k. ap (λ m. offsetAt m) (omega arith) in
+      rw (y, z, line-offset c j (omega arith), ← offset-front (c .grid .dims) (c .window) j few)
+      (ap (λ u. framed (offsetLine (offsetAt j)) ++ flatMap framed (map offsetLine u)) (tabulate-same i _ _ t)
+      ∙ ap (λ u. framed (offsetLine (offsetAt j)) ++ u) (offset-lines i (suc j) (omega arith)))
+
+  capacity-lines : (i j : ℕ) → j + i + 1 ≤ n → flatMap framed (map capacityLine (tabulate i (λ k. capacityOf c (j + k)))) ≡ linesFrom c (1 + n + j) i
+  unfolding linesFrom flatMap tabulate
+  capacity-lines zero j h = refl
+  capacity-lines (suc i) j h =
+      let y : 1 + n + j + 1 ≡ 1 + n + suc j = omega arith in
+      let z : j + 0 ≡ j = omega arith in
+      let t : (k : ℕ) → capacityOf c (j + suc k) ≡ capacityOf c (suc j + k) = λ k. ap (λ m. capacityOf c m) (omega arith) in
+      rw (y, z, line-capacity c j (omega arith))
+      (ap (λ u. framed (capacityLine (capacityOf c j)) ++ flatMap framed (map capacityLine u)) (tabulate-same i _ _ t)
+      ∙ ap (λ u. framed (capacityLine (capacityOf c j)) ++ u) (capacity-lines i (suc j) (omega arith)))
+
+  from-zero : (k : ℕ) → k ≡ 0 + k
+  from-zero k = omega arith
+
+  all-offsets : flatMap framed (map offsetLine (offsetsOf (c .grid .dims) (c .window))) ≡ linesFrom c 1 n
+  unfolding offsetsOf
+  all-offsets =
+      ap (λ u. flatMap framed (map offsetLine u)) (tabulate-same n _ _ (λ k. ap (λ m. offsetAt m) (from-zero k)))
+      ∙ offset-lines n 0 (omega arith)
+
+  module _ (some : 0 < n) where
+    all-capacities : flatMap framed (map capacityLine (capacitiesOf c)) ≡ linesFrom c (1 + n) (n - 1)
+    unfolding capacitiesOf
+    all-capacities =
+        let z : 1 + n + 0 ≡ 1 + n = omega arith in
+        ap (λ u. flatMap framed (map capacityLine u)) (tabulate-same (n - 1) _ _ (λ k. ap (λ m. capacityOf c m) (from-zero k)))
+        ∙ capacity-lines (n - 1) 0 (omega arith)
+        ∙ ap (λ m. linesFrom c m (n - 1)) z
+
+    last-line : flatMap framed (kernelLine (c .kernel) ∷ []) ≡ linesFrom c (2 * n) 1
+    unfolding flatMap linesFrom
+    last-line = ap (λ l. framed l ++ []) (sym (line-kernel c some))
+
+    first-line : (ls : List (List ℕ)) (k : ℕ) → flatMap framed ls ≡ linesFrom c 1 k → flatMap framed (gridLine (c .grid) ∷ ls) ≡ linesFrom c 0 (suc k)
+    unfolding flatMap linesFrom
+    first-line ls k e = rw (grid-front (c .grid) few, ← line-grid c) (ap (λ t. framed (lineAt c 0) ++ t) e)
+
+    pub sheet-rows : sheetOf c ≡ linesFrom c 0 (2 * n + 1)
+    unfolding sheetOf chainLines
+    sheet-rows =
+        let os = map offsetLine (offsetsOf (c .grid .dims) (c .window)) in
+        let cs = map capacityLine (capacitiesOf c) in
+        let last = kernelLine (c .kernel) ∷ [] in
+        let e : 2 * n ≡ 1 + n + (n - 1) = omega arith in
+        let f : 2 * n + 1 ≡ suc (n + (n - 1 + 1)) = omega arith in
+        let behind : flatMap framed (os ++ (cs ++ last)) ≡ linesFrom c 1 (n + (n - 1 + 1)) =
+        frames-join os (cs ++ last)
+        ∙ ap (λ t. flatMap framed os ++ t) (frames-join cs last)
+        ∙ ap (λ t. t ++ (flatMap framed cs ++ flatMap framed last)) all-offsets
+        ∙ ap (λ t. linesFrom c 1 n ++ (t ++ flatMap framed last)) all-capacities
+        ∙ ap (λ t. linesFrom c 1 n ++ (linesFrom c (1 + n) (n - 1) ++ t)) (last-line ∙ ap (λ m. linesFrom c m 1) e)
+        ∙ ap (λ t. linesFrom c 1 n ++ t) (lines-join c (1 + n) (n - 1) 1)
+        ∙ lines-join c 1 n (n - 1 + 1) in
+        first-line (os ++ (cs ++ last)) (n + (n - 1 + 1)) behind ∙ ap (linesFrom c 0) (sym f)

@@ -1,0 +1,1 @@
+// Laws of the sheet's definitions, for every list of bytes: proofs/.

@@ -1,0 +1,3 @@
+pub mod LayLaws
+pub mod CallLaws
+pub mod Written
