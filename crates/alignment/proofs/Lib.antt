@@ -1,0 +1,11 @@
+pub mod AlignedLaws
+pub mod FlowLaws
+pub mod CallLaws
+pub mod SweepLaws
+pub mod WriteLaws
+pub mod StoredLaws
+pub mod PassLaws
+pub mod FillLaws
+pub mod GlideLaws
+pub mod WalkLaws
+pub mod RowLaws

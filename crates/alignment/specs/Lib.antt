@@ -1,0 +1,4 @@
+pub mod Passes
+pub mod Sweeps
+pub mod Standings
+pub mod Tables

@@ -1,0 +1,1 @@
+// Laws alone: filters that stand as far apart as their references read.

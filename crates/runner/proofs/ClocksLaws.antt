@@ -1,0 +1,241 @@
+-- The whole call: what its parts are handed, and what its ways out leave.
+use Prim.Native.Nat.{ℕ, zero, suc, _+_, _-_, _≤_, _<_, _^_}
+use mathlib.Core.List.{List, [], _∷_}
+use mathlib.Core.Path.{_≡_, refl, sym, _∙_, ap}
+use native.Mathlib.Nat.{zero-add, add-zero}
+use native.Mathlib.Numerals.{add-one}
+use native.Mathlib.Omega.{arith}
+use lib.ListN.{length, getD, take, drop}
+use lib.Seq.{getD-take, length-take-le}
+use mir.Syntax.{w32, w64}
+use mir.Val.{Fits}
+use Rattle.model.specs.Kernels.{width}
+use Rattle.model.specs.Values.{trimmed}
+use Rattle.model.specs.Clock.{Layout}
+use Rattle.model.specs.Running.{Ending, Done, Spent, Starved, Stalled, Ended, outcomeOf, layout, writtenBy, widthOf}
+use Rattle.model.specs.declared.Chain.{Chain}
+use Rattle.model.specs.declared.Counts.{Counts}
+use Rattle.model.specs.declared.Outcome.{Outcome}
+use Rattle.model.proofs.Distances.{at-most-cells}
+use Rattle.flow.specs.Machine.{Holds, Invariant}
+use Rattle.demands.proofs.Accepts.{trimmed-proper}
+use Rattle.alignment.specs.Passes.{of, Aligned}
+use Rattle.alignment.specs.Standings.{counting, stand, endedAt}
+use Rattle.alignment.specs.Tables.{walked, Tables, Stands, Fills}
+use Rattle.alignment.proofs.StoredLaws.{holds-below}
+use Rattle.alignment.proofs.CallLaws.{call-done, endedLater, call-later}
+use Rattle.runner.specs.Loops.{Walks, Glides, GlidesTo, FillsTo, calls, wayOf, Placed, Advanced}
+use Rattle.runner.specs.Clocks.{Prepared, Begins, Ends}
+use Rattle.runner.specs.declared.Stop.the-variants as stop
+use Rattle.runner.specs.declared.Filled.{Filled}
+use Rattle.runner.specs.declared.Slid.{Slid}
+use Rattle.runner.proofs.FitLaws.{small-fits, small-fits-32}
+use Rattle.runner.proofs.FireLaws.{part-all}
+use Rattle.runner.proofs.TableLaws.{advanced-ahead, advanced-rest, placed-puts, placed-gets}
+use Rattle.runner.proofs.PreparedLaws.{good-grid, sizes-count, walks, rows, tables, stands, writes-are}
+
+-- No filter is before filter 0.
+holds-first : (L : Layout) (f k source i : ℕ) (ps : List ℕ) → Holds L f k source ps → getD ps i 0 ≤ getD ps 0 0
+holds-first L f k source i [] h = omega arith
+holds-first L f k source zero (p ∷ ps) h = omega arith
+holds-first L f k source (suc i) (p ∷ ps) h = holds-below L f (suc k) p i ps (h .1)
+
+-- Counters that stand as far apart as the tables say.
+aligned-from : (L : Layout) (cap : ℕ → ℕ) (at : List ℕ) (f k source n : ℕ) (ps : List ℕ) → k + length ps ≤ n → ((i : ℕ) → suc i < n → cap i ≡ L .capacity i)
+    → ((i : ℕ) → suc i < length ps → (getD ps (suc i) 0 < getD ps i 0) × (getD ps i 0 + getD at (suc (k + i)) 0 ≡ getD ps (suc i) 0 + getD at (k + i) 0))
+    → Holds L f k source ps → Aligned (of at) cap k ps
+aligned-from L cap at f k source n [] l e g h = tt
+aligned-from L cap at f k source n (p ∷ []) l e g h = tt
+aligned-from L cap at f k source n (p ∷ q ∷ qs) l e g h =
+    let z : k + 0 ≡ k = omega arith in
+    let x = rw z at (g 0 (omega arith)) in (
+      x .0,
+      omega (arith, h .0 .fits, e k (omega arith)),
+      x .1,
+      aligned-from L cap at f (suc k) p n (q ∷ qs) (omega arith) e (λ j b. let y : k + suc j ≡ suc k + j = omega arith in rw y at (g (suc j) (omega arith))) (h .1),
+    )
+
+caps-at : (w cap : ℕ → ℕ) (k i : ℕ) (ps : List ℕ) → suc i < length ps → Aligned w cap k ps → 0 < cap (k + i)
+caps-at w cap k i [] h a = absurd (omega arith)
+caps-at w cap k i (p ∷ []) h a = absurd (omega arith)
+caps-at w cap k zero (p ∷ q ∷ qs) h a = let z : k + 0 ≡ k = omega arith in rw z (omega arith)
+caps-at w cap k (suc i) (p ∷ q ∷ qs) h a = let z : k + suc i ≡ suc k + i = omega arith in rw z (caps-at w cap (suc k) i (q ∷ qs) (omega arith) (a .3))
+
+-- A call that ended there.
+ends-there : (o : Outcome) (f : ℕ) (e : Ended) (x : Ending) (n taken made firings : ℕ) (passed passed′ store out : List ℕ)
+    → endedAt x (stand f (take n passed′) store out taken made firings) ≡ e → o ≡ outcomeOf x (record { cells = taken; firings = firings; clocks = made })
+    → drop n passed′ ≡ drop n passed → length passed′ ≡ 32 → ((k : ℕ) → k < n → getD passed′ k 0 ≤ 1048576)
+    → Ends (record { outcome = o; fired = record { 0 = f } }) e n passed passed′ store out
+ends-there o f e x n taken made firings passed passed′ store out h eo er et es = rw (← h) record {
+  outcome = eo;
+  fired = refl;
+  counters = refl;
+  store = refl;
+  output = refl;
+  there = et;
+  rest = er;
+  small = es;
+}
+
+module _ (c : Chain) (row iterations cells centre : ℕ) (at caps bases tops boxes strides : List ℕ)
+    (P : Prepared (trimmed c) row iterations cells centre at caps bases tops boxes strides) (fired : ℕ) (passed store : List ℕ) (B : Begins (trimmed c) fired passed store) where
+  abbrev n : ℕ
+  n = c .window .count
+
+  T : Tables (layout (trimmed c)) (walked boxes strides (c .grid .dims) 0) n cells iterations at caps bases
+  unfolding trimmed
+  T = tables (trimmed c) (sizes-count c) (trimmed-proper c) row iterations cells centre at caps bases tops boxes strides P
+
+  S : Stands (layout (trimmed c)) n fired caps bases passed store
+  unfolding trimmed
+  S = stands (trimmed c) (sizes-count c) (trimmed-proper c) row iterations cells centre at caps bases tops boxes strides P fired passed store B
+
+  pub few : n ≤ 32
+  few = T .few
+
+  pub may-walk : fired < iterations → Walks (c .grid .dims) boxes strides fired
+  unfolding trimmed
+  may-walk h = walks (trimmed c) (sizes-count c) (trimmed-proper c) row iterations cells centre at caps bases tops boxes strides P fired h
+
+  iterations-small : layout (trimmed c) .iterations ≤ 1048576
+  unfolding layout
+  iterations-small = omega (arith, at-most-cells (trimmed c .sizes) (trimmed c .offsets), good-grid (trimmed c) (P .accepted) .cells)
+
+  pub fired-fits : Fits w32 fired
+  fired-fits = small-fits-32 fired (omega (arith, B .holds .most, iterations-small))
+
+  counters-small : (f : ℕ) (ps : List ℕ) → Invariant (layout (trimmed c)) (counting f (take n ps)) → (k : ℕ) → k < n → getD ps k 0 ≤ cells
+  counters-small f ps i k h = omega (arith, getD-take n ps k 0 h, holds-below (layout (trimmed c)) f 0 (layout (trimmed c) .cells) k (take n ps) (i .all), T .cells-are)
+
+  -- Every firing is made already.
+  pub ends-done : (lent out : List ℕ) (allowance : ℕ) (o : Outcome) (d : Counts) → iterations ≤ fired → d ≡ record { cells = 0; firings = 0; clocks = 0 } → o ≡ outcomeOf Done d
+      → Ends (record { outcome = o; fired = record { 0 = fired } }) (calls (trimmed c) n fired passed store lent out allowance) n passed passed store out
+  unfolding trimmed
+  ends-done lent out allowance o d h ed eo =
+      ends-there o fired _ Done n 0 0 0 passed passed store out
+      (sym (call-done (layout (trimmed c)) (writtenBy (trimmed c)) (widthOf (trimmed c)) lent allowance (stand fired (take n passed) store out 0 0 0) (omega (arith, T .iterations-are))))
+      (rw ed at eo) refl (B .there) (λ k g. omega (arith, counters-small fired passed (B .holds) k g, T .most))
+
+  module _ (more : fired < iterations) where
+    -- No reference reads past the cells.
+    pub wants-small : (w : ℕ) → w ≡ walked boxes strides (c .grid .dims) 0 fired → (k : ℕ) → k < n → getD at k 0 + w < 18446744073709551616
+    wants-small w e k h =
+        omega (arith, T .reads fired k more h, T .lawful .within fired k (omega (arith, T .iterations-are)) (omega (arith, T .filters-are)), T .cells-are, T .most)
+
+    pub may-fill : (wants : List ℕ) (w : ℕ) → w ≡ walked boxes strides (c .grid .dims) 0 fired → Advanced n w at wants
+        → Fills (layout (trimmed c)) (walked boxes strides (c .grid .dims) 0) n cells iterations fired at wants caps bases passed store
+    may-fill wants w e a = record { tables = T; stands = S; more = more; wants-are = λ k h. a .on k h ∙ ap (λ (y : ℕ). getD at k 0 + y) e }
+
+    module _ (lent out : List ℕ) (allowance : ℕ) (r : Filled) (passed′ store′ : List ℕ) (F : FillsTo r (trimmed c) n fired at passed passed′ store store′ lent allowance) where
+      pub filled-small : (k : ℕ) → k < n → getD passed′ k 0 ≤ 1048576
+      filled-small k h = omega (arith, counters-small fired passed′ (F .holds) k h, T .most)
+
+      pub filled-counts : allowance < 2 ^ 32 → (r .taken < 4294967296) × (0 < 4294967296) × (r .clocks < 4294967296)
+      filled-counts l = (omega (arith, F .fewer, F .allowed), omega arith, omega (arith, F .allowed))
+
+      -- The three ways out before the filters are aligned.
+      module _ (o : Outcome) (d : Counts) (ed : d ≡ record { cells = r .taken; firings = 0; clocks = r .clocks }) where
+        pub ends-spent : r .how ≡ stop.Spent → o ≡ outcomeOf Spent d
+            → Ends (record { outcome = o; fired = record { 0 = fired } }) (calls (trimmed c) n fired passed store lent out allowance) n passed passed′ store′ out
+        ends-spent e eo =
+            ends-there o fired _ Spent n (r .taken) (r .clocks) 0 passed passed′ store′ out (rw e at (F .resumes out)) (rw ed at eo) (F .rest) (F .there) filled-small
+
+        pub ends-starved : r .how ≡ stop.Starved → o ≡ outcomeOf Starved d
+            → Ends (record { outcome = o; fired = record { 0 = fired } }) (calls (trimmed c) n fired passed store lent out allowance) n passed passed′ store′ out
+        ends-starved e eo =
+            ends-there o fired _ Starved n (r .taken) (r .clocks) 0 passed passed′ store′ out (rw e at (F .resumes out)) (rw ed at eo) (F .rest) (F .there) filled-small
+
+        pub ends-stalled : r .how ≡ stop.Stalled → o ≡ outcomeOf Stalled d
+            → Ends (record { outcome = o; fired = record { 0 = fired } }) (calls (trimmed c) n fired passed store lent out allowance) n passed passed′ store′ out
+        ends-stalled e eo =
+            ends-there o fired _ Stalled n (r .taken) (r .clocks) 0 passed passed′ store′ out (rw e at (F .resumes out)) (rw ed at eo) (F .rest) (F .there) filled-small
+
+      -- The filters are aligned.
+      module _ (e : r .how ≡ stop.Aligned) where
+        long : length (take n passed′) ≡ n
+        long = length-take-le n passed′ (omega (arith, F .there, T .few))
+
+        aligned-there : Aligned (of at) (of caps) 0 (take n passed′)
+        aligned-there =
+            aligned-from (layout (trimmed c)) (of caps) at fired 0 (layout (trimmed c) .cells) n (take n passed′) (omega (arith, long)) (T .places .caps-are)
+            (λ i h. let x = rw add-one at (F .lines e i (omega (arith, long))) in
+            rw (zero-add, getD-take n passed′ i 0 (omega (arith, long)), getD-take n passed′ (suc i) 0 (omega (arith, long))) x)
+            (F .holds .all)
+
+        pub caps-there : (k : ℕ) → k + 1 < n → 0 < getD caps k 0
+        caps-there k h = rw zero-add at (caps-at (of at) (of caps) 0 k (take n passed′) (omega (arith, long)) aligned-there)
+
+        pub places-small : length store < 2 ^ 64 → (k : ℕ) → k + 1 < n → getD bases k 0 + getD caps k 0 < 18446744073709551616
+        places-small l k h = omega (arith, S .within k (omega arith))
+
+        pub may-glide : (size : ℕ) (us gs : List ℕ) → size ≡ width (c .kernel) n → length store′ ≡ length store → Placed n bases caps passed′ 0 us → Placed n bases caps passed′ 1 gs
+            → Glides (trimmed c) (c .kernel) n row iterations cells centre size fired (c .grid .dims) at caps bases tops boxes strides passed′ us gs store′
+        unfolding trimmed widthOf
+        may-glide size us gs ew l pu pg = record {
+          tables = T;
+          stands = record { there = F .there; within = λ k h. omega (arith, S .within k h); holds = F .holds };
+          more = more;
+          rings = record {
+            tops-are = P .tops-are;
+            aligned = aligned-there;
+            puts-there = omega (arith, pu .there, T .few);
+            gets-there = omega (arith, pg .there, T .few);
+            at-puts = placed-puts n bases caps passed′ us (T .some) (T .few) (omega (arith, F .there, T .few)) pu;
+            at-gets = placed-gets n bases caps passed′ gs (T .some) (T .few) (omega (arith, F .there, T .few)) pg;
+          };
+          rows = rows (trimmed c) (sizes-count c) (trimmed-proper c) row iterations cells centre at caps bases tops boxes strides P;
+          walks = walks (trimmed c) (sizes-count c) (trimmed-proper c) row iterations cells centre at caps bases tops boxes strides P;
+          writes-are = writes-are (trimmed c) (sizes-count c) (trimmed-proper c) row iterations cells centre at caps bases tops boxes strides P;
+          size-is = sym ew;
+          width-is = ew;
+        }
+
+        module _ (s : Slid) (store″ out″ : List ℕ)
+            (G : GlidesTo s (trimmed c) n iterations cells fired passed′ store′ store″ out out″ (take (length lent - r .taken) (drop (r .taken) lent)) (allowance - r .clocks)) where
+          slid-small : (k : ℕ) → k < n → getD passed′ k 0 + s .clocks ≤ 1048576
+          slid-small k h =
+              omega (
+                arith,
+                G .inside,
+                T .most,
+                holds-first (layout (trimmed c)) fired 0 (layout (trimmed c) .cells) k (take n passed′) (F .holds .all),
+                getD-take n passed′ k 0 h,
+                getD-take n passed′ 0 0 (T .some),
+              )
+
+          pub slid-fits : (k : ℕ) → k < n → getD passed′ k 0 + s .clocks < 18446744073709551616
+          slid-fits k h = omega (arith, slid-small k h)
+
+          -- The counts are at most the allowance, a 32-bit number.
+          module _ (l : allowance < 2 ^ 32) where
+            pub taken-fits : Fits w64 (r .taken + s .clocks)
+            taken-fits = record { fits = omega (arith, F .fewer, G .allowed, F .allowed) }
+
+            pub clocks-fit : Fits w64 (r .clocks + s .clocks)
+            clocks-fit = record { fits = omega (arith, G .allowed, F .allowed) }
+
+            pub counts-small : (r .taken + s .clocks < 4294967296) × (s .firings < 4294967296) × (r .clocks + s .clocks < 4294967296)
+            counts-small = (omega (arith, F .fewer, G .allowed, F .allowed), omega (arith, G .fewer, G .allowed, F .allowed), omega (arith, G .allowed, F .allowed))
+
+          all-small : fired + s .firings ≤ 1048576
+          all-small = omega (arith, G .most, T .iterations-are, iterations-small)
+
+          pub all-fits : Fits w64 (fired + s .firings)
+          all-fits = small-fits (fired + s .firings) (omega (arith, all-small))
+
+          pub all-fits-32 : Fits w32 (fired + s .firings)
+          all-fits-32 = small-fits-32 (fired + s .firings) all-small
+
+          pub ends-glided : (passed″ : List ℕ) (o : Outcome) (d : Counts) → d ≡ record { cells = r .taken + s .clocks; firings = s .firings; clocks = r .clocks + s .clocks }
+              → o ≡ outcomeOf (wayOf (s .how)) d → Advanced n (s .clocks) passed′ passed″
+              → Ends (record { outcome = o; fired = record { 0 = fired + s .firings } }) (calls (trimmed c) n fired passed store lent out allowance) n passed passed″ store″ out″
+          ends-glided passed″ o d ed eo a =
+              let es = rw part-all at (G .ends) in
+              let cl = rw (add-zero, add-zero) at
+              (call-later (layout (trimmed c)) (writtenBy (trimmed c)) (widthOf (trimmed c)) lent (r .taken) (r .clocks) (F .had) (allowance - r .clocks)
+              (stand fired (take n passed′) store′ out 0 0 0)) in
+              let re = rw e at (F .resumes out) in
+              let whole = ap (λ (x : Ended). endedLater (r .taken) (r .clocks) x) es ∙ sym cl ∙ re in
+              ends-there o (fired + s .firings) _ (wayOf (s .how)) n (r .taken + s .clocks) (r .clocks + s .clocks) (s .firings) passed passed″ store″ out″
+              (rw (advanced-ahead n (s .clocks) passed′ passed″ (T .few) (F .there) a) whole) (rw ed at eo)
+              (advanced-rest n (s .clocks) passed′ passed″ (F .there) a ∙ F .rest) (a .there) (λ k h. omega (arith, a .on k h, slid-small k h))

@@ -1,0 +1,16 @@
+pub mod FitLaws
+pub mod FireLaws
+pub mod GlidingLaws
+pub mod TableLaws
+pub mod PreparedLaws
+pub mod ClocksLaws
+pub mod EndedLaws
+pub mod PrepareFills
+pub mod PrepareWalks
+pub mod PrepareWants
+pub mod PreparePlaces
+pub mod PrepareCounters
+pub mod PrepareStates
+pub mod PrepareGuards
+pub mod PrepareChains
+pub mod RunLaws

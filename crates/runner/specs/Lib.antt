@@ -1,0 +1,4 @@
+pub mod Loops
+pub mod Clocks
+pub mod Prepared
+pub mod Runs
