@@ -26,7 +26,7 @@ use Rattle.demands.proofs.Ends.{EndsSo, ends-so}
 use Rattle.demands.proofs.Calls.{wrote}
 use Rattle.demands.proofs.Between.{Setting, Reached, now, beginning, ending, clocks, refused, ran, by-call, sound-start, sound-end, counted-call, lent-words, lent-length, width-right}
 
-outcome-counts : (e : Ending) (c : Counts) → outcomeCounts (outcomeOf e c) ≡ c
+pub outcome-counts : (e : Ending) (c : Counts) → outcomeCounts (outcomeOf e c) ≡ c
 unfolding outcomeCounts outcomeOf
 outcome-counts Done c = refl
 outcome-counts Spent c = refl

@@ -28,7 +28,7 @@ module _ (S : Setting) where
   open Setting S using (trimmed as t, proper as p, accepted as a, stream)
 
   -- Words of n iterations, and of m more.
-  words-append : (j n m : ℕ) → wordsFrom t stream j n ++ wordsFrom t stream (j + n) m ≡ wordsFrom t stream j (n + m)
+  pub words-append : (j n m : ℕ) → wordsFrom t stream j n ++ wordsFrom t stream (j + n) m ≡ wordsFrom t stream j (n + m)
   unfolding wordsFrom
   words-append j zero m = ap₂ (λ (x y : ℕ). wordsFrom t stream x y) (add-zero j) (sym (zero-add m))
   words-append j (suc n) m =

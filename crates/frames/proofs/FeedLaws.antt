@@ -3,7 +3,6 @@ use Prim.Native.Nat.{ℕ, _+_, _*_, _%_, _≤_, _<_}
 use mathlib.Core.Bool.{true, false}
 use mathlib.Core.List.{List}
 use mathlib.Core.Path.{_≡_}
-use native.Mathlib.Nat.{mod-eq-of-lt}
 use native.Mathlib.Numerals.{add-one}
 use lib.ListN.{length, drop, getD, set, drop-of-length-le}
 use lib.Seq.{drop-cons}
@@ -25,12 +24,6 @@ module _ (f : Frame) (c : ℕ) where
         → record { first = set (f .first) (f .len) (f .high % 16 * 16 + v); len = f .len + 1; sound = f .sound; half = false; high = 0 } ≡ fed f c
     unfolding fed pushed
     fed-kept h l = rw (digit, h, lt-ltb _ _ l, value)
-
-    -- The same where the high digit is known to be one.
-    pub fed-pair : f .high < 16 → f .half ≡ true → f .len < kept
-        → record { first = set (f .first) (f .len) (f .high * 16 + v); len = f .len + 1; sound = f .sound; half = false; high = 0 } ≡ fed f c
-    unfolding fed pushed
-    fed-pair small h l = rw (digit, h, lt-ltb _ _ l, value, mod-eq-of-lt small)
 
     pub fed-past : f .half ≡ true → kept ≤ f .len → record { first = f .first; len = f .len; sound = f .sound; half = false; high = 0 } ≡ fed f c
     unfolding fed pushed

@@ -115,18 +115,18 @@ pub fn feed(f: Frame, c: u8) -> Frame
     }
 }
 
-// A whole line.
-pub fn frame(line: &[u8]) -> Frame
-    ensures { λ r. ⌜ r ≡ feeds emptyFrame (now (line .entry)) ⌝ }
+// More characters of a line.
+pub fn more(f: Frame, piece: &[u8]) -> Frame
+    ensures { λ r. ⌜ r ≡ feeds f (now (piece .entry)) ⌝ }
 {
-    let mut first = [0u8; 24];
-    let mut len: usize = 0;
-    let mut sound = true;
-    let mut half = false;
-    let mut high: u8 = 0;
+    let mut first = f.first;
+    let mut len = f.len;
+    let mut sound = f.sound;
+    let mut half = f.half;
+    let mut high = f.high;
     let mut i: usize = 0;
-    while i < line.len() {
-        let c = line[i];
+    while i < piece.len() {
+        let c = piece[i];
         i += 1;
         if !is_digit(c) {
             sound = false;
@@ -140,7 +140,7 @@ pub fn frame(line: &[u8]) -> Frame
         }
         half = false;
         if len < 24 {
-            first[len] = high * 16 + v;
+            first[len] = high % 16 * 16 + v;
             len += 1;
         }
         high = 0;
@@ -152,4 +152,11 @@ pub fn frame(line: &[u8]) -> Frame
         half,
         high,
     }
+}
+
+// A whole line.
+pub fn frame(line: &[u8]) -> Frame
+    ensures { λ r. ⌜ r ≡ feeds emptyFrame (now (line .entry)) ⌝ }
+{
+    more(empty_frame(), line)
 }

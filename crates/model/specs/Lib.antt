@@ -17,5 +17,8 @@ pub mod Frames
 pub mod Numbers
 pub mod Reading
 pub mod Writing
+pub mod Arriving
+pub mod Programs
 pub mod Cases
 pub mod SheetCases
+pub mod ProgramCases

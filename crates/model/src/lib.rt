@@ -150,3 +150,19 @@ pub struct Wrote {
     pub verdict: Verdict,
     pub bytes: usize,
 }
+
+// Where the reading of a sheet stands as its characters arrive: the verdict on the last line that was read, what was read, and the line that is open, with
+// whether it has a character.
+pub struct Arriving {
+    pub verdict: Verdict,
+    pub reading: Reading,
+    pub frame: Frame,
+    pub begun: bool,
+}
+
+// The same where cells are read.
+pub struct CellLine {
+    pub verdict: Verdict,
+    pub frame: Frame,
+    pub begun: bool,
+}

@@ -19,7 +19,9 @@ use Rattle.model.specs.Reading.{stepOf, start, readLines}
 use Rattle.sheet_laws.proofs.Cases.{by-eq}
 use Rattle.sheet_laws.proofs.FixedMemory.{fixed-memory, no-line-feed, keeps-dims}
 use Rattle.sheet_laws.proofs.ReadingLaws.{line-stops, line-goes}
-use Rattle.round.specs.Arriving.{Arriving, closed, arrives, arrive, finished, AsItArrives, InPieces}
+use Rattle.model.specs.declared.Arriving.{Arriving}
+use Rattle.model.specs.Arriving.{closed, arrives, arrive, finished}
+use Rattle.round.specs.Arriving.{AsItArrives, InPieces}
 
 pub in-pieces : InPieces
 unfolding arrive
@@ -34,47 +36,47 @@ unmoved : (chained : Bool) (a : Arriving) (x : Refusal) (b : ℕ) → a .verdict
 unfolding arrives
 unmoved chained a x b e = by-refused (a .verdict) _ (λ y. a) x e
 
-stays : (chained : Bool) (a : Arriving) (x : Refusal) (bs : List ℕ) → a .verdict ≡ verdict.Refused x → arrive chained a bs ≡ a
+pub stays : (chained : Bool) (a : Arriving) (x : Refusal) (bs : List ℕ) → a .verdict ≡ verdict.Refused x → arrive chained a bs ≡ a
 unfolding arrive
 stays chained a x [] e = refl
 stays chained a x (b ∷ bs) e = ap (λ t. arrive chained t bs) (unmoved chained a x b e) ∙ stays chained a x bs e
 
 -- Characters in front of the first line.
-infront : List ℕ → List Line → List Line
+unfoldable pub infront : List ℕ → List Line → List Line
 infront [] ls = ls
 infront (b ∷ p) ls = into b (infront p ls)
 
-one-more : (p : List ℕ) (b : ℕ) (ls : List Line) → infront (p ++ (b ∷ [])) ls ≡ infront p (into b ls)
+pub one-more : (p : List ℕ) (b : ℕ) (ls : List Line) → infront (p ++ (b ∷ [])) ls ≡ infront p (into b ls)
 unfolding infront
 one-more [] b ls = refl
 one-more (x ∷ p) b ls = ap (into x) (one-more p b ls)
 
-whole-line : (p cs : List ℕ) (e : Bool) (ls : List Line) → infront p (record { chars = cs; ended = e } ∷ ls) ≡ record { chars = p ++ cs; ended = e } ∷ ls
+pub whole-line : (p cs : List ℕ) (e : Bool) (ls : List Line) → infront p (record { chars = cs; ended = e } ∷ ls) ≡ record { chars = p ++ cs; ended = e } ∷ ls
 unfolding infront
 whole-line [] cs e ls = refl
 whole-line (b ∷ p) cs e ls = ap (into b) (whole-line p cs e ls)
 
-last-line : (b : ℕ) (p : List ℕ) → infront (b ∷ p) [] ≡ record { chars = b ∷ p; ended = false } ∷ []
+pub last-line : (b : ℕ) (p : List ℕ) → infront (b ∷ p) [] ≡ record { chars = b ∷ p; ended = false } ∷ []
 unfolding infront
 last-line b [] = refl
 last-line b (x ∷ p) = ap (into b) (last-line x p)
 
-feeds-more : (f : Frame) (p : List ℕ) (b : ℕ) → feeds f (p ++ (b ∷ [])) ≡ fed (feeds f p) b
+pub feeds-more : (f : Frame) (p : List ℕ) (b : ℕ) → feeds f (p ++ (b ∷ [])) ≡ fed (feeds f p) b
 unfolding feeds
 feeds-more f [] b = refl
 feeds-more f (x ∷ p) b = feeds-more (fed f x) p b
 
-some : List ℕ → Bool
+unfoldable pub some : List ℕ → Bool
 some [] = false
 some (b ∷ p) = true
 
-some-more : (p : List ℕ) (b : ℕ) → some (p ++ (b ∷ [])) ≡ true
+pub some-more : (p : List ℕ) (b : ℕ) → some (p ++ (b ∷ [])) ≡ true
 unfolding some
 some-more [] b = refl
 some-more (x ∷ p) b = refl
 
 -- In the middle of a line, of which the characters p have arrived.
-abbrev midway : Reading → List ℕ → Arriving
+abbrev pub midway : Reading → List ℕ → Arriving
 midway r p = record { verdict = verdict.Accepted; reading = r; frame = feeds emptyFrame p; begun = some p }
 
 refused : (s : LineStep) (x : Refusal) → s .verdict ≡ verdict.Refused x → finished (closed s) ≡ s
@@ -102,20 +104,20 @@ at-feed chained r p bs few behind =
         ∙ q
         ∙ line-stops chained r (record { chars = p; ended = true }) (linesOf bs) x (ap (λ t. t .verdict) (sym q) ∙ e)
 
-arrives-feed : (chained : Bool) (r : Reading) (p : List ℕ) (b : ℕ) → b ≡ lineFeed
+pub arrives-feed : (chained : Bool) (r : Reading) (p : List ℕ) (b : ℕ) → b ≡ lineFeed
     → arrives chained (midway r p) b ≡ closed (stepOf chained r (shown (feeds emptyFrame p)))
 unfolding arrives
 arrives-feed chained r p b e = rw e
 
-arrives-other : (chained : Bool) (r : Reading) (p : List ℕ) (b : ℕ) → (b ≡ lineFeed → ⊥) → arrives chained (midway r p) b ≡ midway r (p ++ (b ∷ []))
+pub arrives-other : (chained : Bool) (r : Reading) (p : List ℕ) (b : ℕ) → (b ≡ lineFeed → ⊥) → arrives chained (midway r p) b ≡ midway r (p ++ (b ∷ []))
 unfolding arrives
 arrives-other chained r p b n = rw (ne-eqb _ _ n, feeds-more emptyFrame p b, some-more p b)
 
-lines-feed : (b : ℕ) (bs : List ℕ) → b ≡ lineFeed → linesOf (b ∷ bs) ≡ record { chars = []; ended = true } ∷ linesOf bs
+pub lines-feed : (b : ℕ) (bs : List ℕ) → b ≡ lineFeed → linesOf (b ∷ bs) ≡ record { chars = []; ended = true } ∷ linesOf bs
 unfolding linesOf
 lines-feed b bs e = rw (eq-eqb _ _ e)
 
-lines-other : (b : ℕ) (bs : List ℕ) → (b ≡ lineFeed → ⊥) → linesOf (b ∷ bs) ≡ into b (linesOf bs)
+pub lines-other : (b : ℕ) (bs : List ℕ) → (b ≡ lineFeed → ⊥) → linesOf (b ∷ bs) ≡ into b (linesOf bs)
 unfolding linesOf
 lines-other b bs n = rw (ne-eqb _ _ n)
 

@@ -72,7 +72,7 @@ unsound-verdict : (chainSheet : Bool) (r : Reading) (l : Seen) → l .sound ≡ 
 unfolding lineVerdict lineChecks malformed firstOf
 unsound-verdict chainSheet r l h = rw h
 
-unsound-cell : (l : Seen) → l .sound ≡ false → cellVerdict l ≡ verdict.Refused refusal.Malformed
+pub unsound-cell : (l : Seen) → l .sound ≡ false → cellVerdict l ≡ verdict.Refused refusal.Malformed
 unfolding cellVerdict malformed firstOf
 unsound-cell l h = rw h
 

@@ -1,0 +1,58 @@
+-- `capacities` reads within its array, and ends. Assumes nothing.
+use Prim.Native.Nat.{_≤_, _*_, _-_}
+use borrow.Author.Needs.{needs}
+use Rattle.cases.proofs.report.capacities.Statement.{statement}
+use Rattle.cases.proofs.report.capacities.Tie as tie
+
+abbrev Inv-loop : tie.InvT-loop
+Inv-loop places fifos sum₀ k₀ sum k = k ≤ fifos
+
+abbrev μ-loop : tie.MeasureT-loop
+μ-loop places fifos sum₀ k₀ sum k = fifos - k
+
+loop-holds : tie.Need-loop-holds Inv-loop μ-loop
+loop-holds c = search needs
+
+mul-wide : tie.Need-mul-wide Inv-loop μ-loop
+mul-wide c = search needs
+
+element-copy-out-wide : tie.Need-element-copy-out-wide Inv-loop μ-loop
+element-copy-out-wide c = search needs
+
+wide-requires : tie.Need-wide-requires Inv-loop μ-loop
+wide-requires c κs = search needs
+
+capacity-requires : tie.Need-capacity-requires Inv-loop μ-loop
+capacity-requires c κs = search needs
+
+plus-requires : tie.Need-plus-requires Inv-loop μ-loop
+plus-requires c κs = search needs
+
+add-k : tie.Need-add-k Inv-loop μ-loop
+add-k c = search needs
+
+loop-less : tie.Need-loop-less Inv-loop μ-loop
+loop-less c = search needs
+
+loop-again : tie.Need-loop-again Inv-loop μ-loop
+loop-again c = search needs
+
+returns : tie.Need-returns Inv-loop μ-loop
+returns c = search needs
+
+pub capacities-spec : {M : Type 1} → statement M
+capacities-spec =
+    tie.close
+    (tie.spec
+    Inv-loop
+    μ-loop
+    loop-holds
+    mul-wide
+    element-copy-out-wide
+    wide-requires
+    capacity-requires
+    plus-requires
+    add-k
+    loop-less
+    loop-again
+    returns)

@@ -1,0 +1,97 @@
+// The plain nested loop over a grid's iterations, beside a run of the library.
+use crate::calls::Run;
+use crate::calls::begin;
+use crate::calls::more;
+use crate::calls::plus;
+use crate::nested::agreeing;
+use crate::nested::apply;
+use crate::nested::gather;
+use crate::nested::width;
+use crate::windows::Loops;
+use crate::windows::references;
+use model::Chain;
+use model::Kernel;
+
+// How far a run's words were compared, and whether all of them are the nested loop's.
+pub struct Compared {
+    pub run: Run,
+    pub words: usize,
+    pub same: bool,
+}
+
+// How many of an iteration's words stand in `out` from place `at` to before `end`, up to the first that does not.
+fn agreeing_at(
+    l: Loops,
+    kernel: Kernel,
+    window: &[u8],
+    cells: &[u32],
+    z: usize,
+    y: usize,
+    x: usize,
+    width: usize,
+    out: &[u32],
+    at: usize,
+    end: usize,
+) -> usize {
+    let mut words = [0u32; 32];
+    gather(l, window, cells, z, y, x, &mut words);
+    apply(kernel, references(window), l.centre, &mut words);
+    agreeing(&words, width, out, at, end)
+}
+
+// Every word of a run, in order, beside what the nested loop reads.
+pub fn compare(
+    l: Loops,
+    kernel: Kernel,
+    chain: Chain,
+    pieces: bool,
+    window: &[u8],
+    cells: &[u32],
+    store: &mut [u32],
+    out: &mut [u32],
+) -> Compared {
+    let width = width(kernel, references(window));
+    let mut run = begin();
+    let mut at: usize = 0;
+    let mut seen: usize = 0;
+    let z_end = l.z_end;
+    let y_end = l.y_end;
+    let x_end = l.x_end;
+    for z in l.z_first..z_end {
+        for y in l.y_first..y_end {
+            for x in l.x_first..x_end {
+                if at == run.words {
+                    run = more(chain, run, pieces, width, cells, store, out);
+                    at = 0;
+                }
+                let same = agreeing_at(
+                    l,
+                    kernel,
+                    window,
+                    cells,
+                    z,
+                    y,
+                    x,
+                    width,
+                    out,
+                    at,
+                    run.words,
+                );
+                seen = plus(seen, same);
+                if same != width {
+                    return Compared {
+                        run,
+                        words: seen,
+                        same: false,
+                    };
+                }
+                at = plus(at, width);
+            }
+        }
+    }
+    Compared {
+        run,
+        words: seen,
+        same: at == run.words,
+    }
+}

@@ -1,0 +1,6 @@
+pub mod CellLaws
+pub mod StageLaws
+pub mod RunLaws
+pub mod StepLaws
+pub mod AnswerLaws
+pub mod RoomLaws

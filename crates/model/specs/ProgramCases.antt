@@ -1,0 +1,113 @@
+-- The two listings that document 01 prints, and other short inputs of the programs with what they write, by computation.
+use Prim.Native.Nat.{ℕ, suc, _+_, _-_, _*_}
+use Prim.Native.String.{String, _++_}
+use mathlib.Core.Path.{_≡_, refl}
+use mathlib.Core.Bool.{Bool, true, _&&_}
+use mathlib.Core.List.{List, [], _∷_, flatMap}
+use lib.Dec.{eqb}
+use lib.ListN.{length, take, drop, replicate}
+use lib.Ieee.{ofBits, toBits, add, sub, mul}
+use Rattle.model.specs.Lists.{tabulate, sum, product, greatest, all, any}
+use Rattle.model.specs.Vectors.{same, above, plus, equal, before, isZero}
+use Rattle.model.specs.Geometry.{cellCount, place, natural, position, firstEntry, otherEntries, leastFrom, least, lows, extent, extents, iterationCount}
+use Rattle.model.specs.Geometry.{indices, fromLows, iteration, reads, distance}
+use Rattle.model.specs.Values.{sizesOf, offsetOf, offsetsOf, capacitiesOf, trimmed, chainOf}
+use Rattle.model.specs.Answers.{numberOf, verdictNumber, firstOf}
+use Rattle.model.specs.Judging.{badDims, badSizes, badGrid, badCount, repeats, noIteration, needsCentre, lacksCentre, notFinite, badFactor, tooLarge, valueChecks, judged, judgeChain}
+use Rattle.model.specs.Planning.{insert, falling, distances, trimmedRequest, judgeRequest, plannedChain}
+use Rattle.model.specs.Kernels.{sumFrom, sumOf, centreOf, others, squared, difference, scaled, blend, written, width}
+use Rattle.model.specs.Clock.{fresh, ready, fires, turn, limit, turns, next, moves}
+use Rattle.model.specs.Store.{firstPlace, placeIn, presented, stored}
+use Rattle.model.specs.Running.{layout, words, clocked, look, call, writtenBy, widthOf}
+use Rattle.model.specs.Lines.{linesOf}
+use Rattle.model.specs.Frames.{isDigit, valueOf, digitOf, whole, bytesOf, digitsOf, framed, padded, seenOf}
+use Rattle.model.specs.Numbers.{halfAt, wordAt, halfBytes, wordBytes, signed, pattern}
+use Rattle.model.specs.Reading.{badKernel, badForm, malformed, misplaced, badLength, sizesIn, lineChecks, lineVerdict}
+use Rattle.model.specs.Reading.{withGrid, entriesIn, withOffset, withCapacity, kernelIn, withKernel, taken, stepOf, readLines, endVerdict}
+use Rattle.model.specs.Reading.{readRequest, cellVerdict}
+use Rattle.model.specs.Writing.{gridLine, offsetLine, capacityLine, kernelLine, chainLines, sheetOf}
+use Rattle.model.specs.Programs.{firingLine, endLine, refusalLine, firingsText, planText, sheetAndBehind, cellsOf, behindCells, wholeRun, runText}
+use Rattle.model.specs.SheetCases.{bytesIn, five, printed, sameBytes}
+
+-- What stands on standard input, and what is written.
+pub record Listing : Type 0 where
+  pub input : String
+  pub output : String
+
+abbrev pub listing : String → String → Listing
+listing input output = record { input = input; output = output }
+
+unfoldable pub plans : List Listing
+plans =
+    listing (five ++ "020000\n020003\n0400\n") printed
+    ∷ listing "" "1F02\n"
+    ∷ listing (five ++ "020000\n020000\n0400\n") "1F05\n"
+    ∷ listing (five ++ "020000\n020000\n0400\n05\n") "1F01\n"
+    ∷ []
+
+-- Document 01's two firings, and the first of them.
+abbrev pub firings : String
+firings = "10000000000000000400000001\n10000000010000000500000002\n"
+
+abbrev pub firing : String
+firing = "10000000000000000400000001\n"
+
+abbrev pub four : String
+four = "0500000001\n0500000002\n0500000003\n0500000004\n"
+
+-- Case 8.
+abbrev pub rising : String
+rising = "010100000005\n020000\n020003\n0300000010\n0400\n"
+
+-- Case 7, and eleven cells.
+abbrev pub short : String
+short = "01020000000400000005\n0200010000\n0200000001\n0200000000\n020000FFFF\n02FFFF0000\n0300000003\n0300000001\n0300000001\n0300000004\n0400\n"
+
+abbrev pub ten : String
+ten = four ++ four ++ "0500000009\n0500000009\n"
+
+unfoldable pub runs : List Listing
+runs =
+    -- document 01's; a line after the last firing is not looked at
+    listing (printed ++ four ++ "0500000005\n") (firings ++ "110000000005\n")
+    ∷ listing (printed ++ four ++ "0500000005\nx") (firings ++ "110000000005\n")
+    -- too few cells; another line where a cell is wanted; a cell's line that is malformed, or lacks its LF
+    ∷ listing (printed ++ four) (firing ++ "110200000004\n")
+    ∷ listing (printed ++ four ++ "0400\n") (firing ++ "1F02\n")
+    ∷ listing (printed ++ four ++ "05000000\n") (firing ++ "1F01\n")
+    ∷ listing (printed ++ four ++ "0500000005") (firing ++ "1F01\n")
+    -- case 8 is starved until a cell is lent; case 7 takes ten cells, and stalls with the eleventh
+    ∷ listing rising "110200000000\n"
+    ∷ listing (rising ++ "0500000001\nx") "110100000000\n"
+    ∷ listing (short ++ ten) "11020000000A\n"
+    ∷ listing (short ++ ten ++ "0500000009\n") "11010000000A\n"
+    -- no sheet; a request sheet; equal offsets are answered at the `04`, before a later line is looked at
+    ∷ listing "" "1F02\n"
+    ∷ listing (five ++ "020000\n020003\n0400\n") "1F02\n"
+    ∷ listing (five ++ "020000\n020000\n0300000001\n0400\nx") "1F05\n"
+    -- a sum of no terms
+    ∷ listing "010100000001\n020000\n0401\n05FFFFFFFF\n" "100000000000000000\n110000000001\n"
+    ∷ []
+
+unfoldable pub planRight : Listing → Bool
+planRight l = sameBytes (planText (bytesIn (l .input))) (bytesIn (l .output))
+
+unfoldable pub runRight : Listing → Bool
+runRight l = sameBytes (runText (bytesIn (l .input))) (bytesIn (l .output))
+
+pub table : (all planRight plans && all runRight runs) ≡ true
+unfolding bytesIn plans runs sameBytes planRight runRight flatMap ofBits toBits add sub mul
+    tabulate sum product greatest all any same above plus equal before isZero
+    cellCount place natural position firstEntry otherEntries leastFrom least lows extent extents iterationCount indices fromLows iteration reads distance
+    sizesOf offsetOf offsetsOf capacitiesOf chainOf numberOf verdictNumber firstOf
+    badDims badSizes badGrid badCount repeats noIteration needsCentre lacksCentre notFinite badFactor tooLarge valueChecks judged judgeChain
+    insert falling distances trimmedRequest judgeRequest trimmed plannedChain
+    sumFrom sumOf centreOf others squared difference scaled blend written width
+    fresh ready fires turn limit turns next moves firstPlace placeIn presented stored
+    layout words clocked look call writtenBy widthOf
+    linesOf isDigit valueOf digitOf whole bytesOf digitsOf framed padded halfAt wordAt halfBytes wordBytes signed pattern
+    badKernel badForm malformed misplaced badLength sizesIn lineChecks lineVerdict
+    withGrid entriesIn withOffset withCapacity kernelIn withKernel taken stepOf readLines endVerdict readRequest cellVerdict
+    gridLine offsetLine capacityLine kernelLine chainLines sheetOf
+    firingLine endLine refusalLine firingsText planText sheetAndBehind cellsOf behindCells wholeRun runText
+table = refl

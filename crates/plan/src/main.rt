@@ -1,0 +1,28 @@
+// Plans the request sheet on standard input: writes its chain sheet, or `1F` and the number of the refusal.
+use libc::STDIN_FILENO;
+use libc::STDOUT_FILENO;
+use model::Verdict;
+
+fn main() {
+    let mut block = [0u8; 65536];
+    let mut text = [0u8; 1024];
+    let mut arriving = intake::open();
+    // A loop has to end, and nothing says that the input does: no input has so many blocks.
+    let mut turns = u64::MAX;
+    while 0 < turns {
+        turns -= 1;
+        let got = libc::read(STDIN_FILENO, &mut block);
+        let len = io::count(got, &block);
+        if len == 0 {
+            break;
+        }
+        arriving = intake::take_block(false, arriving, &block[..len]);
+        let v = arriving.verdict;
+        match v {
+            Verdict::Accepted => {}
+            Verdict::Refused(_) => break,
+        }
+    }
+    let bytes = driver::plan_answer(arriving, &mut text);
+    io::write_all(STDOUT_FILENO, &text[..bytes]);
+}

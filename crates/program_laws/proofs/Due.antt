@@ -1,0 +1,225 @@
+-- What is due at each stage of the program `run`: what every step keeps.
+use Prim.Native.Nat.{ℕ, suc, _≤_, _<_}
+use mathlib.Core.Bool.{true, false}
+use mathlib.Core.List.{List, [], _∷_, _++_, append-nil}
+use mathlib.Core.Path.{_≡_, refl, sym, _∙_, ap, subst}
+use native.Mathlib.Omega.{arith}
+use lib.Dec.{eqb}
+use lib.ListN.{length, take, drop, length-append}
+use lib.Seq.{take-append-seam}
+use borrow.Author.Tests.{lt-ltb}
+use Rattle.model.specs.declared.Arriving.{Arriving}
+use Rattle.model.specs.declared.CellLine.{CellLine}
+use Rattle.model.specs.declared.Chain.{Chain}
+use Rattle.model.specs.declared.State.{State}
+use Rattle.model.specs.declared.Refusal.{Refusal}
+use Rattle.model.specs.declared.Verdict.{Verdict}
+use Rattle.model.specs.declared.Verdict.the-variants as verdict
+use Rattle.model.specs.Answers.{byVerdict}
+use Rattle.model.specs.Values.{trimmed}
+use Rattle.model.specs.Judging.{judgeChain}
+use Rattle.model.specs.Lines.{linesOf}
+use Rattle.model.specs.Frames.{framed, feeds}
+use Rattle.model.specs.Clock.{Counters, first}
+use Rattle.model.specs.Clock as clock
+use Rattle.model.specs.Running.{layout, countersOf, Starved, Ending, widthOf}
+use Rattle.model.specs.Arriving.{newLine}
+use Rattle.model.specs.Programs.{endLine, refusalText, firingsText, endText, cellsOf, behindCells, wholeRun, runText}
+use Rattle.demands.proofs.Accepts.{accepted-chain}
+use Rattle.demands.proofs.Between.{fresh-reached}
+use Rattle.round.proofs.AsItArrives.{infront, some}
+use Rattle.driver.specs.declared.Job.{Job}
+use Rattle.driver.specs.declared.Stage.{Stage}
+use Rattle.driver.specs.declared.Stage.the-variants as stage
+use Rattle.driver.specs.Steps.{fresh, sheetStage, cellsStage}
+use Rattle.program_laws.proofs.Sheets.{textBehind, Midway, Read, further, back, whole, chain-back, chain-runs}
+use Rattle.program_laws.proofs.CellLines.{Gives, is-open, is-back}
+use Rattle.program_laws.proofs.Going.{Gone, still, goesOn, endingAt, starved-stops}
+use Rattle.program_laws.proofs.WholeRun.{settingOf, fresh-counters, none-passed, whole-text}
+use Rattle.program_laws.proofs.Runs.{Stands}
+
+abbrev pub chainOf : Job → Chain
+chainOf j = j .arriving .reading .chain
+
+module _ (input : List ℕ) where
+  -- Behind the sheet, with these cells at hand: all cells, the verdict behind them, and where the run over them stands.
+  pub record Runs (j : Job) (rest store written hand : List ℕ) : Type 0 where
+    pub ok : judgeChain (chainOf j) ≡ verdict.Accepted
+    pub all : List ℕ
+    pub behind : Verdict
+    pub later : List ℕ
+    pub gives : Gives (j .line) rest later behind
+    pub stands : Stands (chainOf j) ok all (j .state) store (j .clocks) written hand later
+    pub due : runText input
+        ≡ firingsText (widthOf (trimmed (chainOf j))) 0 (wholeRun (trimmed (chainOf j)) all .standing .done .firings) (wholeRun (trimmed (chainOf j)) all .standing .output)
+        ++ endText (wholeRun (trimmed (chainOf j)) all .ending) (wholeRun (trimmed (chainOf j)) all .standing .done .clocks) behind
+
+  pub record InSheet (j : Job) (rest written : List ℕ) : Type 0 where
+    pub midway : Midway input (j .arriving) rest
+    pub state : j .state ≡ fresh
+    pub clocks : j .clocks ≡ 0
+    pub line : j .line ≡ newLine
+    pub nothing : written ≡ []
+
+  pub record InCells (j : Job) (rest store written : List ℕ) : Type 0 where
+    pub run : Runs j rest store written []
+    pub left : countersOf (trimmed (chainOf j) .count) (j .state) .fired < layout (trimmed (chainOf j)) .iterations
+
+  pub record InClocks (j : Job) (rest store cells written : List ℕ) : Type 0 where
+    pub run : Runs j rest store written (drop (j .from) (take (j .count) cells))
+    pub from : j .from ≤ j .count
+    pub count : j .count ≤ length cells
+
+  abbrev pub Due : Stage → Job → (rest store cells written : List ℕ) → Type 0
+  Due stage.Sheet j rest store cells written = InSheet j rest written
+  Due stage.Cells j rest store cells written = InCells j rest store written
+  Due stage.Clocks j rest store cells written = InClocks j rest store cells written
+  Due (stage.Ending way) j rest store cells written = written ++ framed (endLine way (j .clocks)) ≡ runText input
+  Due (stage.Refusing x) j rest store cells written = written ++ refusalText x ≡ runText input
+  Due stage.Over j rest store cells written = written ≡ runText input
+
+  -- Where a run over all cells stops, its text is what was written and its last line.
+  pub run-stops : (j : Job) (rest store written hand : List ℕ) (r : Runs j rest store written hand)
+      → goesOn (layout (trimmed (chainOf j))) (length (r .all)) (countersOf (trimmed (chainOf j) .count) (j .state)) ≡ false
+      → written ++ endText (endingAt (layout (trimmed (chainOf j))) (length (r .all)) (countersOf (trimmed (chainOf j) .count) (j .state))) (j .clocks) (r .behind) ≡ runText input
+  run-stops j rest store written hand r stop =
+      ap (λ (x : List ℕ). x ++ endText (endingAt (layout (trimmed (chainOf j))) (length (r .all)) (countersOf (trimmed (chainOf j) .count) (j .state))) (j .clocks) (r .behind)) (r .stands .text)
+      ∙ sym (whole-text (chainOf j) (r .ok) (r .all) (j .clocks) (countersOf (trimmed (chainOf j) .count) (j .state)) (r .behind) (r .stands .gone) stop)
+      ∙ sym (r .due)
+
+-- Before the first call.
+stands-fresh : (c : Chain) (ok : judgeChain c ≡ verdict.Accepted) (all store : List ℕ) → 16384 ≤ length store → Stands c ok all fresh store 0 [] [] all
+unfolding countersOf firingsText
+stands-fresh c ok all store long = record {
+  es = [];
+  reached = fresh-reached (settingOf c ok all) _ (record { counters = fresh-counters (trimmed c) });
+  gone = subst (λ (s : Counters). Gone (layout (trimmed c)) (length all) (clock.fresh (layout (trimmed c))) 0 s) (sym (fresh-counters (trimmed c))) still;
+  count = refl;
+  text = refl;
+  long = long;
+  taken = [];
+  split = refl;
+  position = sym (none-passed (trimmed c));
+}
+
+-- Cells that come later may be at hand.
+stands-regrouped : {c : Chain} {ok : judgeChain c ≡ verdict.Accepted} {all : List ℕ} {state : State} {store : List ℕ} {clocks : ℕ} {written hand later hand′ later′ : List ℕ}
+    → hand ++ later ≡ hand′ ++ later′ → Stands c ok all state store clocks written hand later → Stands c ok all state store clocks written hand′ later′
+stands-regrouped e a = record {
+  es = a .es;
+  reached = a .reached;
+  gone = a .gone;
+  count = a .count;
+  text = a .text;
+  long = a .long;
+  taken = a .taken;
+  split = a .split ∙ ap (λ (xs : List ℕ). a .taken ++ xs) e;
+  position = a .position;
+}
+
+-- After a line of the sheet.
+stage-further : (input : List ℕ) (a : Arriving) (rest : List ℕ) → Midway input a rest → sheetStage a ≡ stage.Sheet
+unfolding sheetStage
+stage-further input a rest m = rw (m .arriving, m .stage)
+
+stage-back : (a : Arriving) (x : Refusal) → a .verdict ≡ verdict.Refused x → sheetStage a ≡ stage.Refusing x
+unfolding sheetStage
+stage-back a x e = rw e
+
+stage-whole : (a : Arriving) → a .verdict ≡ verdict.Accepted → eqb (a .reading .stage) 2 ≡ true
+    → sheetStage a ≡ byVerdict (judgeChain (a .reading .chain)) stage.Cells stage.Refusing
+unfolding sheetStage
+stage-whole a e s = rw (e, s)
+
+module _ (input : List ℕ) (j : Job) (rest store cells written : List ℕ) (long : 16384 ≤ length store)
+    (state : j .state ≡ fresh) (clocks : j .clocks ≡ 0) (line : j .line ≡ newLine) (nothing : written ≡ []) where
+  run-begins : (ok : judgeChain (chainOf j) ≡ verdict.Accepted) → eqb (j .arriving .reading .stage) 2 ≡ true
+      → runText input ≡ textBehind (record { step = record { verdict = verdict.Accepted; reading = j .arriving .reading }; behind = linesOf rest })
+      → InCells input j rest store written
+  unfolding feeds some infront layout countersOf
+  run-begins ok s due = record {
+    run = record {
+      ok = ok;
+      all = cellsOf (linesOf rest);
+      behind = behindCells (linesOf rest);
+      later = cellsOf (linesOf rest);
+      gives = is-open [] line refl refl;
+      stands = rw (state, clocks, nothing) (stands-fresh (chainOf j) ok (cellsOf (linesOf rest)) store long);
+      due = due ∙ chain-runs (j .arriving .reading) (linesOf rest) s ok;
+    };
+    left = rw state (accepted-chain (chainOf j) ok .iterates);
+  }
+
+  -- The stage that the sheet leaves.
+  pub sheet-due : Read input (j .arriving) rest → Due input (sheetStage (j .arriving)) j rest store cells written
+  sheet-due (further m) =
+      rw (stage-further input (j .arriving) rest m) (record { midway = m; state = state; clocks = clocks; line = line; nothing = nothing })
+  sheet-due (back x e due) = rw (stage-back (j .arriving) x e, nothing) (sym due)
+  sheet-due (whole e s due) = rw (stage-whole (j .arriving) e s) (go (judgeChain (chainOf j)) refl)
+    where
+      go : (v : Verdict) → judgeChain (chainOf j) ≡ v → Due input (byVerdict v stage.Cells stage.Refusing) j rest store cells written
+      go verdict.Accepted ok = run-begins ok s due
+      go (verdict.Refused x) no-good = rw nothing (sym (due ∙ chain-back (j .arriving .reading) (linesOf rest) x s no-good))
+
+-- Where every cell is taken and none comes later, the run is starved.
+pub starved-due : (input : List ℕ) (j : Job) (rest store written : List ℕ) (i : InCells input j rest store written) → i .run .later ≡ []
+    → written ++ endText Starved (j .clocks) (i .run .behind) ≡ runText input
+starved-due input j rest store written i none =
+    let r = i .run in
+    let s = countersOf (trimmed (chainOf j) .count) (j .state) in
+    let all-taken : length (r .all) ≤ first (s .passed) = omega (
+      arith,
+      ap length (r .stands .split ∙ ap (λ (xs : List ℕ). r .stands .taken ++ xs) none ∙ append-nil (r .stands .taken)),
+      r .stands .position,
+    ) in
+    let stops = starved-stops (layout (trimmed (chainOf j))) (length (r .all)) s (i .left) all-taken in
+    ap (λ (e : Ending). written ++ endText e (j .clocks) (r .behind)) (sym (stops .1)) ∙ run-stops input j rest store written [] r (stops .0)
+
+-- The job after `05` lines: with the line and the cells that were read.
+abbrev pub withLine : Job → Stage → CellLine → (from count : ℕ) → Job
+withLine j s line from count = record { stage = s; arriving = j .arriving; state = j .state; clocks = j .clocks; line = line; from = from; count = count }
+
+some-cells : (n : ℕ) (v : Verdict) → cellsStage (suc n) v ≡ stage.Clocks
+unfolding cellsStage
+some-cells n v = let z : 0 < suc n = omega arith in rw (lt-ltb 0 (suc n) z)
+
+module _ (input : List ℕ) (j : Job) (rest store written : List ℕ) (i : InCells input j rest store written) where
+  abbrev r : Runs input j rest store written []
+  r = i .run
+
+  runs-on : (s : Stage) (line : CellLine) (from count : ℕ) (rest′ hand later′ : List ℕ) → r .later ≡ hand ++ later′ → Gives line rest′ later′ (r .behind)
+      → Runs input (withLine j s line from count) rest′ store written hand
+  runs-on s line from count rest′ hand later′ e g = record {
+    ok = r .ok;
+    all = r .all;
+    behind = r .behind;
+    later = later′;
+    gives = g;
+    stands = stands-regrouped e (r .stands);
+    due = r .due;
+  }
+
+  -- A line that was turned back, where no cell is left.
+  back-due : (line : CellLine) (rest′ later′ : List ℕ) (x : Refusal) → r .later ≡ later′ → Gives line rest′ later′ (r .behind) → line .verdict ≡ verdict.Refused x
+      → written ++ refusalText x ≡ runText input
+  back-due line rest′ later′ x e (is-open p q _ _) v = absurd (let d = ap (λ (l : CellLine). l .verdict) q in let z : _≡_ {A = ℕ} 0 1 = cc in omega arith)
+  back-due line rest′ later′ x e (is-back y w none b) v =
+      let same : r .behind ≡ verdict.Refused x = b ∙ sym w ∙ v in
+      ap (λ (u : Verdict). written ++ endText Starved (j .clocks) u) (sym same) ∙ starved-due input j rest store written i (e ∙ none)
+
+  -- The stage that they leave.
+  pub cells-due : (line : CellLine) (cs rest′ later′ cells : List ℕ) → r .later ≡ cs ++ later′ → Gives line rest′ later′ (r .behind)
+      → Due input (cellsStage (length cs) (line .verdict)) (withLine j (cellsStage (length cs) (line .verdict)) line 0 (length cs)) rest′ store (cs ++ cells) written
+  unfolding cellsStage
+  cells-due line [] rest′ later′ cells e g = go (line .verdict) refl
+    where
+      go : (v : Verdict) → line .verdict ≡ v
+          → Due input (byVerdict v stage.Cells stage.Refusing) (withLine j (byVerdict v stage.Cells stage.Refusing) line 0 0) rest′ store ([] ++ cells) written
+      go verdict.Accepted v = record { run = runs-on stage.Cells line 0 0 rest′ [] later′ e g; left = i .left }
+      go (verdict.Refused x) v = back-due line rest′ later′ x e g v
+  cells-due line (c ∷ cs) rest′ later′ cells e g = rw (some-cells (length cs) (line .verdict)) (record {
+    run = subst (λ (h : List ℕ). Runs input (withLine j stage.Clocks line 0 (length (c ∷ cs))) rest′ store written h) (sym (take-append-seam (c ∷ cs) cells))
+        (runs-on stage.Clocks line 0 (length (c ∷ cs)) rest′ (c ∷ cs) later′ e g);
+    from = omega arith;
+    count = omega (arith, length-append (c ∷ cs) cells);
+  })

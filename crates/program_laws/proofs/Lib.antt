@@ -1,0 +1,14 @@
+pub mod Sheets
+pub mod CellLines
+pub mod Going
+pub mod Texts
+pub mod Calls
+pub mod WholeRun
+pub mod Runs
+pub mod Due
+pub mod Steps
+pub mod RunStep
+pub mod Turns
+pub mod SheetLength
+pub mod Plan
+pub mod Whole

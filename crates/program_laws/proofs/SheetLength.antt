@@ -1,0 +1,96 @@
+-- How long a chain sheet is at most.
+use Prim.Native.Nat.{ℕ, zero, suc, _+_, _*_, _-_, _≤_}
+use mathlib.Core.List.{List, [], _∷_, _++_, map, flatMap}
+use mathlib.Core.Path.{_≡_, refl, sym, _∙_, ap}
+use native.Mathlib.Nat.{zero-add}
+use native.Mathlib.Omega.{arith}
+use lib.IntN.{ℤ}
+use lib.ListN.{length, getD, length-append}
+use Rattle.model.specs.declared.Chain.{Chain}
+use Rattle.model.specs.declared.Kernel.{Kernel}
+use Rattle.model.specs.declared.Kernel.the-variants as kernel
+use Rattle.model.specs.Lists.{tabulate}
+use Rattle.model.specs.Values.{sizesOf, entryOf, offsetOf, offsetsOf, capacityOf, capacitiesOf}
+use Rattle.model.specs.Lines.{lineFeed}
+use Rattle.model.specs.Frames.{digitsOf, framed}
+use Rattle.model.specs.Numbers.{halfBytes, wordBytes, pattern}
+use Rattle.model.specs.Writing.{gridLine, offsetLine, capacityLine, kernelLine, chainLines, sheetOf}
+use Rattle.model.proofs.ListLaws.{length-tabulate}
+
+digits-length : (bs : List ℕ) → length (digitsOf bs) ≡ 2 * length bs
+unfolding digitsOf
+digits-length [] = refl
+digits-length (b ∷ bs) = omega (arith, digits-length bs)
+
+framed-length : (bs : List ℕ) → length (framed bs) ≡ 2 * length bs + 1
+unfolding framed
+framed-length bs = length-append (digitsOf bs) (lineFeed ∷ []) ∙ ap (λ n. n + 1) (digits-length bs)
+
+flat-append : (f : List ℕ → List ℕ) (xs ys : List (List ℕ)) → length (flatMap f (xs ++ ys)) ≡ length (flatMap f xs) + length (flatMap f ys)
+unfolding flatMap
+flat-append f [] ys = sym (zero-add _)
+flat-append f (x ∷ xs) ys = omega (arith, length-append (f x) (flatMap f (xs ++ ys)), length-append (f x) (flatMap f xs), flat-append f xs ys)
+
+words-length : (ws : List ℕ) → length (flatMap wordBytes ws) ≡ 4 * length ws
+unfolding flatMap wordBytes
+words-length [] = refl
+words-length (w ∷ ws) = omega (arith, words-length ws)
+
+entries-length : (es : List ℤ) → length (flatMap (λ e. halfBytes (pattern e)) es) ≡ 2 * length es
+unfolding flatMap halfBytes
+entries-length [] = refl
+entries-length (e ∷ es) = omega (arith, entries-length es)
+
+offset-length : (o : List ℤ) → length (framed (offsetLine o)) ≡ 4 * length o + 3
+unfolding offsetLine
+offset-length o = omega (arith, framed-length (offsetLine o), entries-length o)
+
+offsets-length : (n : ℕ) (f : ℕ → List ℤ) → ((k : ℕ) → length (f k) ≤ 4) → length (flatMap framed (map offsetLine (tabulate n f))) ≤ 19 * n
+unfolding flatMap tabulate
+offsets-length zero f few = omega arith
+offsets-length (suc n) f few =
+    omega (
+      arith,
+      length-append (framed (offsetLine (f 0))) (flatMap framed (map offsetLine (tabulate n (λ i. f (suc i))))),
+      offset-length (f 0),
+      few 0,
+      offsets-length n (λ i. f (suc i)) (λ k. few (suc k)),
+    )
+
+capacities-length : (n : ℕ) (f : ℕ → ℕ) → length (flatMap framed (map capacityLine (tabulate n f))) ≡ 11 * n
+unfolding flatMap tabulate capacityLine wordBytes
+capacities-length zero f = refl
+capacities-length (suc n) f =
+    omega (
+      arith,
+      length-append (framed (capacityLine (f 0))) (flatMap framed (map capacityLine (tabulate n (λ i. f (suc i))))),
+      framed-length (capacityLine (f 0)),
+      capacities-length n (λ i. f (suc i)),
+    )
+
+kernel-length : (k : Kernel) → length (flatMap framed (kernelLine k ∷ [])) ≤ 21
+unfolding flatMap framed digitsOf kernelLine wordBytes
+kernel-length kernel.Raw = omega arith
+kernel-length kernel.Difference = omega arith
+kernel-length (kernel.Scaled f) = omega arith
+kernel-length (kernel.Blend g) = omega arith
+
+-- An `01` line of 37 characters, 32 `02` lines of 19, 31 `03` lines of 11 and an `04` line of 21.
+pub sheet-length : (c : Chain) → c .grid .dims ≤ 4 → c .window .count ≤ 32 → length (sheetOf c) ≤ 1007
+unfolding sheetOf chainLines flatMap gridLine sizesOf offsetsOf offsetOf capacitiesOf
+sheet-length c dims count =
+    let offsets = map offsetLine (offsetsOf (c .grid .dims) (c .window)) in
+    let capacities = map capacityLine (capacitiesOf c) in
+    let kernel = kernelLine (c .kernel) ∷ [] in
+    omega (
+      arith,
+      length-append (framed (gridLine (c .grid))) (flatMap framed (offsets ++ (capacities ++ kernel))),
+      framed-length (gridLine (c .grid)),
+      words-length (sizesOf (c .grid)),
+      length-tabulate (c .grid .dims) (λ d. getD (c .grid .sizes) d 0),
+      flat-append framed offsets (capacities ++ kernel),
+      flat-append framed capacities kernel,
+      offsets-length (c .window .count) (offsetOf (c .grid .dims) (c .window)) (λ k. omega (arith, length-tabulate (c .grid .dims) (λ d. entryOf (c .window) k d))),
+      capacities-length (c .window .count - 1) (λ k. capacityOf c k),
+      kernel-length (c .kernel),
+    )

@@ -1,0 +1,148 @@
+-- What the programs write of a whole input, whatever blocks it arrives in and whatever they are lent.
+use Prim.Native.Nat.{ℕ, zero, suc, _+_, _*_, _≤_, _<_}
+use mathlib.Core.Bool.{true, false, cond, _&&_}
+use mathlib.Core.List.{List, [], _∷_, _++_, flatten}
+use mathlib.Core.Path.{_≡_}
+use lib.Dec.{eqb}
+use lib.ListN.{length, take}
+use Rattle.model.specs.declared.Arriving.{Arriving}
+use Rattle.model.specs.Answers.{byVerdict}
+use Rattle.model.specs.Arriving.{opened, arrive}
+use Rattle.model.specs.Programs.{planText, runText}
+use Rattle.report.specs.Texts.{laidIfFits}
+use Rattle.driver.specs.declared.Job.{Job}
+use Rattle.driver.specs.Steps.{begun, advanced, closed, wantsInput, over, planAnswer}
+
+-- The loop of `run` before a turn: the block at hand, of which the characters before `at` were looked at; the blocks that further reads give; what was lent; and all
+-- that was written so far.
+pub record Loop : Type 0 where
+  pub job : Job
+  pub block : List ℕ
+  pub at : ℕ
+  pub blocks : List (List ℕ)
+  pub store : List ℕ
+  pub cells : List ℕ
+  pub words : List ℕ
+  pub text : List ℕ
+  pub written : List ℕ
+
+-- The loop with another job and block.
+abbrev pub withBlock : Loop → Job → (block : List ℕ) → (blocks : List (List ℕ)) → Loop
+withBlock l j block blocks = record {
+  job = j;
+  block = block;
+  at = 0;
+  blocks = blocks;
+  store = l .store;
+  cells = l .cells;
+  words = l .words;
+  text = l .text;
+  written = l .written;
+}
+
+-- A read. Where no block is left the input has ended.
+abbrev pub received : List (List ℕ) → Loop → Loop
+received [] l = withBlock l (closed (l .job)) [] []
+received (b ∷ bs) l = withBlock l (l .job) b bs
+
+-- A read only where the block is used up and nothing is left to do without more input.
+unfoldable pub supplied : Loop → Loop
+supplied l = cond (eqb (l .at) (length (l .block)) && wantsInput (l .job)) (received (l .blocks) l) l
+
+-- A step, and its text written.
+unfoldable pub stepped : Loop → Loop
+stepped l =
+    let s = advanced (l .job) (l .block) (l .at) (l .store) (l .cells) (l .words) (l .text) in
+    record {
+      job = s .step .job;
+      block = l .block;
+      at = s .step .at;
+      blocks = l .blocks;
+      store = s .store;
+      cells = s .cells;
+      words = s .words;
+      text = s .text;
+      written = l .written ++ take (s .step .bytes) (s .text);
+    }
+
+unfoldable pub turn : Loop → Loop
+turn l = cond (over (l .job .stage)) l (stepped (supplied l))
+
+unfoldable pub turns : ℕ → Loop → Loop
+turns zero l = l
+turns (suc n) l = turns n (turn l)
+
+-- Places enough: a store for every accepted chain, a cell, the words of a firing, and the text of its line.
+pub record Lent : Type 0 where
+  pub store : List ℕ
+  pub cells : List ℕ
+  pub words : List ℕ
+  pub text : List ℕ
+  pub places : 16384 ≤ length store
+  pub some-cells : 1 ≤ length cells
+  pub some-words : 32 ≤ length words
+  pub some-text : 267 ≤ length text
+
+-- No block is empty: a read that gives no character is the end of the input.
+abbrev pub NonEmpty : List (List ℕ) → Type 0
+NonEmpty [] = Unit {0}
+NonEmpty (b ∷ bs) = (0 < length b) × NonEmpty bs
+
+-- Before the first turn.
+unfoldable pub startOf : (blocks : List (List ℕ)) → Lent → Loop
+startOf blocks lent = record {
+  job = begun;
+  block = [];
+  at = 0;
+  blocks = blocks;
+  store = lent .store;
+  cells = lent .cells;
+  words = lent .words;
+  text = lent .text;
+  written = [];
+}
+
+-- The program is over.
+abbrev pub Over : Loop → Type 0
+Over l = over (l .job .stage) ≡ true
+
+-- No run of `run` has more turns. A run makes at most 33554432 clocks: 32 filters times 1048576 cells.
+abbrev pub mostTurns : (input : List ℕ) → ℕ
+mostTurns input = 3 * (length input + 33554432) + 2
+
+-- Where `run` is over it has written what document 01 says of the whole input.
+abbrev pub Writes : Type 0
+Writes = (blocks : List (List ℕ)) → NonEmpty blocks → (lent : Lent) (n : ℕ)
+    → Over (turns n (startOf blocks lent)) → turns n (startOf blocks lent) .written ≡ runText (flatten blocks)
+
+-- And it ends.
+abbrev pub Ends : Type 0
+Ends = (blocks : List (List ℕ)) → NonEmpty blocks → (lent : Lent) → Over (turns (mostTurns (flatten blocks)) (startOf blocks lent))
+
+-- At all times what it has written is the first part of that.
+pub record FirstPart (part whole : List ℕ) : Type 0 where
+  pub rest : List ℕ
+  pub joined : part ++ rest ≡ whole
+
+abbrev pub NothingElse : Type 0
+NothingElse = (blocks : List (List ℕ)) → NonEmpty blocks → (lent : Lent) (n : ℕ) → FirstPart (turns n (startOf blocks lent) .written) (runText (flatten blocks))
+
+-- `plan` takes block after block, up to the first that is turned back.
+unfoldable pub planTaken : Arriving → List (List ℕ) → Arriving
+planTaken a [] = a
+planTaken a (b ∷ bs) =
+    let next = arrive false a b in
+    let further = planTaken next bs in
+    byVerdict (next .verdict) further (λ x. next)
+
+-- What it lays into its text at the end is what document 01 says of the whole input. No chain sheet has more characters than 1007.
+abbrev pub PlanWrites : Type 0
+PlanWrites = (blocks : List (List ℕ)) (text : List ℕ) → 1007 ≤ length text
+    → take (laidIfFits (planAnswer (planTaken opened blocks)) text .chars) (laidIfFits (planAnswer (planTaken opened blocks)) text .output) ≡ planText (flatten blocks)
+
+-- All of them.
+pub record ProgramLaws : Type 0 where
+  pub writes : Writes
+  pub ends : Ends
+  pub nothing-else : NothingElse
+  pub plan-writes : PlanWrites

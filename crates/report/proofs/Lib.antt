@@ -1,0 +1,4 @@
+pub mod DigitLaws
+pub mod FiringLaws
+pub mod RoomLaws
+pub mod CallLaws

@@ -1,0 +1,75 @@
+// Runs the chain sheet on standard input over the cells behind it: writes a `10` line for each firing, then `11`, or `1F` and the number of the refusal.
+use driver::Job;
+use libc::STDIN_FILENO;
+use libc::STDOUT_FILENO;
+ghost use Prim.Native.Nat.{_≤_};
+ghost use lib.ListN.{length};
+ghost use Rattle.driver.specs.Steps.{Within};
+
+// The job, and of the block at hand the first `len` bytes, from `at` on.
+struct Ready {
+    job: Job,
+    at: usize,
+    len: usize,
+}
+
+// Reads, where the block is used up and nothing is left to do without more input. A read that gives nothing is the end of the input.
+fn supply(job: Job, at: usize, len: usize, block: &mut [u8]) -> Ready
+    requires { ⌜ len ≤ length (now block) ⌝ }
+    ensures { λ r. ⌜ Within (r .len) (now (block .exit)) ⌝ }
+{
+    if at != len {
+        return Ready { job, at, len };
+    }
+    if !driver::wants_input(job) {
+        return Ready { job, at, len };
+    }
+    let got = libc::read(STDIN_FILENO, block);
+    let n = io::count(got, block);
+    if n == 0 {
+        return Ready {
+            job: driver::close(job),
+            at: 0,
+            len: 0,
+        };
+    }
+    Ready { job, at: 0, len: n }
+}
+
+fn main() {
+    let mut block = [0u8; 65536];
+    let mut store = [0u32; 16384];
+    let mut cells = [0u32; 6144];
+    let mut words = [0u32; 8192];
+    let mut text = [0u8; 155648];
+    let mut job = driver::begin();
+    let mut at: usize = 0;
+    let mut len: usize = 0;
+    // A loop has to end, and nothing says that the input does: no run has so many turns.
+    let mut turns = u64::MAX;
+    while 0 < turns {
+        turns -= 1;
+        if driver::is_over(job) {
+            return;
+        }
+        let s = supply(job, at, len, &mut block);
+        len = s.len;
+        let ready = s.job;
+        let t = driver::advance(
+            ready,
+            &block[..len],
+            s.at,
+            &mut store,
+            &mut cells,
+            &mut words,
+            &mut text,
+        );
+        at = t.at;
+        let next = t.job;
+        job = next;
+        let bytes = t.bytes;
+        if !io::write_all(STDOUT_FILENO, &text[..bytes]) {
+            return;
+        }
+    }
+}
