@@ -15,7 +15,7 @@ use Rattle.model.specs.Kernels.{width}
 use Rattle.model.specs.Running.{Run, runOf}
 use Rattle.runner.specs.Runs.{ranOf}
 use Rattle.report.specs.Texts.{laid, roomFor, firingsLaid}
-use Rattle.driver.specs.declared.Job.{Job}
+use Rattle.stages.specs.declared.Job.{Job}
 use Rattle.driver.specs.Steps.{left, partRun, partLeft, KeptBehind, jobAfter, ranOn}
 use Rattle.driver.proofs.CellLaws.{lent-at-most}
 

@@ -10,11 +10,12 @@ use Rattle.intake.specs.declared.CellsTaken.{CellsTaken}
 use Rattle.intake.specs.declared.LineTaken.{LineTaken}
 use Rattle.intake.specs.Taken.{lineTaken, took, cellsTaken}
 use Rattle.report.specs.Texts.{laid, laidIfFits}
-use Rattle.driver.specs.declared.Job.{Job}
-use Rattle.driver.specs.declared.Stage.{Stage}
-use Rattle.driver.specs.declared.Stage.the-variants as stage
+use Rattle.stages.specs.declared.Job.{Job}
+use Rattle.stages.specs.declared.Stage.{Stage}
+use Rattle.stages.specs.declared.Stage.the-variants as stage
 use Rattle.driver.specs.declared.Step.{Step}
-use Rattle.driver.specs.Steps.{Left, left, staged, sheetStage, sheetRead, cellsStage, cellsRead, LeavesCells, ranOn, lastLine, advancedBy, advanced}
+use Rattle.stages.specs.Stages.{staged, sheetStage, cellsStage}
+use Rattle.driver.specs.Steps.{Left, left, sheetRead, cellsRead, LeavesCells, ranOn, lastLine, advancedBy, advanced}
 
 pub sheet-step : (j : Job) (block : List ℕ) (at : ℕ) (t : LineTaken) (s : Stage) → t ≡ lineTaken true (j .arriving) block at → s ≡ sheetStage (t .arriving)
     → _≡_ {A = Step}

@@ -1,116 +1,22 @@
-// What the programs do between reading and writing.
-use model::Answer;
-use model::Arriving;
-use model::CellLine;
-use model::CellsPassed;
+// The program `run`, step by step: what it does between reading and writing.
 use model::Chain;
-use model::Counts;
-use model::FiringsMade;
-use model::Outcome;
 use model::Ran;
-use model::Refusal;
-use model::Request;
 use model::State;
-use model::Verdict;
+use stages::Job;
+use stages::Stage;
 ghost use mathlib.Core.Path.{_≡_};
 ghost use Prim.Native.Nat.{_+_, _≤_, min};
 ghost use lib.ListN.{length};
 ghost use Rattle.model.specs.Answers.{answerCounts};
 ghost use Rattle.model.specs.Kernels.{width};
-ghost use Rattle.model.specs.Values.{requestOf};
-ghost use Rattle.report.specs.Texts.{laid, laidIfFits};
-ghost use Rattle.driver.specs.Steps.{begun, staged, sheetStage, sheetRead, cellsStage, left, LeavesCells, answerStage, partRun, partLeft, KeptBehind, jobAfter, ranOn};
-ghost use Rattle.driver.specs.Steps.{advanced, closed, wantsInput, over, planAnswer, Within};
-
-// What a run of the program `run` does next.
-pub enum Stage {
-    // It reads lines of the chain sheet.
-    Sheet,
-    // It reads `05` lines.
-    Cells,
-    // Cells are at hand: the run goes on.
-    Clocks,
-    // The `11` line is due, with this byte.
-    Ending(u8),
-    // The `1F` line is due.
-    Refusing(Refusal),
-    // Nothing.
-    Over,
-}
-
-// Where a run of the program stands: the sheet as it arrives; the run's state and clocks; the line that is open where cells are read; and of the cells at hand
-// those from `from` to before `count` that the run has not taken.
-pub struct Job {
-    pub stage: Stage,
-    pub arriving: Arriving,
-    pub state: State,
-    pub clocks: u32,
-    pub line: CellLine,
-    pub from: usize,
-    pub count: usize,
-}
+ghost use Rattle.report.specs.Texts.{Within};
+ghost use Rattle.driver.specs.Steps.{sheetRead, left, LeavesCells, partRun, partLeft, KeptBehind, jobAfter, ranOn, advanced};
 
 // What a step leaves: the job, the place in the block behind what was looked at, and how many characters of text are to be written.
 pub struct Step {
     pub job: Job,
     pub at: usize,
     pub bytes: usize,
-}
-
-pub fn begin() -> Job
-    ensures { λ r. ⌜ r ≡ begun ⌝ }
-{
-    Job {
-        stage: Stage::Sheet,
-        arriving: intake::open(),
-        state: State {
-            passed: [CellsPassed(0); 32],
-            fired: FiringsMade(0),
-        },
-        clocks: 0,
-        line: intake::new_line(),
-        from: 0,
-        count: 0,
-    }
-}
-
-fn staged(j: Job, stage: Stage) -> Job
-    ensures { λ r. ⌜ r ≡ staged j stage ⌝ }
-{
-    let arriving = j.arriving;
-    let state = j.state;
-    let line = j.line;
-    Job {
-        stage,
-        arriving,
-        state,
-        clocks: j.clocks,
-        line,
-        from: j.from,
-        count: j.count,
-    }
-}
-
-// Where the sheet has been read to: turned back, still open, or at its `04`, where the chain is judged.
-fn sheet_stage(a: Arriving) -> Stage
-    ensures { λ r. ⌜ r ≡ sheetStage a ⌝ }
-{
-    let v = a.verdict;
-    match v {
-        Verdict::Refused(n) => Stage::Refusing(n),
-        Verdict::Accepted => {
-            let r = a.reading;
-            if r.stage != 2 {
-                return Stage::Sheet;
-            }
-            let chain = r.chain;
-            let judged = planner::judge_chain(chain);
-            match judged {
-                Verdict::Refused(n) => Stage::Refusing(n),
-                Verdict::Accepted => Stage::Cells,
-            }
-        }
-    }
 }
 
 fn read_sheet(j: Job, block: &[u8], at: usize) -> Step
@@ -123,7 +29,7 @@ fn read_sheet(j: Job, block: &[u8], at: usize) -> Step
     let line = j.line;
     Step {
         job: Job {
-            stage: sheet_stage(arriving),
+            stage: stages::sheet_stage(arriving),
             arriving,
             state,
             clocks: j.clocks,
@@ -133,19 +39,6 @@ fn read_sheet(j: Job, block: &[u8], at: usize) -> Step
         },
         at: t.at,
         bytes: 0,
-    }
-}
-
-// Cells first; a line that was turned back only where none is left.
-fn cells_stage(count: usize, v: Verdict) -> Stage
-    ensures { λ r. ⌜ r ≡ cellsStage count v ⌝ }
-{
-    if 0 < count {
-        return Stage::Clocks;
-    }
-    match v {
-        Verdict::Refused(n) => Stage::Refusing(n),
-        Verdict::Accepted => Stage::Cells,
     }
 }
 
@@ -160,7 +53,7 @@ fn read_cells(j: Job, block: &[u8], at: usize, cells: &mut [u32]) -> Step
     let state = j.state;
     Step {
         job: Job {
-            stage: cells_stage(t.count, v),
+            stage: stages::cells_stage(t.count, v),
             arriving,
             state,
             clocks: j.clocks,
@@ -170,40 +63,6 @@ fn read_cells(j: Job, block: &[u8], at: usize, cells: &mut [u32]) -> Step
         },
         at: t.at,
         bytes: 0,
-    }
-}
-
-fn answer_stage(a: Answer) -> Stage
-    ensures { λ r. ⌜ r ≡ answerStage a ⌝ }
-{
-    match a {
-        Answer::Refused(n) => Stage::Refusing(n),
-        Answer::Ended(o) => match o {
-            Outcome::Done(_) => Stage::Ending(0),
-            Outcome::Stalled(_) => Stage::Ending(1),
-            Outcome::Starved(_) => Stage::Cells,
-            Outcome::Full(_) => Stage::Clocks,
-            Outcome::Spent(_) => Stage::Clocks,
-        },
-    }
-}
-
-fn counts_of(a: Answer) -> Counts
-    ensures { λ r. ⌜ r ≡ answerCounts a ⌝ }
-{
-    match a {
-        Answer::Refused(_) => Counts {
-            cells: 0,
-            firings: 0,
-            clocks: 0,
-        },
-        Answer::Ended(o) => match o {
-            Outcome::Done(c) => c,
-            Outcome::Stalled(c) => c,
-            Outcome::Starved(c) => c,
-            Outcome::Full(c) => c,
-            Outcome::Spent(c) => c,
-        },
     }
 }
 
@@ -259,9 +118,9 @@ fn ran_on(j: Job, ran: Ran, from: usize, to: usize) -> Job
     let state = ran.state;
     let arriving = j.arriving;
     let line = j.line;
-    let c = counts_of(answer);
+    let c = stages::counts_of(answer);
     Job {
-        stage: answer_stage(answer),
+        stage: stages::answer_stage(answer),
         arriving,
         state,
         clocks: std::num::wrapping_add_u32(j.clocks, c.clocks),
@@ -293,7 +152,7 @@ fn run_on(
     let ran = run_part(chain, state, store, cells, from, to, words, places);
     let fired = state.fired;
     let answer = ran.answer;
-    let c = counts_of(answer);
+    let c = stages::counts_of(answer);
     let bytes = report::put_firings(size, fired.0, c.firings, words, text);
     Step {
         job: ran_on(j, ran, from, to),
@@ -323,7 +182,7 @@ pub fn advance(
         Stage::Ending(way) => {
             let bytes = report::put_end(way, j.clocks, text);
             Step {
-                job: staged(j, Stage::Over),
+                job: stages::staged(j, Stage::Over),
                 at,
                 bytes,
             }
@@ -331,7 +190,7 @@ pub fn advance(
         Stage::Refusing(n) => {
             let bytes = report::put_refusal(n, text);
             Step {
-                job: staged(j, Stage::Over),
+                job: stages::staged(j, Stage::Over),
                 at,
                 bytes,
             }
@@ -341,110 +200,5 @@ pub fn advance(
             at,
             bytes: 0,
         },
-    }
-}
-
-// At the end of the input: a line that is open is turned back; so is a sheet that lacks lines; a run that wants cells is starved.
-pub fn close(j: Job) -> Job
-    ensures { λ r. ⌜ r ≡ closed j ⌝ }
-{
-    let stage = j.stage;
-    match stage {
-        Stage::Sheet => {
-            let a = j.arriving;
-            if a.begun {
-                return staged(j, Stage::Refusing(Refusal::Malformed));
-            }
-            staged(j, Stage::Refusing(Refusal::Misplaced))
-        }
-        Stage::Cells => {
-            let l = j.line;
-            if l.begun {
-                return staged(j, Stage::Refusing(Refusal::Malformed));
-            }
-            staged(j, Stage::Ending(2))
-        }
-        Stage::Clocks => j,
-        Stage::Ending(_) => j,
-        Stage::Refusing(_) => j,
-        Stage::Over => j,
-    }
-}
-
-// Nothing is left to do without more input.
-pub fn wants_input(j: Job) -> bool
-    ensures { λ r. ⌜ r ≡ wantsInput j ⌝ }
-{
-    let stage = j.stage;
-    match stage {
-        Stage::Sheet => true,
-        Stage::Cells => {
-            let l = j.line;
-            let v = l.verdict;
-            match v {
-                Verdict::Accepted => true,
-                Verdict::Refused(_) => false,
-            }
-        }
-        Stage::Clocks => false,
-        Stage::Ending(_) => false,
-        Stage::Refusing(_) => false,
-        Stage::Over => false,
-    }
-}
-
-pub fn is_over(j: Job) -> bool
-    ensures { λ r. ⌜ r ≡ over (j .stage) ⌝ }
-{
-    let stage = j.stage;
-    match stage {
-        Stage::Over => true,
-        Stage::Sheet => false,
-        Stage::Cells => false,
-        Stage::Clocks => false,
-        Stage::Ending(_) => false,
-        Stage::Refusing(_) => false,
-    }
-}
-
-fn request_of(c: Chain) -> Request
-    ensures { λ r. ⌜ r ≡ requestOf c ⌝ }
-{
-    let grid = c.grid;
-    let window = c.window;
-    let kernel = c.kernel;
-    Request {
-        grid,
-        window,
-        kernel,
-    }
-}
-
-// What `plan` writes at the end of its input.
-pub fn plan_answer(a: Arriving, text: &mut [u8]) -> usize
-    ensures { λ r. ⌜ laid r (now (text .exit)) ≡ laidIfFits (planAnswer a) (now (text .entry)) ⌝ }
-    ensures { λ r. ⌜ Within r (now (text .exit)) ⌝ }
-{
-    let s = intake::finish(a);
-    let v = s.verdict;
-    match v {
-        Verdict::Refused(n) => report::put_refusal(n, text),
-        Verdict::Accepted => {
-            let r = s.reading;
-            if r.stage != 2 {
-                return report::put_refusal(Refusal::Misplaced, text);
-            }
-            let chain = r.chain;
-            let p = planner::plan(request_of(chain));
-            let judged = p.verdict;
-            match judged {
-                Verdict::Refused(n) => report::put_refusal(n, text),
-                Verdict::Accepted => {
-                    let planned = p.chain;
-                    let w = reader::write_chain(planned, text);
-                    w.bytes
-                }
-            }
-        }
     }
 }

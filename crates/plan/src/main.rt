@@ -23,6 +23,6 @@ fn main() {
             Verdict::Refused(_) => break,
         }
     }
-    let bytes = driver::plan_answer(arriving, &mut text);
+    let bytes = answer::plan_answer(arriving, &mut text);
     io::write_all(STDOUT_FILENO, &text[..bytes]);
 }

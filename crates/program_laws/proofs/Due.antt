@@ -28,10 +28,10 @@ use Rattle.model.specs.Programs.{endLine, refusalText, firingsText, endText, ce
 use Rattle.demands.proofs.Accepts.{accepted-chain}
 use Rattle.demands.proofs.Between.{fresh-reached}
 use Rattle.round.proofs.AsItArrives.{infront, some}
-use Rattle.driver.specs.declared.Job.{Job}
-use Rattle.driver.specs.declared.Stage.{Stage}
-use Rattle.driver.specs.declared.Stage.the-variants as stage
-use Rattle.driver.specs.Steps.{fresh, sheetStage, cellsStage}
+use Rattle.stages.specs.declared.Job.{Job}
+use Rattle.stages.specs.declared.Stage.{Stage}
+use Rattle.stages.specs.declared.Stage.the-variants as stage
+use Rattle.stages.specs.Stages.{fresh, sheetStage, cellsStage}
 use Rattle.program_laws.proofs.Sheets.{textBehind, Midway, Read, further, back, whole, chain-back, chain-runs}
 use Rattle.program_laws.proofs.CellLines.{Gives, is-open, is-back}
 use Rattle.program_laws.proofs.Going.{Gone, still, goesOn, endingAt, starved-stops}

@@ -27,7 +27,7 @@ use Rattle.model.proofs.Tests.{neither}
 use Rattle.demands.proofs.Accepts.{accepted-chain, passes}
 use Rattle.demands.proofs.Plans.{plan-demand}
 use Rattle.round.proofs.AsItArrives.{as-it-arrives, in-pieces, stays}
-use Rattle.driver.specs.Steps.{planAnswer}
+use Rattle.answer.specs.Answer.{planAnswer}
 use Rattle.program_laws.specs.Whole.{planTaken, PlanWrites}
 use Rattle.program_laws.proofs.Texts.{laid-fitting, refusal-length}
 use Rattle.program_laws.proofs.SheetLength.{sheet-length}

@@ -19,10 +19,11 @@ use Rattle.model.specs.Programs.{firingsText, endText}
 use Rattle.demands.proofs.Accepts.{Accepted, accepted-chain}
 use Rattle.demands.proofs.CallEnds.{outcome-counts}
 use Rattle.report.specs.Texts.{roomFor, firingsLaid}
-use Rattle.driver.specs.declared.Job.{Job}
-use Rattle.driver.specs.declared.Stage.{Stage}
-use Rattle.driver.specs.declared.Stage.the-variants as stage
-use Rattle.driver.specs.Steps.{Left, left, outcomeStage, answerStage, ranOn}
+use Rattle.stages.specs.declared.Job.{Job}
+use Rattle.stages.specs.declared.Stage.{Stage}
+use Rattle.stages.specs.declared.Stage.the-variants as stage
+use Rattle.stages.specs.Stages.{outcomeStage, answerStage}
+use Rattle.driver.specs.Steps.{Left, left, ranOn}
 use Rattle.program_laws.specs.Whole.{Loop}
 use Rattle.program_laws.proofs.Texts.{words-only, firings-laid, room-enough}
 use Rattle.program_laws.proofs.Runs.{Stands, Stopped, at-done, at-stalled, at-starved, at-spent, at-full, Went, went, clocks-few, fired-few}

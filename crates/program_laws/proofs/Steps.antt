@@ -17,10 +17,11 @@ use Rattle.model.specs.Running.{Ending}
 use Rattle.model.specs.Arriving.{arrive, throughFeed, CellsRead, readCells}
 use Rattle.model.specs.Programs.{runText}
 use Rattle.intake.specs.Taken.{lineTaken, cellsTaken}
-use Rattle.driver.specs.declared.Job.{Job}
-use Rattle.driver.specs.declared.Stage.{Stage}
-use Rattle.driver.specs.declared.Stage.the-variants as stage
-use Rattle.driver.specs.Steps.{Left, left, sheetStage, sheetRead, cellsStage, cellsRead, lastLine}
+use Rattle.stages.specs.declared.Job.{Job}
+use Rattle.stages.specs.declared.Stage.{Stage}
+use Rattle.stages.specs.declared.Stage.the-variants as stage
+use Rattle.stages.specs.Stages.{sheetStage, cellsStage}
+use Rattle.driver.specs.Steps.{Left, left, sheetRead, cellsRead, lastLine}
 use Rattle.program_laws.specs.Whole.{Loop, NonEmpty}
 use Rattle.program_laws.proofs.Sheets.{line-read, piece-within, piece-some}
 use Rattle.program_laws.proofs.CellLines.{cells-read, one-at-least, none-behind}

@@ -16,10 +16,11 @@ use Rattle.model.specs.Frames.{framed}
 use Rattle.model.specs.Running.{Starved}
 use Rattle.model.specs.Programs.{endLine, refusalText, endText, runText}
 use Rattle.sheet_laws.proofs.Cases.{by-bool, by-lt, never}
-use Rattle.driver.specs.declared.Job.{Job}
-use Rattle.driver.specs.declared.Stage.{Stage}
-use Rattle.driver.specs.declared.Stage.the-variants as stage
-use Rattle.driver.specs.Steps.{Left, staged, advancedBy, advanced, closedBy, closed, wantsBy, wantsInput, over}
+use Rattle.stages.specs.declared.Job.{Job}
+use Rattle.stages.specs.declared.Stage.{Stage}
+use Rattle.stages.specs.declared.Stage.the-variants as stage
+use Rattle.stages.specs.Stages.{staged, closedBy, closed, wantsBy, wantsInput, over}
+use Rattle.driver.specs.Steps.{Left, advancedBy, advanced}
 use Rattle.program_laws.specs.Whole.{FirstPart, Loop, withBlock, received, supplied, stepped, turn, turns, Lent, NonEmpty, startOf}
 use Rattle.program_laws.proofs.Sheets.{opened-midway, sheet-cut}
 use Rattle.program_laws.proofs.CellLines.{input-ends}

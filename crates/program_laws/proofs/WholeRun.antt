@@ -30,7 +30,7 @@ use Rattle.demands.proofs.Looks.{Looked, is-done, is-spent, is-starved, is-stal
 use Rattle.demands.proofs.Traces.{Traced, traced-ran}
 use Rattle.demands.proofs.Between.{Setting, Reached, fresh-reached, now, beginning, ending, clocks, counted-call, lent-length}
 use Rattle.demands.proofs.CallEnds.{why}
-use Rattle.driver.specs.Steps.{fresh}
+use Rattle.stages.specs.Stages.{fresh}
 use Rattle.program_laws.proofs.Going.{Gone, goesOn, endingAt, gone-same, done-stops, starved-stops, stalled-stops}
 use Rattle.program_laws.proofs.Texts.{words-only}
 use Rattle.program_laws.proofs.Calls.{end-gone, end-taken, end-fired, end-words, end-length}

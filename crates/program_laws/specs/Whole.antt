@@ -10,8 +10,10 @@ use Rattle.model.specs.Answers.{byVerdict}
 use Rattle.model.specs.Arriving.{opened, arrive}
 use Rattle.model.specs.Programs.{planText, runText}
 use Rattle.report.specs.Texts.{laidIfFits}
-use Rattle.driver.specs.declared.Job.{Job}
-use Rattle.driver.specs.Steps.{begun, advanced, closed, wantsInput, over, planAnswer}
+use Rattle.stages.specs.declared.Job.{Job}
+use Rattle.stages.specs.Stages.{begun, closed, wantsInput, over}
+use Rattle.answer.specs.Answer.{planAnswer}
+use Rattle.driver.specs.Steps.{advanced}
 
 -- The loop of `run` before a turn: the block at hand, of which the characters before `at` were looked at; the blocks that further reads give; what was lent; and all
 -- that was written so far.

@@ -1,9 +1,10 @@
 -- Text laid into a lent output.
-use Prim.Native.Nat.{ℕ, _+_, _-_, _*_, _/_, min}
+use Prim.Native.Nat.{ℕ, _+_, _-_, _*_, _/_, _≤_, min}
 use mathlib.Core.Bool.{cond, _||_}
 use mathlib.Core.List.{List, _++_}
+use mathlib.Core.Path.{_≡_}
 use lib.Dec.{eqb, ltb}
-use lib.ListN.{length, drop}
+use lib.ListN.{length, take, drop}
 use Rattle.model.specs.Programs.{firingsText}
 
 -- How many characters were written, and the output as it is left.
@@ -38,3 +39,7 @@ fitting size index n words room =
 -- Their lines.
 unfoldable pub firingsLaid : (size index n : ℕ) → (words output : List ℕ) → Laid
 firingsLaid size index n words output = laidOver (firingsText size index (fitting size index n (length words) (length output)) words) output
+
+-- The first n characters of a text are there: what lending them as a part of it asks.
+abbrev pub Within : ℕ → (text : List ℕ) → Type 0
+Within n text = (n ≤ length text) × (n ≡ length (take n text))

@@ -1,10 +1,10 @@
 // Runs the chain sheet on standard input over the cells behind it: writes a `10` line for each firing, then `11`, or `1F` and the number of the refusal.
-use driver::Job;
 use libc::STDIN_FILENO;
 use libc::STDOUT_FILENO;
+use stages::Job;
 ghost use Prim.Native.Nat.{_≤_};
 ghost use lib.ListN.{length};
-ghost use Rattle.driver.specs.Steps.{Within};
+ghost use Rattle.report.specs.Texts.{Within};
 
 // The job, and of the block at hand the first `len` bytes, from `at` on.
 struct Ready {
@@ -21,14 +21,14 @@ fn supply(job: Job, at: usize, len: usize, block: &mut [u8]) -> Ready
     if at != len {
         return Ready { job, at, len };
     }
-    if !driver::wants_input(job) {
+    if !stages::wants_input(job) {
         return Ready { job, at, len };
     }
     let got = libc::read(STDIN_FILENO, block);
     let n = io::count(got, block);
     if n == 0 {
         return Ready {
-            job: driver::close(job),
+            job: stages::close(job),
             at: 0,
             len: 0,
         };
@@ -42,14 +42,14 @@ fn main() {
     let mut cells = [0u32; 6144];
     let mut words = [0u32; 8192];
     let mut text = [0u8; 155648];
-    let mut job = driver::begin();
+    let mut job = stages::begin();
     let mut at: usize = 0;
     let mut len: usize = 0;
     // A loop has to end, and nothing says that the input does: no run has so many turns.
     let mut turns = u64::MAX;
     while 0 < turns {
         turns -= 1;
-        if driver::is_over(job) {
+        if stages::is_over(job) {
             return;
         }
         let s = supply(job, at, len, &mut block);

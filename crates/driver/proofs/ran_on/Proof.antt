@@ -4,11 +4,6 @@ use Rattle.model.specs.declared.Counts.{Counts}
 use borrow.Author.Needs.{needs}
 use Rattle.driver.proofs.ran_on.Statement.{statement}
 use Rattle.driver.proofs.ran_on.Tie as tie
-use Rattle.driver.proofs.ran_on.Reads as reads
-use Rattle.driver.proofs.ran_on.Lts as lts
-use Rattle.driver.proofs.answer_stage.Reads as answer-stage-reads
-use Rattle.driver.proofs.counts_of.Reads as counts-of-reads
-use Rattle.std.proofs.num.wrapping_add_u32.Reads as wrapping-add-u32-reads
 
 counts-of-requires : tie.Need-counts-of-requires
 counts-of-requires c κs = search needs

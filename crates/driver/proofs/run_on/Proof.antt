@@ -5,15 +5,6 @@ use Rattle.driver.proofs.RunLaws.{within, run-step}
 use borrow.Author.Needs.{needs}
 use Rattle.driver.proofs.run_on.Statement.{statement}
 use Rattle.driver.proofs.run_on.Tie as tie
-use Rattle.driver.proofs.run_on.Reads as reads
-use Rattle.driver.proofs.run_on.Lts as lts
-use Rattle.driver.proofs.counts_of.Reads as counts-of-reads
-use Rattle.driver.proofs.firing_size.Reads as firing-size-reads
-use Rattle.driver.proofs.lesser.Reads as lesser-reads
-use Rattle.driver.proofs.ran_on.Reads as ran-on-reads
-use Rattle.driver.proofs.run_part.Reads as run-part-reads
-use Rattle.report.proofs.put_firings.Reads as put-firings-reads
-use Rattle.report.proofs.room_for.Reads as room-for-reads
 
 firing-size-requires : tie.Need-firing-size-requires
 firing-size-requires c κs = search needs

@@ -4,9 +4,6 @@ use Rattle.driver.proofs.RunLaws.{part-run}
 use borrow.Author.Needs.{needs}
 use Rattle.driver.proofs.run_part.Statement.{statement}
 use Rattle.driver.proofs.run_part.Tie as tie
-use Rattle.driver.proofs.run_part.Reads as reads
-use Rattle.driver.proofs.run_part.Lts as lts
-use Rattle.runner.proofs.run.Reads as run-reads
 
 mul-run : tie.Need-mul-run
 mul-run c = search needs

@@ -1,0 +1,19 @@
+-- What the program `plan` writes at the end of its input.
+use Prim.Native.Nat.{ℕ}
+use mathlib.Core.List.{List}
+use Rattle.model.specs.declared.Arriving.{Arriving}
+use Rattle.model.specs.Answers.{byVerdict}
+use Rattle.model.specs.Planning.{judgeRequest, plannedChain}
+use Rattle.model.specs.Values.{requestOf}
+use Rattle.model.specs.Reading.{endVerdict}
+use Rattle.model.specs.Writing.{sheetOf}
+use Rattle.model.specs.Arriving.{finished}
+use Rattle.model.specs.Programs.{refusalText}
+
+-- What `plan` writes of what arrived, at the end of its input.
+unfoldable pub planAnswer : Arriving → List ℕ
+planAnswer a =
+    let s = finished a in
+    let request = requestOf (s .reading .chain) in
+    let sheet = sheetOf (plannedChain request) in
+    byVerdict (endVerdict s (judgeRequest request)) sheet refusalText
