@@ -22,7 +22,7 @@ fn half(a: u8, b: u8) -> u16
 }
 
 // 16 bits in two's complement.
-fn entry(w: u16) -> i16
+pub fn entry(w: u16) -> i16
     ensures { λ r. ⌜ r ≡ signed w ⌝ }
 {
     if w < 32768 {

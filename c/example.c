@@ -1,0 +1,51 @@
+/* Plans and runs the sample of document 01, and prints what `plan` and `run` write for it. Build and run, from the repository's top:
+ *   rt staticlib zohmirka && cc -std=c99 -Wall -Wextra -o target/example c/example.c target/staticlib/libzohmirka.a && target/example */
+#include "zohmirka.h"
+
+#include <stdio.h>
+#include <string.h>
+
+int main(void) {
+    const char *request = "010100000005\n020000\n020003\n0400\n";
+    uint8_t sheet[ZOHMIRKA_SHEET_BYTES];
+    struct zohmirka_sheet planned = zohmirka_plan((const uint8_t *)request, strlen(request), sheet, sizeof sheet);
+    if (planned.refusal != 0) {
+        printf("1F%02X\n", (unsigned)planned.refusal);
+        return 1;
+    }
+    fwrite(sheet, 1, planned.bytes, stdout);
+
+    uint32_t chain[ZOHMIRKA_CHAIN_WORDS];
+    uint32_t refusal = zohmirka_read_chain(sheet, planned.bytes, chain, ZOHMIRKA_CHAIN_WORDS);
+    if (refusal != 0) {
+        printf("1F%02X\n", (unsigned)refusal);
+        return 1;
+    }
+    /* Raw writes a word for each reference. */
+    const uint32_t words = chain[5];
+
+    uint32_t state[ZOHMIRKA_STATE_WORDS] = {0};
+    uint32_t store[ZOHMIRKA_STORE_WORDS];
+    uint32_t out[ZOHMIRKA_FIRING_WORDS];
+    memset(store, 0, sizeof store);
+    uint32_t fired = 0, clocks = 0, cell = 1;
+    struct zohmirka_report report;
+    do {
+        /* One cell a call. */
+        report = zohmirka_run_chain(chain, ZOHMIRKA_CHAIN_WORDS, state, ZOHMIRKA_STATE_WORDS, store, ZOHMIRKA_STORE_WORDS, &cell, 1, out,
+                                    ZOHMIRKA_FIRING_WORDS, UINT32_MAX);
+        for (uint32_t i = 0; i < report.firings; i++) {
+            printf("10%08X", (unsigned)fired++);
+            for (uint32_t k = 0; k < words; k++) printf("%08X", (unsigned)out[i * words + k]);
+            printf("\n");
+        }
+        clocks += report.clocks;
+        cell += report.cells;
+    } while (report.outcome == ZOHMIRKA_STARVED && cell <= 5);
+    if (report.refusal != 0) {
+        printf("1F%02X\n", (unsigned)report.refusal);
+        return 1;
+    }
+    printf("11%02X%08X\n", report.outcome == ZOHMIRKA_DONE ? 0u : report.outcome == ZOHMIRKA_STALLED ? 1u : 2u, (unsigned)clocks);
+    return 0;
+}

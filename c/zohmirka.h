@@ -1,0 +1,102 @@
+/* Zohmirka: plans and runs reuse chains. The functions of target/staticlib/libzohmirka.a, which `rt staticlib zohmirka` writes, for x86-64 Linux.
+ *
+ * Rules for all functions:
+ * - A slice is a pointer and a number of elements. The pointer is never NULL, also where the number is 0, and is aligned for its type. The elements are there and
+ *   hold any values. A slice that is written overlaps no other slice of the call, and nobody else reads or writes it meanwhile.
+ * - Nothing else is asked: any bytes, words, lengths and allowances are taken. Each function returns, and keeps nothing: what there is to keep is in the slices.
+ * - `refusal` is document 01's number of what turned the input back first, or 0. After a refusal every slice is as before.
+ *
+ * Numbers: 1 a malformed line, 2 a line out of its order or missing, 3 dimension count, sizes or number of cells, 4 number of references, 5 two equal offsets,
+ * 6 no iteration, 7 difference or blend without a centre, 8 a factor that is infinite or not a number, 9 capacities summing above 16,384, 10 a store that is too
+ * short, 11 a state that is too short or fits no run of the chain, 12 what is to be written is longer than the slice lent for it.
+ */
+#ifndef ZOHMIRKA_H
+#define ZOHMIRKA_H
+
+#include <stddef.h>
+#include <stdint.h>
+
+#ifdef __cplusplus
+extern "C" {
+#endif
+
+/* The version of this interface. */
+#define ZOHMIRKA_VERSION 1
+
+/* No chain sheet has more bytes. */
+#define ZOHMIRKA_SHEET_BYTES 1007
+/* No chain that is accepted needs more words of store. */
+#define ZOHMIRKA_STORE_WORDS 16384
+/* No firing writes more words. Raw writes as many as there are references, the other kernels write one. */
+#define ZOHMIRKA_FIRING_WORDS 32
+
+/* A state is 33 words: the input counters of filters 0 to 31, then the firings made. All are 0 when fresh. */
+#define ZOHMIRKA_STATE_WORDS 33
+
+/* A chain is 168 words:
+ *   0           the dimension count
+ *   1 to 4      the sizes, slowest dimension first
+ *   5           the number of references, n
+ *   6 to 133    the offsets: entry d of filter k's offset, 16 bits in two's complement, at 6 + 4 * k + d
+ *   134 to 164  the capacities, FIFO 0 first
+ *   165         the kernel: 0 raw, 1 difference, 2 scaled, 3 blend
+ *   166, 167    scaled: the factor's bits, and 0; blend: the bits of a and of b; else 0 and 0
+ * Words past the counts are 0. */
+#define ZOHMIRKA_CHAIN_WORDS 168
+
+/* How a call ends. */
+enum {
+    ZOHMIRKA_DONE = 0,    /* every firing is made */
+    ZOHMIRKA_SPENT = 1,   /* the call has made as many clocks as its allowance */
+    ZOHMIRKA_STARVED = 2, /* every lent cell was taken */
+    ZOHMIRKA_STALLED = 3, /* nothing would move */
+    ZOHMIRKA_FULL = 4,    /* the next clock would fire, and too few output places are left */
+    ZOHMIRKA_REFUSED = 5  /* the call was refused */
+};
+
+struct zohmirka_sheet {
+    uint32_t refusal;
+    size_t bytes; /* written; 0 after a refusal */
+};
+
+struct zohmirka_report {
+    uint32_t refusal;
+    uint32_t outcome; /* as above: 5 exactly if `refusal` is not 0 */
+    uint32_t cells;   /* taken by this call; 0 after a refusal, as the next two */
+    uint32_t firings; /* made by this call */
+    uint32_t clocks;  /* made by this call */
+};
+
+/* ZOHMIRKA_VERSION of the library. */
+uint32_t zohmirka_version(void);
+
+/* Plans: the chain sheet of a request sheet goes to the first places of `sheet`, later places stay. Refusals: 1 to 9 of the request, then 12 if the chain sheet has
+ * more bytes than `sheet`. */
+struct zohmirka_sheet zohmirka_plan(const uint8_t *request, size_t request_len, uint8_t *sheet, size_t sheet_len);
+
+/* Judges a chain sheet, which ends with its `04` line: 1 to 9, or 0 if it is accepted. */
+uint32_t zohmirka_judge(const uint8_t *sheet, size_t sheet_len);
+
+/* A run call on the chain of a sheet. Refusals: 1 to 9 of the sheet, then 10, then 11.
+ *   state      33 words or more, as the last call left them; later words play no part and stay
+ *   store      as many words as the capacities' sum or more, as the last call left them; later words play no part and stay
+ *   cells      cells of the stream, the first one at the position that word 0 of the state says
+ *   out        gets what the firings of this call write, from the first place on; later places stay
+ *   allowance  the most clocks that this call may make */
+struct zohmirka_report zohmirka_run(const uint8_t *sheet, size_t sheet_len, uint32_t *state, size_t state_len, uint32_t *store, size_t store_len,
+                                    const uint32_t *cells, size_t cells_len, uint32_t *out, size_t out_len, uint32_t allowance);
+
+/* Reads a chain sheet: its chain goes to the first 168 places of `chain`, later places stay. Refusals: 1 to 9 of the sheet, then 12 if `chain` has fewer places. */
+uint32_t zohmirka_read_chain(const uint8_t *sheet, size_t sheet_len, uint32_t *chain, size_t chain_len);
+
+/* A run call on a chain given as words, for many short calls: no sheet is read. On what zohmirka_read_chain wrote of a sheet it does what zohmirka_run does on that
+ * sheet. Any other words are a chain too. Refusals: 3 to 9 of the chain, then 10, then 11. Fewer than 168 words are refused by 3; later words play no part; counts
+ * above 255 count as 255; of an entry the low 16 bits count; a kernel above 3 is refused by 8. */
+struct zohmirka_report zohmirka_run_chain(const uint32_t *chain, size_t chain_len, uint32_t *state, size_t state_len, uint32_t *store, size_t store_len,
+                                          const uint32_t *cells, size_t cells_len, uint32_t *out, size_t out_len, uint32_t allowance);
+
+#ifdef __cplusplus
+}
+#endif
+
+#endif

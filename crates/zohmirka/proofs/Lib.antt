@@ -1,0 +1,5 @@
+pub mod WordLaws
+pub mod CallLaws
+pub mod ReadChains
+pub mod ThereAndBack
+pub mod Promised

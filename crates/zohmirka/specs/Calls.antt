@@ -1,0 +1,98 @@
+-- What the functions for C and Rust answer, and what they leave in the slices that they are lent.
+use Prim.Native.Nat.{ℕ}
+use mathlib.Core.List.{List, [], _∷_}
+use lib.Dec.{ltb}
+use lib.ListN.{length}
+use Rattle.model.specs.Answers.{numberOf, verdictNumber, outcomeCase, answerNumber, answerCounts, check, firstOf, byVerdict}
+use Rattle.model.specs.Planning.{planOf}
+use Rattle.model.specs.Reading.{readRequest, readChain}
+use Rattle.model.specs.Writing.{writeOf}
+use Rattle.model.specs.Running.{runOf}
+use Rattle.model.specs.declared.Answer.{Answer}
+use Rattle.model.specs.declared.Answer.the-variants as answer
+use Rattle.model.specs.declared.Chain.{Chain}
+use Rattle.model.specs.declared.Refusal.the-variants as refusal
+use Rattle.model.specs.declared.State.{State}
+use Rattle.model.specs.declared.Verdict.{Verdict}
+use Rattle.model.specs.declared.Verdict.the-variants as verdict
+use Rattle.zohmirka.specs.declared.Report.{Report}
+use Rattle.zohmirka.specs.declared.Sheet.{Sheet}
+use Rattle.zohmirka.specs.Words.{stateIn, stateInto, chainIn, chainSize, chainWords, laid}
+
+abbrev pub version : ℕ
+version = 1
+
+-- Planning a request sheet into a chain sheet.
+pub record Plans : Type 0 where
+  pub answer : Sheet
+  pub sheet : List ℕ
+
+unfoldable pub planCall : (request sheet : List ℕ) → Plans
+planCall request sheet =
+    let read = readRequest request in
+    let wrote = writeOf (planOf (read .request) .chain) sheet in
+    byVerdict (read .verdict)
+    (record { answer = record { refusal = verdictNumber (wrote .answer .verdict); bytes = wrote .answer .bytes }; sheet = wrote .output })
+    (λ x. record { answer = record { refusal = numberOf x; bytes = 0 }; sheet = sheet })
+
+-- Judging a chain sheet.
+abbrev pub judgeCall : (sheet : List ℕ) → ℕ
+judgeCall sheet = verdictNumber (readChain sheet .verdict)
+
+-- The report of a run call.
+unfoldable pub caseOf : Answer → ℕ
+caseOf (answer.Ended o) = outcomeCase o
+caseOf (answer.Refused x) = 5
+
+unfoldable pub reportOf : Answer → Report
+reportOf a = record {
+  refusal = answerNumber a;
+  outcome = caseOf a;
+  cells = answerCounts a .cells;
+  firings = answerCounts a .firings;
+  clocks = answerCounts a .clocks;
+}
+
+-- What a run call leaves: its report, and the state, the store and the output that it was lent.
+pub record Runs : Type 0 where
+  pub report : Report
+  pub state : List ℕ
+  pub store : List ℕ
+  pub out : List ℕ
+
+unfoldable pub stateLeft : Answer → State → List ℕ → List ℕ
+stateLeft (answer.Ended o) s ws = stateInto s ws
+stateLeft (answer.Refused x) s ws = ws
+
+module _ (state store cells out : List ℕ) (allowance : ℕ) where
+  -- A call on the chain c.
+  unfoldable pub runValue : Chain → Runs
+  runValue c =
+      let ran = runOf c (stateIn state) store cells out allowance in
+      record { report = reportOf (ran .answer); state = stateLeft (ran .answer) (ran .state) state; store = ran .store; out = ran .output }
+
+  -- A call on the chain of a sheet: 1 to 9 of the sheet first.
+  unfoldable pub runSheet : (sheet : List ℕ) → Runs
+  runSheet sheet =
+      let read = readChain sheet in
+      let ran = runValue (read .chain) in
+      byVerdict (read .verdict) ran (λ x. record { report = reportOf (answer.Refused x); state = state; store = store; out = out })
+
+  -- A call on a chain given by its words.
+  abbrev pub runChain : (chain : List ℕ) → Runs
+  runChain chain = runValue (chainIn chain)
+
+-- Reading a chain sheet into the words of its chain: 1 to 9 of the sheet, then 12.
+pub record Reads : Type 0 where
+  pub refusal : ℕ
+  pub chain : List ℕ
+
+unfoldable pub readVerdict : (sheet : List ℕ) (room : ℕ) → Verdict
+readVerdict sheet room =
+    let last = firstOf (check (ltb room chainSize) refusal.ShortOutput ∷ []) in
+    byVerdict (readChain sheet .verdict) last verdict.Refused
+
+unfoldable pub readCall : (sheet chain : List ℕ) → Reads
+readCall sheet chain =
+    let v = readVerdict sheet (length chain) in
+    record { refusal = verdictNumber v; chain = byVerdict v (laid (chainWords (readChain sheet .chain)) chain) (λ x. chain) }

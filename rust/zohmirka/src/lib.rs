@@ -1,0 +1,321 @@
+//! Plans and runs reuse chains: a safe interface over libzohmirka.a. Its functions take any bytes, words and lengths (c/zohmirka.h), so that nothing here checks
+//! what it hands over.
+//!
+//! ```
+//! let sheet = zohmirka::plan(b"010100000005\n020000\n020003\n0400\n").unwrap();
+//! let chain = zohmirka::Chain::read(&sheet).unwrap();
+//! let mut state = zohmirka::State::fresh();
+//! let mut store = vec![0; chain.places()];
+//! let mut out = [0; 4];
+//! let outcome = chain.run(&mut state, &mut store, &[1, 2, 3, 4, 5], &mut out, u32::MAX).unwrap();
+//! assert_eq!(outcome, zohmirka::Outcome::Done(zohmirka::Counts { cells: 5, firings: 2, clocks: 5 }));
+//! assert_eq!(out, [4, 1, 5, 2]);
+//! ```
+mod native;
+
+/// The version of the interface that this crate is written for.
+pub const VERSION: u32 = 1;
+/// No chain sheet has more bytes.
+pub const SHEET_BYTES: usize = 1007;
+/// No accepted chain needs more words of store.
+pub const STORE_WORDS: usize = 16384;
+pub const STATE_WORDS: usize = 33;
+pub const CHAIN_WORDS: usize = 168;
+
+/// The version of the library that is linked.
+pub fn version() -> u32 {
+    // SAFETY: it takes nothing.
+    unsafe { native::zohmirka_version() }
+}
+
+/// Why input was turned back: document 01's numbers 1 to 12.
+#[derive(Clone, Copy, Debug, PartialEq, Eq, Hash)]
+#[repr(u8)]
+pub enum Refusal {
+    Malformed = 1,
+    Misplaced = 2,
+    BadGrid = 3,
+    BadCount = 4,
+    EqualOffsets = 5,
+    NoIteration = 6,
+    NoCentre = 7,
+    BadFactor = 8,
+    TooLarge = 9,
+    ShortStore = 10,
+    BadState = 11,
+    ShortOutput = 12,
+}
+
+impl Refusal {
+    pub fn number(self) -> u8 {
+        self as u8
+    }
+
+    fn of(number: u32) -> Refusal {
+        match number {
+            1 => Refusal::Malformed,
+            2 => Refusal::Misplaced,
+            3 => Refusal::BadGrid,
+            4 => Refusal::BadCount,
+            5 => Refusal::EqualOffsets,
+            6 => Refusal::NoIteration,
+            7 => Refusal::NoCentre,
+            8 => Refusal::BadFactor,
+            9 => Refusal::TooLarge,
+            10 => Refusal::ShortStore,
+            11 => Refusal::BadState,
+            12 => Refusal::ShortOutput,
+            _ => unreachable!("the library's refusals are 1 to 12"),
+        }
+    }
+}
+
+impl std::fmt::Display for Refusal {
+    fn fmt(&self, f: &mut std::fmt::Formatter<'_>) -> std::fmt::Result {
+        let text = match self {
+            Refusal::Malformed => "a malformed line",
+            Refusal::Misplaced => "a line out of its order or missing",
+            Refusal::BadGrid => "dimension count, sizes or number of cells",
+            Refusal::BadCount => "number of references",
+            Refusal::EqualOffsets => "two equal offsets",
+            Refusal::NoIteration => "no iteration",
+            Refusal::NoCentre => "difference or blend without a centre",
+            Refusal::BadFactor => "a factor that is infinite or not a number",
+            Refusal::TooLarge => "capacities summing above 16,384",
+            Refusal::ShortStore => "a store that is too short",
+            Refusal::BadState => "a state that fits no run of the chain",
+            Refusal::ShortOutput => "an output that is too short for the sheet",
+        };
+        write!(f, "refused by {}: {}", self.number(), text)
+    }
+}
+
+impl std::error::Error for Refusal {}
+
+fn accepted(number: u32) -> Result<(), Refusal> {
+    if number == 0 {
+        return Ok(());
+    }
+    Err(Refusal::of(number))
+}
+
+/// The chain sheet of a request sheet.
+pub fn plan(request: &[u8]) -> Result<Vec<u8>, Refusal> {
+    let mut sheet = vec![0; SHEET_BYTES];
+    let bytes = plan_into(request, &mut sheet)?;
+    sheet.truncate(bytes);
+    Ok(sheet)
+}
+
+/// The same into a lent slice; answers how many bytes were written.
+pub fn plan_into(request: &[u8], sheet: &mut [u8]) -> Result<usize, Refusal> {
+    // SAFETY: pointers and lengths are those of slices.
+    let answer = unsafe { native::zohmirka_plan(request.as_ptr(), request.len(), sheet.as_mut_ptr(), sheet.len()) };
+    accepted(answer.refusal)?;
+    Ok(answer.bytes)
+}
+
+/// Judges a chain sheet.
+pub fn judge(sheet: &[u8]) -> Result<(), Refusal> {
+    // SAFETY: pointer and length are those of a slice.
+    accepted(unsafe { native::zohmirka_judge(sheet.as_ptr(), sheet.len()) })
+}
+
+/// What one call did.
+#[derive(Clone, Copy, Debug, Default, PartialEq, Eq)]
+pub struct Counts {
+    pub cells: u32,
+    pub firings: u32,
+    pub clocks: u32,
+}
+
+/// How a call ends that is not refused.
+#[derive(Clone, Copy, Debug, PartialEq, Eq)]
+pub enum Outcome {
+    Done(Counts),
+    Spent(Counts),
+    Starved(Counts),
+    Stalled(Counts),
+    Full(Counts),
+}
+
+impl Outcome {
+    pub fn counts(self) -> Counts {
+        match self {
+            Outcome::Done(c) | Outcome::Spent(c) | Outcome::Starved(c) | Outcome::Stalled(c) | Outcome::Full(c) => c,
+        }
+    }
+}
+
+fn outcome_of(report: native::Report) -> Result<Outcome, Refusal> {
+    accepted(report.refusal)?;
+    let counts = Counts { cells: report.cells, firings: report.firings, clocks: report.clocks };
+    Ok(match report.outcome {
+        0 => Outcome::Done(counts),
+        1 => Outcome::Spent(counts),
+        2 => Outcome::Starved(counts),
+        3 => Outcome::Stalled(counts),
+        4 => Outcome::Full(counts),
+        _ => unreachable!("the library's outcomes are 0 to 4"),
+    })
+}
+
+/// Where a run stands: the input counters of filters 0 to 31, then the firings made.
+#[derive(Clone, Copy, Debug, PartialEq, Eq)]
+pub struct State {
+    pub words: [u32; STATE_WORDS],
+}
+
+impl State {
+    pub fn fresh() -> State {
+        State { words: [0; STATE_WORDS] }
+    }
+
+    /// How many cells passed filter k's splitter.
+    pub fn passed(&self, k: usize) -> u32 {
+        self.words[..STATE_WORDS - 1][k]
+    }
+
+    pub fn firings(&self) -> u32 {
+        self.words[STATE_WORDS - 1]
+    }
+}
+
+impl Default for State {
+    fn default() -> State {
+        State::fresh()
+    }
+}
+
+/// A run call on the chain of a sheet, which is read anew in each call.
+pub fn run(sheet: &[u8], state: &mut State, store: &mut [u32], cells: &[u32], out: &mut [u32], allowance: u32) -> Result<Outcome, Refusal> {
+    // SAFETY: pointers and lengths are those of slices, and what is written is lent as `&mut`.
+    outcome_of(unsafe {
+        native::zohmirka_run(
+            sheet.as_ptr(),
+            sheet.len(),
+            state.words.as_mut_ptr(),
+            STATE_WORDS,
+            store.as_mut_ptr(),
+            store.len(),
+            cells.as_ptr(),
+            cells.len(),
+            out.as_mut_ptr(),
+            out.len(),
+            allowance,
+        )
+    })
+}
+
+/// A chain as words, in the layout of c/zohmirka.h. Any words are a chain, which `run` judges.
+#[derive(Clone, Copy, Debug, PartialEq, Eq)]
+pub struct Chain {
+    pub words: [u32; CHAIN_WORDS],
+}
+
+impl Chain {
+    /// The chain of a sheet.
+    pub fn read(sheet: &[u8]) -> Result<Chain, Refusal> {
+        let mut chain = Chain { words: [0; CHAIN_WORDS] };
+        // SAFETY: pointers and lengths are those of slices.
+        accepted(unsafe { native::zohmirka_read_chain(sheet.as_ptr(), sheet.len(), chain.words.as_mut_ptr(), CHAIN_WORDS) })?;
+        Ok(chain)
+    }
+
+    pub fn references(&self) -> usize {
+        self.words[5] as usize
+    }
+
+    /// The capacities, FIFO 0 first.
+    pub fn capacities(&self) -> &[u32] {
+        let fifos = self.references().saturating_sub(1).min(31);
+        &self.words[134..134 + fifos]
+    }
+
+    /// The capacities' sum: how many words the store needs.
+    pub fn places(&self) -> usize {
+        self.capacities().iter().map(|&c| c as usize).sum()
+    }
+
+    /// How many words a firing writes.
+    pub fn width(&self) -> usize {
+        if self.words[165] == 0 {
+            self.references()
+        } else {
+            1
+        }
+    }
+
+    /// A run call.
+    pub fn run(&self, state: &mut State, store: &mut [u32], cells: &[u32], out: &mut [u32], allowance: u32) -> Result<Outcome, Refusal> {
+        // SAFETY: pointers and lengths are those of slices, and what is written is lent as `&mut`.
+        outcome_of(unsafe {
+            native::zohmirka_run_chain(
+                self.words.as_ptr(),
+                CHAIN_WORDS,
+                state.words.as_mut_ptr(),
+                STATE_WORDS,
+                store.as_mut_ptr(),
+                store.len(),
+                cells.as_ptr(),
+                cells.len(),
+                out.as_mut_ptr(),
+                out.len(),
+                allowance,
+            )
+        })
+    }
+}
+
+#[cfg(test)]
+mod tests {
+    use super::*;
+
+    const SHEET: &[u8] = b"010100000005\n020003\n020000\n0300000003\n0400\n";
+
+    /// A call on the first `chain_len` words of a chain and the first `state_len` of a state: its refusal, its outcome and the state's words.
+    fn call(chain: &[u32], chain_len: usize, state_len: usize) -> (u32, u32, [u32; 40]) {
+        let (mut state, mut store, cells, mut out) = ([0; 40], [0; 3], [1, 2, 3, 4, 5], [0; 4]);
+        state[33..].fill(6);
+        // SAFETY: the lengths are at most those of the slices.
+        let report = unsafe {
+            native::zohmirka_run_chain(
+                chain[..chain_len].as_ptr(),
+                chain_len,
+                state[..state_len].as_mut_ptr(),
+                state_len,
+                store.as_mut_ptr(),
+                3,
+                cells.as_ptr(),
+                5,
+                out.as_mut_ptr(),
+                4,
+                100,
+            )
+        };
+        (report.refusal, report.outcome, state)
+    }
+
+    #[test]
+    fn slices_of_other_lengths() {
+        let mut chain = [7; 200];
+        let mut read = |len: usize| {
+            // SAFETY: `len` is at most 200.
+            unsafe { native::zohmirka_read_chain(SHEET.as_ptr(), SHEET.len(), chain.as_mut_ptr(), len) }
+        };
+        assert_eq!((read(0), read(167)), (12, 12));
+        assert_eq!(read(200), 0);
+        assert!(chain[168..].iter().all(|&w| w == 7));
+
+        let mut untouched = [0; 40];
+        untouched[33..].fill(6);
+        assert_eq!(call(&chain, 167, 33), (3, 5, untouched));
+        assert_eq!(call(&chain, 0, 0), (3, 5, untouched));
+        assert_eq!(call(&chain, 168, 32), (11, 5, untouched));
+        assert_eq!(call(&chain, 200, 0), (11, 5, untouched));
+        let mut done = untouched;
+        (done[0], done[1], done[32]) = (5, 2, 2);
+        assert_eq!(call(&chain, 168, 33), (0, 0, done));
+        assert_eq!(call(&chain, 200, 40), (0, 0, done));
+    }
+}

@@ -1,0 +1,149 @@
+//! The interface on the sample of document 01 and on single rules.
+use zohmirka::{judge, plan, plan_into, run, version, Chain, Counts, Outcome, Refusal, State, STORE_WORDS, VERSION};
+
+const REQUEST: &[u8] = b"010100000005\n020000\n020003\n0400\n";
+const SHEET: &[u8] = b"010100000005\n020003\n020000\n0300000003\n0400\n";
+
+fn counts(cells: u32, firings: u32, clocks: u32) -> Counts {
+    Counts { cells, firings, clocks }
+}
+
+#[test]
+fn the_library_is_of_this_version() {
+    assert_eq!(version(), VERSION);
+}
+
+#[test]
+fn plans_the_sample() {
+    assert_eq!(plan(REQUEST).unwrap(), SHEET);
+    assert_eq!(judge(SHEET), Ok(()));
+}
+
+#[test]
+fn refuses_by_number_and_writes_nothing() {
+    let mut sheet = [7; 100];
+    let requests: [(&[u8], Refusal); 9] = [
+        (b"x", Refusal::Malformed),
+        (b"", Refusal::Misplaced),
+        (b"010100100001\n020000\n0400\n", Refusal::BadGrid),
+        (&[b"010100000005\n".as_slice(), &b"020000\n".repeat(33)].concat(), Refusal::BadCount),
+        (b"010100000005\n020000\n020000\n0400\n", Refusal::EqualOffsets),
+        (b"010100000002\n02FFFF\n020001\n0400\n", Refusal::NoIteration),
+        (b"010100000005\n020001\n0401\n", Refusal::NoCentre),
+        (b"010100000005\n020000\n04027F800000\n", Refusal::BadFactor),
+        (b"010100004E20\n020000\n024001\n0400\n", Refusal::TooLarge),
+    ];
+    for (at, (request, refusal)) in requests.iter().enumerate() {
+        assert_eq!(plan_into(request, &mut sheet), Err(*refusal), "{at}");
+        assert_eq!(refusal.number() as usize, at + 1);
+    }
+    assert_eq!(plan_into(REQUEST, &mut sheet[..SHEET.len() - 1]), Err(Refusal::ShortOutput));
+    assert_eq!(sheet, [7; 100]);
+    assert_eq!(plan_into(REQUEST, &mut sheet), Ok(SHEET.len()));
+    assert_eq!(&sheet[..SHEET.len()], SHEET);
+    assert_eq!(sheet[SHEET.len()..], [7; 100][SHEET.len()..]);
+    assert_eq!(judge(REQUEST), Err(Refusal::Misplaced));
+}
+
+#[test]
+fn runs_a_sheet_and_its_chain_alike() {
+    let chain = Chain::read(SHEET).unwrap();
+    assert_eq!((chain.references(), chain.capacities(), chain.places(), chain.width()), (2, [3].as_slice(), 3, 2));
+    for lent in 0..6 {
+        let (mut s, mut t) = (State::fresh(), State::fresh());
+        let (mut a, mut b) = ([9; 5], [9; 5]);
+        let (mut x, mut y) = ([8; 5], [8; 5]);
+        let cells = [1, 2, 3, 4, 5];
+        let one = run(SHEET, &mut s, &mut a, &cells[..lent], &mut x, 100);
+        assert_eq!(one, chain.run(&mut t, &mut b, &cells[..lent], &mut y, 100));
+        assert_eq!((s, a, x), (t, b, y));
+    }
+}
+
+#[test]
+fn a_run_in_pieces_makes_what_a_whole_run_makes() {
+    // Case 1 of document 01: 768 by 1024, five-point cross.
+    let sheet = plan(b"01020000030000000400\n02FFFF0000\n020000FFFF\n0200000000\n0200000001\n0200010000\n04023E4CCCCD\n").unwrap();
+    let chain = Chain::read(&sheet).unwrap();
+    assert_eq!(chain.capacities(), [1023, 1, 1, 1023]);
+    let cells: Vec<u32> = (0..786_432u32).map(|i| (i as f32).to_bits()).collect();
+    let mut whole = vec![0; 782_852];
+    let mut state = State::fresh();
+    let mut store = vec![0; chain.places()];
+    let outcome = chain.run(&mut state, &mut store, &cells, &mut whole, u32::MAX).unwrap();
+    assert_eq!(outcome, Outcome::Done(counts(786_431, 782_852, 786_431)));
+    assert_eq!(state.firings(), 782_852);
+
+    let (mut cut, mut places) = (State::fresh(), vec![0; chain.places()]);
+    let (mut pieces, mut total, mut at) = (Vec::new(), Counts::default(), 0);
+    loop {
+        let mut out = [0; 64];
+        let outcome = chain.run(&mut cut, &mut places, &cells[at..(at + 64).min(cells.len())], &mut out, u32::MAX).unwrap();
+        let c = outcome.counts();
+        pieces.extend_from_slice(&out[..c.firings as usize]);
+        total = counts(total.cells + c.cells, total.firings + c.firings, total.clocks + c.clocks);
+        at = cut.passed(0) as usize;
+        if let Outcome::Done(_) = outcome {
+            break;
+        }
+        assert!(matches!(outcome, Outcome::Starved(_)));
+    }
+    assert_eq!((total, cut), (outcome.counts(), state));
+    assert!(pieces == whole);
+}
+
+#[test]
+fn each_outcome_and_each_refusal_of_a_call() {
+    let chain = Chain::read(SHEET).unwrap();
+    let cells = [1, 2, 3, 4, 5];
+    let call = |chain: Chain, state: State, places: usize, lent: usize, room: usize, allowance: u32| {
+        let (mut s, mut store, mut out) = (state, vec![9; places], vec![8; room]);
+        let answer = chain.run(&mut s, &mut store, &cells[..lent], &mut out, allowance);
+        if answer.is_err() {
+            assert_eq!((s, store, out), (state, vec![9; places], vec![8; room]));
+        }
+        answer
+    };
+    let fresh = State::fresh();
+    assert_eq!(call(chain, fresh, 3, 5, 4, 100), Ok(Outcome::Done(counts(5, 2, 5))));
+    assert_eq!(call(chain, fresh, 3, 5, 4, 2), Ok(Outcome::Spent(counts(2, 0, 2))));
+    assert_eq!(call(chain, fresh, 3, 4, 4, 100), Ok(Outcome::Starved(counts(4, 1, 4))));
+    assert_eq!(call(chain, fresh, 3, 5, 3, 100), Ok(Outcome::Full(counts(4, 1, 4))));
+    let mut short = chain;
+    short.words[134] = 2;
+    assert_eq!(call(short, fresh, 2, 5, 4, 100), Ok(Outcome::Stalled(counts(2, 0, 2))));
+    assert_eq!(call(chain, fresh, 2, 5, 4, 100), Err(Refusal::ShortStore));
+    let mut ahead = fresh;
+    ahead.words[32] = 3;
+    assert_eq!(call(chain, ahead, 3, 5, 4, 100), Err(Refusal::BadState));
+
+    // Any words are a chain.
+    let changed = |at: usize, word: u32| {
+        let mut other = chain;
+        other.words[at] = word;
+        call(other, fresh, STORE_WORDS, 5, 4, 100)
+    };
+    assert_eq!(changed(0, 0), Err(Refusal::BadGrid));
+    assert_eq!(changed(0, 257), Err(Refusal::BadGrid));
+    assert_eq!(changed(1, 0x0010_0001), Err(Refusal::BadGrid));
+    assert_eq!(changed(5, 33), Err(Refusal::BadCount));
+    assert_eq!(changed(5, u32::MAX), Err(Refusal::BadCount));
+    assert_eq!(changed(10, 3), Err(Refusal::EqualOffsets));
+    assert_eq!(changed(10, 0x0001_0003), Err(Refusal::EqualOffsets));
+    assert_eq!(changed(10, 0xFFFF), Ok(Outcome::Stalled(counts(3, 0, 3))));
+    assert_eq!(changed(6, 5), Err(Refusal::NoIteration));
+    assert_eq!(changed(134, 16385), Err(Refusal::TooLarge));
+    assert_eq!(changed(165, 4), Err(Refusal::BadFactor));
+    assert_eq!(changed(165, u32::MAX), Err(Refusal::BadFactor));
+}
+
+#[test]
+fn a_state_and_a_store_may_be_of_any_length() {
+    let chain = Chain::read(SHEET).unwrap();
+    let (mut state, mut store) = (State::fresh(), [0; 0]);
+    assert_eq!(chain.run(&mut state, &mut store, &[], &mut [], 0), Err(Refusal::ShortStore));
+    assert_eq!(run(SHEET, &mut state, &mut store, &[], &mut [], 0), Err(Refusal::ShortStore));
+    assert_eq!(run(b"", &mut state, &mut store, &[], &mut [], 0), Err(Refusal::Misplaced));
+    let mut store = [0; 3];
+    assert_eq!(chain.run(&mut state, &mut store, &[], &mut [], 0), Ok(Outcome::Spent(Counts::default())));
+}
