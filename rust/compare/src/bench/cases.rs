@@ -1,0 +1,83 @@
+//! The chains that are timed, by name.
+use straight::{plan, Chain, Kernel, Request};
+
+/// Offsets whose entries are -1, 0 and 1.
+fn neighbours(dims: u32, keep: impl Fn(&[i16]) -> bool) -> Vec<Vec<i16>> {
+    (0..3usize.pow(dims))
+        .map(|number| {
+            (0..dims)
+                .map(|d| (number / 3usize.pow(d) % 3) as i16 - 1)
+                .collect::<Vec<i16>>()
+        })
+        .filter(|offset| keep(offset))
+        .collect()
+}
+
+fn steps(offset: &[i16]) -> i16 {
+    offset.iter().map(|entry| entry.abs()).sum()
+}
+
+fn planned(sizes: &[u32], offsets: &[Vec<i16>], kernel: Kernel) -> Chain {
+    let offsets: Vec<&[i16]> = offsets.iter().map(|offset| &offset[..]).collect();
+    plan(&Request::new(sizes, &offsets, kernel)).expect("the window is accepted")
+}
+
+/// Cases 1, 3, 4 and 5 of document 01.
+fn case(number: u8, kernel: Kernel) -> Chain {
+    let (sizes, offsets): (&[u32], _) = match number {
+        1 => (&[768, 1024], neighbours(2, |o| steps(o) <= 1)),
+        3 => (&[768, 1024], neighbours(2, |_| true)),
+        4 => (&[40, 32, 32], neighbours(3, |o| steps(o) <= 1)),
+        5 => (&[40, 32, 32], neighbours(3, |o| steps(o) <= 2)),
+        _ => unreachable!(),
+    };
+    planned(sizes, &offsets, kernel)
+}
+
+/// `count` neighbours in a row of 100,000 cells, `apart` cells between two.
+pub fn row(count: i16, apart: i16, kernel: Kernel) -> Chain {
+    let offsets: Vec<Vec<i16>> = (0..count).map(|k| vec![k * apart]).collect();
+    planned(&[100_000], &offsets, kernel)
+}
+
+const KERNELS: [(&str, Kernel); 2] = [("raw", Kernel::Raw), ("difference", Kernel::Difference)];
+
+pub fn planned_chains() -> Vec<(String, Chain)> {
+    let mut chains = Vec::new();
+    for number in [1, 3, 4, 5] {
+        for (name, kernel) in KERNELS {
+            chains.push((format!("case {number} {name}"), case(number, kernel)));
+        }
+    }
+    chains
+}
+
+/// Accepted chains that are not planned so, and a planned one that fills for long.
+pub fn other_chains() -> Vec<(String, Chain)> {
+    let mut chains = Vec::new();
+    for (name, kernel) in KERNELS {
+        let mut doubled = case(5, kernel);
+        doubled.capacities.iter_mut().for_each(|c| *c *= 2);
+        chains.push((format!("case 5 {name}, capacities doubled"), doubled));
+        let name = format!("32 references 500 apart, {name}");
+        chains.push((name, row(32, 500, kernel)));
+    }
+    let short = |mut chain: Chain| {
+        chain.capacities[0] -= 1;
+        chain
+    };
+    let long = row(32, 500, Kernel::Raw);
+    let mut swapped = long;
+    swapped.window.offsets.swap(4 * 30, 4 * 31);
+    let named = [
+        ("32 references 500 apart, FIFO 0 one short", short(long)),
+        ("32 references 500 apart, last two swapped", swapped),
+        ("case 1, FIFO 0 one short", short(case(1, Kernel::Raw))),
+        (
+            "2 references 16,000 apart, capacity one short",
+            short(row(2, 16_000, Kernel::Raw)),
+        ),
+    ];
+    chains.extend(named.map(|(name, chain)| (name.to_string(), chain)));
+    chains
+}

@@ -1,0 +1,357 @@
+//! Run calls: the library beside the clock rule in plain Rust and beside a nested loop over the grid.
+use super::cases::{other_chains, planned_chains, row};
+use super::table::{ratio, Table};
+use super::timing::least;
+use crate::words::chain_words;
+use std::hint::black_box;
+use straight::judge::capacity_sum;
+use straight::kernel::words;
+use straight::{Answer, Chain, Kernel, Outcome, State};
+use zohmirka::STATE_WORDS;
+
+/// What is lent for a whole run.
+struct Lent {
+    chain: Chain,
+    words: zohmirka::Chain,
+    cells: Vec<u32>,
+    store: Vec<u32>,
+    out: Vec<u32>,
+    width: usize,
+}
+
+#[derive(Clone, Copy, Debug, Default, PartialEq)]
+struct Sums {
+    outcome: u8,
+    cells: usize,
+    firings: usize,
+    clocks: usize,
+}
+
+impl Lent {
+    fn new(chain: Chain) -> Lent {
+        let total = chain.grid.sizes[..chain.grid.dims as usize]
+            .iter()
+            .product::<u32>();
+        let width = words(&chain.kernel, chain.window.count as usize);
+        Lent {
+            words: zohmirka::Chain {
+                words: chain_words(&chain),
+            },
+            cells: (0..total).map(|i| ((i % 1000) as f32).to_bits()).collect(),
+            store: vec![0; capacity_sum(&chain) as usize],
+            out: vec![0; total as usize * width],
+            width,
+            chain,
+        }
+    }
+
+    /// A whole run of the library, `block` cells lent in a call, the output from where the last call stopped on.
+    fn library(&mut self, block: usize) -> Sums {
+        let mut state = zohmirka::State::fresh();
+        let mut sums = Sums::default();
+        loop {
+            let upto = self.cells.len().min(sums.cells + block);
+            let cells = &self.cells[sums.cells..upto];
+            let out = &mut self.out[sums.firings * self.width..];
+            let chain = black_box(&self.words);
+            let outcome = chain
+                .run(&mut state, &mut self.store, cells, out, u32::MAX)
+                .expect("the chain is accepted");
+            let counts = outcome.counts();
+            sums.cells += counts.cells as usize;
+            sums.firings += counts.firings as usize;
+            sums.clocks += counts.clocks as usize;
+            sums.outcome = match outcome {
+                zohmirka::Outcome::Done(_) => 0,
+                zohmirka::Outcome::Starved(_) if upto < self.cells.len() => continue,
+                zohmirka::Outcome::Starved(_) => 2,
+                zohmirka::Outcome::Stalled(_) => 3,
+                other => unreachable!("{other:?}"),
+            };
+            black_box(&self.out);
+            return sums;
+        }
+    }
+
+    /// The same by `straight`.
+    fn straight(&mut self, block: usize) -> Sums {
+        let mut state = State::default();
+        let mut sums = Sums::default();
+        loop {
+            let upto = self.cells.len().min(sums.cells + block);
+            let cells = &self.cells[sums.cells..upto];
+            let out = &mut self.out[sums.firings * self.width..];
+            let chain = black_box(&self.chain);
+            let (answer, after) =
+                straight::run(chain, &state, &mut self.store, cells, out, u32::MAX);
+            let Answer::Ended(outcome) = answer else {
+                unreachable!("{answer:?}")
+            };
+            state = after;
+            let counts = outcome.counts();
+            sums.cells += counts.cells as usize;
+            sums.firings += counts.firings as usize;
+            sums.clocks += counts.clocks as usize;
+            sums.outcome = match outcome {
+                Outcome::Starved(_) if upto < self.cells.len() => continue,
+                outcome => outcome.index(),
+            };
+            black_box(&self.out);
+            return sums;
+        }
+    }
+
+    fn nested(&mut self) -> usize {
+        let written = straight::nested(black_box(&self.chain), &self.cells, &mut self.out);
+        black_box(&self.out);
+        written / self.width
+    }
+
+    /// Every way makes the same words and counts.
+    fn check(&mut self) -> Sums {
+        let all = self.cells.len();
+        let mut outputs = Vec::new();
+        let mut reports = Vec::new();
+        for way in 0..4 {
+            self.out.fill(0);
+            reports.push(match way {
+                0 => self.library(all),
+                1 => self.library(64),
+                2 => self.straight(all),
+                _ => self.straight(64),
+            });
+            outputs.push(self.out.clone());
+        }
+        if reports[0].outcome == 0 {
+            self.out.fill(0);
+            assert_eq!(self.nested(), reports[0].firings);
+            outputs.push(self.out.clone());
+        }
+        assert!(reports.iter().all(|report| *report == reports[0]));
+        assert!(outputs.iter().all(|output| *output == outputs[0]));
+        reports[0]
+    }
+}
+
+/// One way on a chain of the tables, `goes` times over, for a profile or a count of instructions. Hands back the clocks of one go, or the firings of a nested loop.
+pub fn alone(name: &str, way: &str, goes: usize) -> usize {
+    let mut chains = planned_chains();
+    chains.extend(other_chains());
+    let chain = chains.into_iter().find(|(other, _)| other == name);
+    let mut lent = Lent::new(chain.expect("a name of the first two tables").1);
+    let all = lent.cells.len();
+    let mut clocks = 0;
+    for _ in 0..goes {
+        clocks = match way {
+            "whole" => lent.library(all).clocks,
+            "64" => lent.library(64).clocks,
+            "a" => lent.straight(all).clocks,
+            "a64" => lent.straight(64).clocks,
+            "b" => lent.nested(),
+            _ => panic!("ways: whole, 64, a, a64, b"),
+        };
+    }
+    clocks
+}
+
+fn per(nanos: f64, clocks: usize) -> String {
+    format!("{:.2}", nanos / clocks as f64)
+}
+
+/// Planned chains: cases 1, 3, 4 and 5, raw and difference.
+pub fn planned() {
+    let mut table = Table::new(&[
+        "case",
+        "n",
+        "whole",
+        "64 cells",
+        "(a) whole",
+        "(a) 64 cells",
+        "(b)",
+        "(a) / whole",
+        "whole / (b)",
+        "64 cells / whole",
+    ]);
+    for (name, chain) in planned_chains() {
+        let mut lent = Lent::new(chain);
+        let clocks = lent.check().clocks;
+        let all = lent.cells.len();
+        let lent = std::cell::RefCell::new(lent);
+        let [whole, pieces, a, a_pieces, b] = least([
+            &mut || {
+                lent.borrow_mut().library(all);
+            },
+            &mut || {
+                lent.borrow_mut().library(64);
+            },
+            &mut || {
+                lent.borrow_mut().straight(all);
+            },
+            &mut || {
+                lent.borrow_mut().straight(64);
+            },
+            &mut || {
+                lent.borrow_mut().nested();
+            },
+        ]);
+        table.row(vec![
+            name,
+            lent.borrow().chain.window.count.to_string(),
+            per(whole, clocks),
+            per(pieces, clocks),
+            per(a, clocks),
+            per(a_pieces, clocks),
+            per(b, clocks),
+            ratio(a / whole, a >= 2.0 * whole),
+            ratio(whole / b, whole <= 5.0 * b),
+            ratio(pieces / whole, pieces <= 1.5 * whole),
+        ]);
+    }
+    table.print("Run call on planned chains, ns per clock: all cells lent in one call, and 64 cells a call; beside (a) the clock rule and (b) a nested loop. Goals: (a) / whole at least 2, whole / (b) at most 5, 64 cells / whole at most 1.5.");
+}
+
+/// Accepted chains that were not planned so.
+pub fn others() {
+    let mut table = Table::new(&[
+        "chain",
+        "n",
+        "ends",
+        "clocks",
+        "whole",
+        "64 cells",
+        "(a) whole",
+        "(a) 64 cells",
+        "(a) / whole",
+        "(a) / library, 64 cells",
+    ]);
+    for (name, chain) in other_chains() {
+        let mut lent = Lent::new(chain);
+        let sums = lent.check();
+        let all = lent.cells.len();
+        let lent = std::cell::RefCell::new(lent);
+        let [whole, pieces, a, a_pieces] = least([
+            &mut || {
+                lent.borrow_mut().library(all);
+            },
+            &mut || {
+                lent.borrow_mut().library(64);
+            },
+            &mut || {
+                lent.borrow_mut().straight(all);
+            },
+            &mut || {
+                lent.borrow_mut().straight(64);
+            },
+        ]);
+        table.row(vec![
+            name,
+            lent.borrow().chain.window.count.to_string(),
+            ["Done", "Spent", "Starved", "Stalled", "Full"][sums.outcome as usize].to_string(),
+            sums.clocks.to_string(),
+            per(whole, sums.clocks),
+            per(pieces, sums.clocks),
+            per(a, sums.clocks),
+            per(a_pieces, sums.clocks),
+            ratio(a / whole, a >= whole),
+            ratio(a_pieces / pieces, a_pieces >= pieces),
+        ]);
+    }
+    table.print("Run call on other accepted chains and long fillings, ns per clock. Goal: at least as fast as (a).");
+}
+
+/// Cost per clock by the number of references.
+pub fn references() {
+    let mut table = Table::new(&[
+        "n",
+        "raw",
+        "raw / n",
+        "difference",
+        "difference / n",
+        "(a) raw",
+        "(a) difference",
+    ]);
+    for count in [1, 2, 4, 8, 16, 24, 32] {
+        let mut cells = vec![count.to_string()];
+        let mut peers = Vec::new();
+        for kernel in [Kernel::Raw, Kernel::Difference] {
+            let mut lent = Lent::new(row(count, 7, kernel));
+            let clocks = lent.check().clocks;
+            let all = lent.cells.len();
+            let lent = std::cell::RefCell::new(lent);
+            let [whole, a] = least([
+                &mut || {
+                    lent.borrow_mut().library(all);
+                },
+                &mut || {
+                    lent.borrow_mut().straight(all);
+                },
+            ]);
+            cells.push(per(whole, clocks));
+            cells.push(per(whole / count as f64, clocks));
+            peers.push(per(a, clocks));
+        }
+        cells.extend(peers);
+        table.row(cells);
+    }
+    table.print("Run call by the number of references, 7 cells apart in a row of 100,000, all cells lent, ns per clock. Goal: at most linear.");
+}
+
+/// A call that makes no clock: what a call costs before its clocks.
+pub fn empty_calls() {
+    let mut table = Table::new(&["chain", "n", "run_chain", "run (sheet)", "(a)", "(a) sheet"]);
+    let mut chains = planned_chains();
+    chains.push((
+        "32 references in a row".to_string(),
+        row(32, 7, Kernel::Raw),
+    ));
+    const CALLS: usize = 2000;
+    for (name, chain) in chains {
+        let words = zohmirka::Chain {
+            words: chain_words(&chain),
+        };
+        let text = straight::sheet::chain_text(&chain);
+        let mut state = zohmirka::State {
+            words: [0; STATE_WORDS],
+        };
+        let mut other = state;
+        let places = capacity_sum(&chain) as usize;
+        let (mut s, mut t) = (vec![0; places], vec![0; places]);
+        let (mut u, mut v) = (vec![0; places], vec![0; places]);
+        let fresh = State::default();
+        let [value, sheet, a, a_sheet] = least([
+            &mut || {
+                for _ in 0..CALLS {
+                    let _ = black_box(black_box(&words).run(&mut state, &mut s, &[], &mut [], 0));
+                }
+            },
+            &mut || {
+                for _ in 0..CALLS {
+                    let text = black_box(&text);
+                    let _ = black_box(zohmirka::run(text, &mut other, &mut t, &[], &mut [], 0));
+                }
+            },
+            &mut || {
+                for _ in 0..CALLS {
+                    let chain = black_box(&chain);
+                    black_box(straight::run(chain, &fresh, &mut u, &[], &mut [], 0));
+                }
+            },
+            &mut || {
+                for _ in 0..CALLS {
+                    let chain = straight::read_chain(black_box(&text));
+                    let chain = chain.expect("the sheet is accepted");
+                    black_box(straight::run(&chain, &fresh, &mut v, &[], &mut [], 0));
+                }
+            },
+        ]);
+        table.row(vec![
+            name,
+            chain.window.count.to_string(),
+            per(value, CALLS),
+            per(sheet, CALLS),
+            per(a, CALLS),
+            per(a_sheet, CALLS),
+        ]);
+    }
+    table.print("A call that makes no clock (allowance 0), ns per call.");
+}

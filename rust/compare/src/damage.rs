@@ -1,0 +1,88 @@
+use crate::dice::Dice;
+
+/// Damages a sheet: bytes and digits changed, lines dropped, doubled, moved, cut, or from another sheet.
+pub fn damage(dice: &mut Dice, text: &mut Vec<u8>) {
+    for _ in 0..=dice.below(2) {
+        if dice.one_in(3) {
+            characters(dice, text);
+        } else {
+            lines(dice, text);
+        }
+    }
+}
+
+fn characters(dice: &mut Dice, text: &mut Vec<u8>) {
+    let at = dice.below(text.len() + 1);
+    match dice.below(6) {
+        0 => text.truncate(at),
+        1 => text.insert(at, dice.pick(b"0A5F\n\r G@/:a\0")),
+        2 if at < text.len() => text[at] ^= 1 << dice.below(8),
+        3 if at < text.len() => text[at] = dice.pick(b"0123456789ABCDEF"),
+        4 if at < text.len() => {
+            text.remove(at);
+        }
+        5 => text.extend(dice.pick(&[&b"\n"[..], b"0", b"0400\n", b"0500000001\n", b"05000001\n"])),
+        _ => text.insert(at, dice.word() as u8),
+    }
+}
+
+fn lines(dice: &mut Dice, text: &mut Vec<u8>) {
+    const OTHERS: [&str; 24] = [
+        "",
+        "01",
+        "0100",
+        "0101",
+        "010100000005",
+        "0101000000050",
+        "01020000000500000005",
+        "01050000000100000001000000010000000100000001",
+        "0102FFFFFFFFFFFFFFFF",
+        "02",
+        "020000",
+        "0200000001",
+        "02000000010001",
+        "020001000100010001",
+        "03",
+        "0300000001",
+        "030000000001",
+        "0400",
+        "0401",
+        "04023F800000",
+        "04047F800000",
+        "04033F80000040000000",
+        "0500000001",
+        "1000",
+    ];
+    let mut lines: Vec<Vec<u8>> = text.split(|&c| c == b'\n').map(<[u8]>::to_vec).collect();
+    let (k, j) = (dice.below(lines.len()), dice.below(lines.len()));
+    match dice.below(10) {
+        0 => {
+            lines.remove(k);
+        }
+        1 => lines.insert(j, lines[k].clone()),
+        2 => lines.swap(k, j),
+        3 => lines.insert(j, dice.pick(&OTHERS).as_bytes().to_vec()),
+        4 => lines[k] = dice.pick(&OTHERS).as_bytes().to_vec(),
+        5 => {
+            let to = dice.below(lines[k].len() + 1);
+            lines[k].truncate(to);
+        }
+        6 => lines[k].extend(dice.pick(&[&b"00"[..], b"0", b"0000", b"00000000"])),
+        7 => lines[k].make_ascii_lowercase(),
+        8 if lines[k].len() > 2 => {
+            // Another first byte, or another second one.
+            let at = 1 + 2 * dice.below(2).min((lines[k].len() - 2) / 2);
+            lines[k][at] = dice.pick(b"01234567F");
+        }
+        _ => {
+            // A long line, sound or not.
+            let mut long = b"02".repeat(1 + dice.below(300));
+            if dice.one_in(2) {
+                let at = dice.below(long.len());
+                long[at] = dice.pick(b"G0F");
+            }
+            lines.insert(j, long);
+        }
+    }
+    *text = lines.join(&b'\n');
+}

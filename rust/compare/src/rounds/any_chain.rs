@@ -1,0 +1,113 @@
+use super::call::{call, Given, Lengths, Lent, BEHIND};
+use crate::dice::Dice;
+use crate::draft::Draft;
+use crate::round::{Differs, Round};
+use crate::words::{chain_of, chain_words, CHAIN_WORDS, STATE_WORDS};
+use straight::{judge_chain, Chain};
+
+/// A chain's words with some of them changed, and words past the counts filled at random.
+pub fn calls(round: &mut Round) -> Result<(), Differs> {
+    let dice = &mut round.dice;
+    let draft = Draft::random(dice);
+    let mut words = chain_words(&draft.chain().unwrap_or(Chain::blank())).to_vec();
+    if dice.one_in(2) {
+        past_counts(dice, &mut words);
+    }
+    for _ in 0..dice.below(3) {
+        change(dice, &mut words);
+    }
+    if dice.one_in(30) {
+        words.truncate(dice.below(CHAIN_WORDS));
+    }
+    if dice.one_in(10) {
+        words.extend((0..dice.below(20)).map(|_| dice.word()));
+    }
+    let value = chain_of(&words);
+    let chain = judge_chain(&value).map(|_| value);
+    round.note_words("chain words", &words);
+
+    let dice = &mut round.dice;
+    let places = match &chain {
+        Ok(chain) => chain.given().iter().sum::<u32>() as usize,
+        Err(_) => dice.below(64),
+    };
+    let mut lent = Lent {
+        state: vec![0; STATE_WORDS + BEHIND],
+        store: (0..places + BEHIND).map(|_| dice.word()).collect(),
+        out: Vec::new(),
+    };
+    for _ in 0..3 {
+        let dice = &mut round.dice;
+        let lengths = Lengths {
+            state: if dice.one_in(20) {
+                dice.below(STATE_WORDS + BEHIND)
+            } else {
+                STATE_WORDS
+            },
+            store: if dice.one_in(10) {
+                dice.below(places + BEHIND)
+            } else {
+                places
+            },
+            out: dice.below(400),
+        };
+        lent.out = vec![0x5A5A_5A5A; lengths.out + BEHIND];
+        let many = dice.below(300);
+        let cells = dice.cells(many);
+        let allowance = if dice.one_in(4) {
+            dice.below(50) as u32
+        } else {
+            u32::MAX
+        };
+        let given = Given::Words(&words);
+        let report = call(round, given, &chain, &mut lent, lengths, &cells, allowance)?;
+        if report.refusal != 0 && round.dice.one_in(2) {
+            break;
+        }
+    }
+    Ok(())
+}
+
+/// Fills the words that play no part.
+fn past_counts(dice: &mut Dice, words: &mut [u32]) {
+    let dims = (words[0] as usize).min(4);
+    let n = (words[5] as usize).min(32);
+    words[1 + dims..5].fill_with(|| dice.word());
+    for k in 0..32 {
+        let from = if k < n { dims } else { 0 };
+        words[6 + 4 * k + from..10 + 4 * k].fill_with(|| dice.word());
+    }
+    words[134 + n.saturating_sub(1)..165].fill_with(|| dice.word());
+    if words[165] < 2 {
+        words[166] = dice.word();
+    }
+    if words[165] < 3 {
+        words[167] = dice.word();
+    }
+    for k in 0..4 * n {
+        // The high half of an entry.
+        words[6 + k] |= (dice.word() & dice.word()) << 16;
+    }
+}
+
+fn change(dice: &mut Dice, words: &mut [u32]) {
+    match dice.below(8) {
+        0 => words[0] = dice.pick(&[0, 1, 2, 3, 4, 5, 255, 256, 257, u32::MAX]),
+        1 => words[1 + dice.below(4)] = dice.pick(&[0, 1, 2, 5, 1024, 1_048_577, u32::MAX]),
+        2 => words[5] = dice.pick(&[0, 1, 2, 31, 32, 33, 255, 256, 257, 258, u32::MAX]),
+        3 => {
+            let k = 6 + dice.below(128);
+            words[k] = dice.pick(&[0, 1, 2, 0xFFFF, 0x8000, 0x7FFF, 0x0001_0000, u32::MAX]);
+        }
+        4 => {
+            let k = 134 + dice.below(31);
+            words[k] = dice.pick(&[0, 1, 2, 3, 16_383, 16_384, 16_385, 1 << 31, u32::MAX]);
+        }
+        5 => words[165] = dice.pick(&[0, 1, 2, 3, 4, 255, 256, 257, u32::MAX]),
+        6 => words[166 + dice.below(2)] = dice.float(),
+        _ => {
+            let k = dice.below(words.len());
+            words[k] = dice.word();
+        }
+    }
+}

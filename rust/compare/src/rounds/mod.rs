@@ -1,0 +1,16 @@
+//! The kinds of rounds. A round is fixed by the seed and its number.
+mod any_chain;
+mod call;
+mod calls;
+mod sheets;
+
+use crate::round::{Differs, Round};
+
+type Kind = fn(&mut Round) -> Result<(), Differs>;
+
+pub const KINDS: [(&str, Kind); 4] = [
+    ("a request sheet planned", sheets::plan),
+    ("a chain sheet judged and read", sheets::chain),
+    ("run calls on a chain", calls::calls),
+    ("run calls on any words", any_chain::calls),
+];

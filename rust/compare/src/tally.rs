@@ -1,0 +1,115 @@
+use crate::native::Report;
+use straight::Chain;
+
+/// How often each number (0: accepted) and each outcome came up, by function.
+pub struct Tally {
+    pub refusals: [[u64; 13]; FUNCTIONS.len()],
+    pub outcomes: [u64; 5],
+    /// Firings compared, by dimension count and kernel.
+    pub firings: [[u64; 4]; 4],
+    pub clocks: u64,
+}
+
+#[derive(Clone, Copy)]
+pub enum Function {
+    Plan,
+    Judge,
+    ReadChain,
+    Run,
+    RunChain,
+}
+
+/// Each function with the numbers that it can answer.
+const FUNCTIONS: [(&str, std::ops::RangeInclusive<usize>, bool); 5] = [
+    ("plan", 1..=9, true),
+    ("judge", 1..=9, false),
+    ("read_chain", 1..=9, true),
+    ("run", 1..=11, false),
+    ("run_chain", 3..=11, false),
+];
+const KERNELS: [&str; 4] = ["raw", "difference", "scaled", "blend"];
+const OUTCOMES: [&str; 5] = ["Done", "Spent", "Starved", "Stalled", "Full"];
+
+impl Tally {
+    pub fn new() -> Tally {
+        Tally {
+            refusals: [[0; 13]; FUNCTIONS.len()],
+            outcomes: [0; 5],
+            firings: [[0; 4]; 4],
+            clocks: 0,
+        }
+    }
+
+    pub fn count(&mut self, function: Function, refusal: u32) {
+        self.refusals[function as usize][refusal as usize] += 1;
+    }
+
+    /// A call that was not refused.
+    pub fn count_run(&mut self, chain: &Chain, report: &Report) {
+        self.outcomes[report.outcome as usize] += 1;
+        let (kernel, ..) = chain.kernel.bits();
+        self.firings[chain.grid.dims as usize - 1][kernel as usize] += report.firings as u64;
+        self.clocks += report.clocks as u64;
+    }
+
+    pub fn print(&self) {
+        print!("{:10} {:>9} {:>8}", "", "calls", "accepted");
+        (1..13).for_each(|number| print!(" {number:>7}"));
+        println!();
+        for ((name, ..), counts) in FUNCTIONS.iter().zip(&self.refusals) {
+            print!(
+                "{name:10} {:>9} {:>8}",
+                counts.iter().sum::<u64>(),
+                counts[0]
+            );
+            counts[1..].iter().for_each(|count| print!(" {count:>7}"));
+            println!();
+        }
+        let outcomes: Vec<String> = OUTCOMES
+            .iter()
+            .zip(&self.outcomes)
+            .map(|(name, count)| format!("{name} {count}"))
+            .collect();
+        println!("outcomes   {}", outcomes.join(", "));
+        println!("{} clocks; firings:", self.clocks);
+        println!(
+            "{:10} {}",
+            "",
+            KERNELS.map(|name| format!("{name:>12}")).concat()
+        );
+        for (firings, dims) in self.firings.iter().zip(1..) {
+            println!(
+                "{dims} dim.     {}",
+                firings.map(|count| format!("{count:>12}")).concat()
+            );
+        }
+    }
+
+    /// What should have come up and did not.
+    pub fn missing(&self) -> Vec<String> {
+        let mut missing = Vec::new();
+        for ((name, numbers, writes), counts) in FUNCTIONS.iter().zip(&self.refusals) {
+            for (number, count) in counts.iter().enumerate() {
+                let due = number == 0 || numbers.contains(&number) || *writes && number == 12;
+                if due && *count == 0 {
+                    missing.push(format!("{name} never answered {number}"));
+                }
+            }
+        }
+        for (name, count) in OUTCOMES.iter().zip(&self.outcomes) {
+            if *count == 0 {
+                missing.push(format!("no call ended {name}"));
+            }
+        }
+        if self.firings.iter().flatten().any(|&count| count == 0) {
+            missing.push("a kernel never fired".to_string());
+        }
+        missing
+    }
+}
+
+impl Default for Tally {
+    fn default() -> Tally {
+        Tally::new()
+    }
+}

@@ -1,0 +1,74 @@
+//! Chains, states and answers of `straight` as words, in the layout of c/zohmirka.h.
+use crate::native::Report;
+use straight::{Answer, Chain, Factors, Kernel, State};
+
+pub const CHAIN_WORDS: usize = 168;
+pub const STATE_WORDS: usize = 33;
+
+pub fn chain_words(chain: &Chain) -> [u32; CHAIN_WORDS] {
+    let mut words = [0; CHAIN_WORDS];
+    words[0] = chain.grid.dims as u32;
+    words[1..5].copy_from_slice(&chain.grid.sizes);
+    words[5] = chain.window.count as u32;
+    for (word, &entry) in words[6..134].iter_mut().zip(&chain.window.offsets) {
+        *word = entry as u16 as u32;
+    }
+    words[134..165].copy_from_slice(&chain.capacities);
+    let (kind, a, b) = chain.kernel.bits();
+    words[165..].copy_from_slice(&[kind as u32, a, b]);
+    words
+}
+
+pub fn chain_of(words: &[u32]) -> Chain {
+    let mut chain = Chain::blank();
+    if words.len() < CHAIN_WORDS {
+        return chain;
+    }
+    chain.grid.dims = words[0].min(255) as u8;
+    chain.grid.sizes.copy_from_slice(&words[1..5]);
+    chain.window.count = words[5].min(255) as u8;
+    for (entry, &word) in chain.window.offsets.iter_mut().zip(&words[6..134]) {
+        *entry = word as u16 as i16;
+    }
+    chain.capacities.copy_from_slice(&words[134..165]);
+    let (a, b) = (f32::from_bits(words[166]), f32::from_bits(words[167]));
+    chain.kernel = match words[165] {
+        0 => Kernel::Raw,
+        1 => Kernel::Difference,
+        2 => Kernel::Scaled(a),
+        3 => Kernel::Blend(Factors { a, b }),
+        _ => Kernel::Scaled(f32::NAN),
+    };
+    chain
+}
+
+pub fn state_of(words: &[u32]) -> State {
+    let mut state = State::default();
+    if words.len() < STATE_WORDS {
+        // A state that is too short is refused as one that fits no run.
+        state.fired = u32::MAX;
+        return state;
+    }
+    state.passed.copy_from_slice(&words[..32]);
+    state.fired = words[32];
+    state
+}
+
+pub fn put_state(state: &State, words: &mut [u32]) {
+    words[..32].copy_from_slice(&state.passed);
+    words[32] = state.fired;
+}
+
+pub fn report_of(answer: Answer) -> Report {
+    let counts = answer.counts();
+    Report {
+        refusal: answer.number() as u32,
+        outcome: match answer {
+            Answer::Ended(outcome) => outcome.index() as u32,
+            Answer::Refused(_) => 5,
+        },
+        cells: counts.cells,
+        firings: counts.firings,
+        clocks: counts.clocks,
+    }
+}
