@@ -83,7 +83,7 @@ impl std::fmt::Display for Refusal {
             Refusal::BadFactor => "a factor that is infinite or not a number",
             Refusal::TooLarge => "capacities summing above 16,384",
             Refusal::ShortStore => "a store that is too short",
-            Refusal::BadState => "a state that fits no run of the chain",
+            Refusal::BadState => "a state whose counters do not fit the chain",
             Refusal::ShortOutput => "an output that is too short for the sheet",
         };
         write!(f, "refused by {}: {}", self.number(), text)
