@@ -8,7 +8,7 @@
  *
  * Numbers: 1 a malformed line, 2 a line out of its order or missing, 3 dimension count, sizes or number of cells, 4 number of references, 5 two equal offsets,
  * 6 no iteration, 7 difference or blend without a centre, 8 a factor that is infinite or not a number, 9 capacities summing above 16,384, 10 a store that is too
- * short, 11 a state that is too short or fits no run of the chain, 12 what is to be written is longer than the slice lent for it.
+ * short, 11 a state that is too short or whose counters do not fit the chain, 12 what is to be written is longer than the slice lent for it.
  */
 #ifndef ZOHMIRKA_H
 #define ZOHMIRKA_H
