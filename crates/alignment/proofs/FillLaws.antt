@@ -1,6 +1,6 @@
 -- The clocks of a call before its filters are aligned: the loop's invariant, and one law for each way that a turn goes.
 use Prim.Native.Nat.{ℕ, zero, suc, _+_, _-_, _≤_, _<_}
-use mathlib.Core.Bool.{Bool, true, false, false≢true}
+use mathlib.Core.Bool.{Bool, true, false, not, false≢true}
 use mathlib.Core.List.{List, [], _∷_}
 use mathlib.Core.Path.{_≡_, refl, sym, _∙_, ap}
 use native.Mathlib.Nat.{sub-zero, zero-add}
@@ -8,37 +8,23 @@ use native.Mathlib.Numerals.{add-one}
 use native.Mathlib.Omega.{arith}
 use native.Mathlib.Decide.{ℕ-discrete}
 use lib.ListN.{length, getD, take, drop, length-append, length-drop}
-use lib.Seq.{slice, slice-cons, slice-empty, length-take-le, take-at, drop-at, getD-take}
+use lib.Seq.{length-take-le, take-at, drop-at, getD-take}
 use borrow.Author.Tests.{lt-ltb, le-ltb}
 use Rattle.model.specs.Lists.{sum}
 use Rattle.model.specs.Clock.{Layout, first, turns, fires, next, moves}
-use Rattle.model.specs.Store.{stored}
 use Rattle.model.specs.Running.{Spent, Starved, Stalled, call}
-use Rattle.flow.specs.Machine.{Invariant}
+use Rattle.flow.specs.Machine.{Invariant, Ready}
 use Rattle.flow.specs.Tests.{fires-yes}
 use Rattle.flow.specs.Invariant.{next-invariant}
-use Rattle.demands.proofs.Held.{Steps, Fitted, next-steps, holds-fitted}
+use Rattle.demands.proofs.Held.{Steps, next-steps}
 use Rattle.alignment.specs.Passes.{of, Aligned}
-use Rattle.alignment.specs.Sweeps.{swept, writes, Writes, Lined}
+use Rattle.alignment.specs.Sweeps.{swept, Lined, Ringed, Turns, Turned}
 use Rattle.alignment.specs.Standings.{counting, stand, endedAt}
 use Rattle.alignment.specs.Tables.{Fills}
 use Rattle.alignment.proofs.AlignedLaws.{ready-aligned}
 use Rattle.alignment.proofs.SweepLaws.{turns-same}
-use Rattle.alignment.proofs.StoredLaws.{length-writes, holds-below, has-places, stored-writes}
+use Rattle.alignment.proofs.StoredLaws.{length-stored, holds-below, holds-apart}
 use Rattle.alignment.proofs.CallLaws.{call-spent, call-starved, call-stalled, call-shifts}
-
--- ---- the sum of the counters
-
-pub summing-none : (ps : List ℕ) (n : ℕ) → 0 ≡ sum (slice n n ps)
-unfolding sum
-summing-none ps n = rw slice-empty
-
-pub summing-again : (ps : List ℕ) (n k total : ℕ) → 0 < k → k ≤ n → n ≤ length ps → total ≡ sum (slice k n ps) → total + getD ps (k - 1) 0 ≡ sum (slice (k - 1) n ps)
-unfolding sum
-summing-again ps n zero total z h l e = absurd (omega arith)
-summing-again ps n (suc k) total z h l e =
-    let o : suc k - 1 ≡ k = omega arith in
-    rw (o, slice-cons k n ps 0 h l) (omega (arith, e))
 
 -- ---- the test for alignment
 
@@ -58,6 +44,14 @@ not-false e = absurd (false≢true e)
 pub not-true : {A : Type 0} → true ≡ false → A
 not-true e = absurd (false≢true (sym e))
 
+pub none-moved : (b : Bool) → not b ≡ true → b ≡ false
+none-moved true e = absurd (false≢true e)
+none-moved false e = refl
+
+pub some-moved : (b : Bool) → not b ≡ false → b ≡ true
+some-moved true e = refl
+some-moved false e = absurd (false≢true (sym e))
+
 -- ---- lists
 
 length-turns : (w c : ℕ → ℕ) (k source : ℕ) (ps : List ℕ) → length (turns w c k source ps) ≡ length ps
@@ -76,6 +70,10 @@ first-steps source [] (p′ ∷ ps′) s = absurd s
 first-steps source (p ∷ ps) [] s = absurd s
 first-steps source (p ∷ ps) (p′ ∷ ps′) s = (s .0, s .1)
 
+ready-first : (L : Layout) (f source : ℕ) (ps : List ℕ) → 0 < length ps → Ready L f 0 source ps → getD ps 0 0 ≡ L .wants f 0
+ready-first L f source [] h r = absurd (omega arith)
+ready-first L f source (p ∷ ps) h r = r .1
+
 aligned-at : (w cap : ℕ → ℕ) (k i : ℕ) (ps : List ℕ) → suc i < length ps → Aligned w cap k ps
     → (getD ps (suc i) 0 < getD ps i 0) × (getD ps i 0 + w (suc (k + i)) ≡ getD ps (suc i) 0 + w (k + i))
 aligned-at w cap k i [] h a = absurd (omega arith)
@@ -87,12 +85,15 @@ aligned-at w cap k (suc i) (p ∷ q ∷ qs) h a =
 
 -- ---- the loop
 
-module _ (L : Layout) (walk : ℕ → ℕ) (n cells iterations fired : ℕ) (at wants caps bases passed₀ store₀ lent : List ℕ) (allowance : ℕ) where
+module _ (L : Layout) (walk : ℕ → ℕ) (n cells iterations fired : ℕ) (at wants caps bases tops passed₀ puts₀ gets₀ store₀ lent : List ℕ) (allowance : ℕ) where
   -- The loop has made `clocks` clocks: what remains from here is what the whole gives.
-  pub record Filling (passed store : List ℕ) (taken clocks : ℕ) : Type 0 where
+  pub record Filling (passed puts gets store : List ℕ) (taken clocks : ℕ) : Type 0 where
     pub holds : Invariant L (counting fired (take n passed))
     pub rest : drop n passed ≡ drop n passed₀
     pub there : length passed ≡ 32
+    pub puts-there : length puts ≡ 32
+    pub gets-there : length gets ≡ 32
+    pub rings : Ringed n bases caps passed puts gets
     pub store-length : length store ≡ length store₀
     pub had : taken ≤ length lent
     pub allowed : clocks ≤ allowance
@@ -100,15 +101,18 @@ module _ (L : Layout) (walk : ℕ → ℕ) (n cells iterations fired : ℕ) (at 
     pub goes : (write : List ℕ → List ℕ) (size : ℕ) (out : List ℕ) → call L write size lent (allowance - clocks) (stand fired (take n passed) store out taken clocks 0)
         ≡ call L write size lent allowance (stand fired (take n passed₀) store₀ out 0 0 0)
 
-  module _ (F : Fills L walk n cells iterations fired at wants caps bases passed₀ store₀) where
+  module _ (F : Fills L walk n cells iterations fired at wants caps bases tops passed₀ puts₀ gets₀ store₀) where
     left : fired < L .iterations
     left = omega (arith, F .more, F .tables .iterations-are)
 
-    pub filling-start : Filling passed₀ store₀ 0 0
+    pub filling-start : Filling passed₀ puts₀ gets₀ store₀ 0 0
     filling-start = record {
       holds = F .stands .holds;
       rest = refl;
       there = F .stands .there;
+      puts-there = F .puts-there;
+      gets-there = F .gets-there;
+      rings = F .rings;
       store-length = refl;
       had = omega arith;
       allowed = omega arith;
@@ -122,7 +126,7 @@ module _ (L : Layout) (walk : ℕ → ℕ) (n cells iterations fired : ℕ) (at 
         let zeroth : 0 < iterations = omega (arith, F .more) in
         omega (arith, F .tables .reads 0 k zeroth h, F .tables .lawful .within 0 k (omega arith) (omega (arith, F .tables .filters-are)), F .tables .cells-are, F .tables .most)
 
-    module _ (passed store : List ℕ) (taken clocks : ℕ) (s : Filling passed store taken clocks) where
+    module _ (passed puts gets store : List ℕ) (taken clocks : ℕ) (s : Filling passed puts gets store taken clocks) where
       long : length (take n passed) ≡ n
       long = length-take-le n passed (omega (arith, s .there, F .tables .few))
 
@@ -147,13 +151,43 @@ module _ (L : Layout) (walk : ℕ → ℕ) (n cells iterations fired : ℕ) (at 
           go true e = absurd (f (lines (ready-aligned L fired 0 (L .cells) (take n passed) (s .holds .all) (fires-yes L (counting fired (take n passed)) e))))
           go false e = refl
 
-      -- The counters after a sweep.
+      pub may-turn : Turns (L .capacity) n bases tops caps passed puts gets store
+      may-turn = record {
+        few = F .tables .few;
+        ps-there = s .there;
+        puts-there = s .puts-there;
+        gets-there = s .gets-there;
+        low = small;
+        small = F .tables .small;
+        places = F .tables .places;
+        tops-are = F .tops-are;
+        within = λ k h. omega (arith, F .stands .within k h, s .store-length);
+        fits = λ k h.
+            let x = holds-apart L fired 0 (L .cells) k (take n passed) (omega (arith, long)) (s .holds .all) in
+            let y = rw (zero-add, getD-take n passed k 0 (omega arith), getD-take n passed (suc k) 0 h) at x in
+            (y .0, omega (arith, y .1, F .tables .places .caps-are k h));
+        rings = s .rings;
+      }
+
+      -- Nor do filters of which filter 0 is not presented its wanted cell. They are looked at, or that is so.
+      pub quiet : (look : Bool) → (look ≡ false → getD passed 0 0 ≡ getD wants 0 0 → ⊥) → (look ≡ true → Lined n at passed → ⊥) → fires L (counting fired (take n passed)) ≡ false
+      quiet true f g = idle (g refl)
+      quiet false f g = go (fires L (counting fired (take n passed))) refl
+        where
+          go : (b : Bool) → fires L (counting fired (take n passed)) ≡ b → b ≡ false
+          go true e =
+              absurd (f refl (sym (getD-take n passed 0 0 (F .tables .some))
+              ∙ ready-first L fired (L .cells) (take n passed) (omega (arith, long, F .tables .some)) (fires-yes L (counting fired (take n passed)) e)
+              ∙ sym (F .wants-are 0 (F .tables .some))))
+          go false e = refl
+
+      -- The counters after the turns.
       module _ (passed′ : List ℕ) (e : passed′ ≡ swept wants caps passed n cells) where
         same-turns : turns (of wants) (of caps) 0 cells (take n passed) ≡ turns (L .wants fired) (L .capacity) 0 (L .cells) (take n passed)
         same-turns =
             ap (λ (c : ℕ). turns (of wants) (of caps) 0 c (take n passed)) (sym (F .tables .cells-are))
             ∙ turns-same (of wants) (L .wants fired) (of caps) (L .capacity) n 0 (L .cells) (take n passed) (omega (arith, long))
-            (λ j h. F .wants-are j h ∙ sym (F .tables .reads fired j (F .more) h)) (λ j h. F .tables .places .caps-are j h)
+            (λ j h. F .wants-are j h) (λ j h. F .tables .places .caps-are j h)
 
         taken-turns : take n passed′ ≡ turns (L .wants fired) (L .capacity) 0 (L .cells) (take n passed)
         unfolding swept
@@ -175,44 +209,17 @@ module _ (L : Layout) (walk : ℕ → ℕ) (n cells iterations fired : ℕ) (at 
             ∙ length-append (turns (of wants) (of caps) 0 cells (take n passed)) (drop n passed)
             ∙ omega (arith, length-turns (of wants) (of caps) 0 cells (take n passed), long, length-drop n passed, s .there, F .tables .few)
 
-        module _ (nl : Lined n at passed → ⊥) where
+        module _ (none : fires L (counting fired (take n passed)) ≡ false) where
           -- The clock is the next of the definition.
           next-is : next L (counting fired (take n passed)) ≡ counting fired (take n passed′)
           unfolding next
-          next-is = rw (idle nl, taken-turns)
+          next-is = rw (none, taken-turns)
 
           holds-now : Invariant L (counting fired (take n passed′))
           holds-now = rw next-is at (next-invariant L (F .tables .lawful) (counting fired (take n passed)) left (s .holds))
 
           steps-now : Steps (L .cells) (take n passed) (take n passed′)
           steps-now = rw next-is at (next-steps L (counting fired (take n passed)) (s .holds))
-
-          fitted : Fitted (L .capacity) 0 (take n passed)
-          fitted = holds-fitted L fired 0 (L .cells) (take n passed) (s .holds .all)
-
-          fitted-now : Fitted (L .capacity) 0 (take n passed′)
-          fitted-now = holds-fitted L fired 0 (L .cells) (take n passed′) (holds-now .all)
-
-          pub small-now : (k : ℕ) → k < n → getD passed′ k 0 ≤ 1048576
-          small-now k h =
-              omega (arith, getD-take n passed′ k 0 h, holds-below L fired 0 (L .cells) k (take n passed′) (holds-now .all), F .tables .most, F .tables .cells-are)
-
-          pub may-write : Writes n bases caps passed passed′ store
-          may-write = record {
-            few = F .tables .few;
-            old-there = omega (arith, s .there, F .tables .few);
-            new-there = omega (arith, there-now, F .tables .few);
-            within = λ k h. omega (arith, F .stands .within k (omega arith), s .store-length);
-            gives = λ k h g. positive k h (has k h .0 (rw (getD-take n passed k 0 (omega arith), getD-take n passed′ k 0 (omega arith)) g));
-            holds = λ k h g. positive k h (has k h .1 (rw (getD-take n passed k 0 (omega arith), getD-take n passed (suc k) 0 (omega arith)) (rw add-one at g)));
-          }
-            where
-              positive : (k : ℕ) → k + 1 < n → 0 < L .capacity (0 + k) → 0 < getD caps k 0
-              positive k h g = let p = rw zero-add at g in omega (arith, F .tables .places .caps-are k (omega arith))
-
-              has : (k : ℕ) → k + 1 < n
-                  → (getD (take n passed) k 0 < getD (take n passed′) k 0 → 0 < L .capacity (0 + k)) × (getD (take n passed) (suc k) 0 < getD (take n passed) k 0 → 0 < L .capacity (0 + k))
-              has k h = has-places (L .capacity) 0 (L .cells) k (take n passed) (take n passed′) (omega (arith, long)) steps-now fitted fitted-now
 
           first-before : first (take n passed) ≡ getD passed 0 0
           first-before = first-take n passed (F .tables .some) (omega (arith, s .there, F .tables .few))
@@ -235,36 +242,57 @@ module _ (L : Layout) (walk : ℕ → ℕ) (n cells iterations fired : ℕ) (at 
             more-left : allowance - clocks ≡ suc (allowance - suc clocks)
             more-left = omega arith
 
-            pub filling-again : (store′ : List ℕ) (x : ℕ) → x ≡ getD lent taken 0 → sum (take n passed) < sum (take n passed′)
-                → store′ ≡ writes (of bases) (of caps) 0 x (take n passed) (take n passed′) store
-                → Filling passed′ store′ (taken + (getD passed′ 0 0 - getD passed 0 0)) (clocks + 1)
-            filling-again store′ x ex up es =
-                let places = F .tables .places in
-                let ew : stored (L .capacity) 0 x store (take n passed) (take n passed′) store ≡ store′ =
-                stored-writes (L .capacity) n (of bases) (of caps) places 0 (L .cells) x x store (take n passed) (take n passed′) store (omega (arith, long))
-                steps-now fitted fitted-now (λ i _. refl) (λ _. refl)
-                ∙ sym es in
-                let m = moves-is true (lt-ltb (sum (take n passed)) (sum (take n passed′)) up) in
+            pub filling-again : (puts′ gets′ store′ : List ℕ) (x : ℕ) (m : Bool) → x ≡ getD lent taken 0 → m ≡ true
+                → Turned (L .capacity) n cells x wants bases caps passed passed′ puts′ gets′ store store′ m
+                → Filling passed′ puts′ gets′ store′ (taken + (getD passed′ 0 0 - getD passed 0 0)) (clocks + 1)
+            filling-again puts′ gets′ store′ x m ex em t =
+                let mo = moves-is true (lt-ltb (sum (take n passed)) (sum (take n passed′)) (t .up em)) in
                 rw add-one record {
                   holds = holds-now;
                   rest = rest-same ∙ s .rest;
                   there = there-now;
-                  store-length = ap length es ∙ length-writes (of bases) (of caps) 0 x (take n passed) (take n passed′) store ∙ s .store-length;
+                  puts-there = t .puts-there;
+                  gets-there = t .gets-there;
+                  rings = t .rings;
+                  store-length = ap length (t .words) ∙ length-stored (L .capacity) 0 x store (take n passed) (take n passed′) store ∙ s .store-length;
                   had = omega (arith, first-on);
                   allowed = al;
                   fewer = omega (arith, first-on, s .fewer);
                   goes = λ write size out.
                       let g = rw more-left at (s .goes write size out) in
-                      let l = call-shifts L write size lent fired (take n passed) store out taken clocks 0 left tl (idle nl) (allowance - suc clocks) m in
-                      sym (rw (next-is, ← ex, ew, first-before, first-after) at l) ∙ g;
+                      let l = call-shifts L write size lent fired (take n passed) store out taken clocks 0 left tl none (allowance - suc clocks) mo in
+                      sym (rw (next-is, ← ex, ← (t .words), first-before, first-after) at l) ∙ g;
                 }
 
-            pub stops-stalled : sum (take n passed′) ≤ sum (take n passed) → (write : List ℕ → List ℕ) (size : ℕ) (out : List ℕ)
-                → endedAt Stalled (stand fired (take n passed) store out taken clocks 0) ≡ call L write size lent allowance (stand fired (take n passed₀) store₀ out 0 0 0)
-            stops-stalled le write size out =
-                let m = moves-is false (le-ltb (sum (take n passed)) (sum (take n passed′)) le) in
-                sym (call-stalled L write size lent (allowance - suc clocks) (stand fired (take n passed) store out taken clocks 0) left tl m)
-                ∙ (rw more-left at (s .goes write size out))
+            -- No filter moved.
+            module _ (puts′ gets′ store′ : List ℕ) (x : ℕ) (m : Bool) (em : m ≡ false)
+                (t : Turned (L .capacity) n cells x wants bases caps passed passed′ puts′ gets′ store store′ m) where
+              pub filling-still : Filling passed′ puts′ gets′ store′ taken clocks
+              filling-still =
+                  let a = t .still em in
+                  record {
+                    holds = rw (a .0) (s .holds);
+                    rest = rw (a .0) (s .rest);
+                    there = rw (a .0) (s .there);
+                    puts-there = t .puts-there;
+                    gets-there = t .gets-there;
+                    rings = t .rings;
+                    store-length = rw (a .1) (s .store-length);
+                    had = s .had;
+                    allowed = s .allowed;
+                    fewer = s .fewer;
+                    goes = rw (a .0, a .1) (s .goes);
+                  }
+
+              pub stops-stalled : (write : List ℕ → List ℕ) (size : ℕ) (out : List ℕ)
+                  → endedAt Stalled (stand fired (take n passed′) store′ out taken clocks 0) ≡ call L write size lent allowance (stand fired (take n passed₀) store₀ out 0 0 0)
+              stops-stalled write size out =
+                  let a = t .still em in
+                  let le : sum (take n passed′) ≤ sum (take n passed) = omega (arith, ap (λ (l : List ℕ). sum (take n l)) (a .0)) in
+                  let mo = moves-is false (le-ltb (sum (take n passed)) (sum (take n passed′)) le) in
+                  rw (a .0, a .1)
+                  (sym (call-stalled L write size lent (allowance - suc clocks) (stand fired (take n passed) store out taken clocks 0) left tl mo)
+                  ∙ (rw more-left at (s .goes write size out)))
 
       -- ---- the other ways out
 

@@ -3,7 +3,7 @@ use Prim.Native.Nat.{ℕ, suc, _+_, _%_, _≤_, _<_}
 use mathlib.Core.Bool.{Bool, true, false, cond}
 use mathlib.Core.List.{List, [], _∷_, map}
 use mathlib.Core.Path.{_≡_, refl, sym, _∙_, ap, ap₂}
-use native.Mathlib.Nat.{mod-lt, suc-mod, mod-self, mod-eq-of-lt}
+use native.Mathlib.Nat.{mod-lt, suc-mod, mod-self, mod-eq-of-lt, add-mod-right}
 use native.Mathlib.Omega.{arith}
 use lib.Dec.{eqb}
 use lib.ListN.{length, getD, set, length-set}
@@ -41,6 +41,17 @@ module _ (base cap w : ℕ → ℕ) where
   puts-on k [] a = refl
   puts-on k (p ∷ []) a = refl
   puts-on k (p ∷ q ∷ qs) a = ap₂ _∷_ (sym (step-is (base k) (cap k) p (omega arith))) (puts-on (suc k) (q ∷ qs) (a .3))
+
+-- The head of a full FIFO is where the next cell goes.
+pub full-places : (base cap : ℕ → ℕ) (k : ℕ) (ps : List ℕ) → ((i : ℕ) → suc i < length ps → getD ps i 0 ≡ getD ps (suc i) 0 + cap (k + i)) → puts base cap k ps ≡ gets base cap k ps
+unfolding gets puts
+full-places base cap k [] f = refl
+full-places base cap k (p ∷ []) f = refl
+full-places base cap k (p ∷ q ∷ qs) f =
+    let z : k + 0 ≡ k = omega arith in
+    let e : p ≡ q + cap k = rw z at (f 0 (omega arith)) in
+    ap₂ _∷_ (ap (λ (r : ℕ). base k + r) (ap (λ (x : ℕ). x % cap k) e ∙ add-mod-right q (cap k)))
+    (full-places base cap (suc k) (q ∷ qs) (λ i h. let y : k + suc i ≡ suc k + i = omega arith in rw y at (f (suc i) (omega arith))))
 
 module _ (capacity : ℕ → ℕ) (n : ℕ) (base cap : ℕ → ℕ) (places : Places capacity n base cap) where
   pub place-is : (k p : ℕ) → suc k < n → placeIn capacity k p ≡ base k + p % cap k

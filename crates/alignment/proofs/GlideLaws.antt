@@ -1,19 +1,21 @@
 -- The clocks of a call whose filters are aligned: the loop's invariant, and one law for each way that a turn goes.
 use Prim.Native.Nat.{ℕ, zero, suc, _+_, _*_, _-_, _%_, _≤_, _<_}
+use mathlib.Core.Bool.{Bool, true, false}
 use mathlib.Core.List.{List, [], _∷_, _++_, map}
 use mathlib.Core.Path.{_≡_, refl, sym, _∙_, ap, ap₂}
 use native.Mathlib.Nat.{mod-lt, suc-mod, mod-self, mod-eq-of-lt, sub-zero, add-zero, zero-add, suc-mul}
 use native.Mathlib.Numerals.{add-one}
 use native.Mathlib.Omega.{arith}
+use native.Mathlib.Decide.{ℕ-discrete}
 use lib.ListN.{length, getD, take, length-map}
 use lib.Seq.{slice, sets, length-sets, take-suc, take-suc-set, length-take-le, getD-take}
 use Rattle.model.specs.Clock.{Layout, first}
 use Rattle.model.specs.Running.{Done, Spent, Starved, Full, call}
-use Rattle.alignment.specs.Passes.{of, Aligned, ahead, step, flow, flowed, gets, puts, steps, stepped, passing, InStore}
+use Rattle.alignment.specs.Passes.{of, Aligned, ahead, step, flow, flowed, gets, puts, steps, stepped, passing, heads, FullFifos, InStore}
 use Rattle.alignment.specs.Standings.{stand, endedAt}
 use Rattle.alignment.specs.Tables.{Tables, Stands, Rows, Rings}
 use Rattle.alignment.proofs.AlignedLaws.{aligned-on, aligned-same}
-use Rattle.alignment.proofs.FlowLaws.{gets-on, puts-on, length-flow}
+use Rattle.alignment.proofs.FlowLaws.{gets-on, puts-on, full-places, length-flow}
 use Rattle.alignment.proofs.PassLaws.{length-stepped}
 use Rattle.alignment.proofs.StoredLaws.{holds-below}
 use Rattle.alignment.proofs.FillLaws.{first-take}
@@ -63,6 +65,38 @@ module _ (w base cap : ℕ → ℕ) (len n : ℕ) (within : (k : ℕ) → suc k 
   gets-below k i (p ∷ []) l a h = absurd (omega arith)
   gets-below k zero (p ∷ q ∷ qs) l a h = omega (arith, mod-lt q (let z : 0 < cap k = omega arith in z), within k (omega arith))
   gets-below k (suc i) (p ∷ q ∷ qs) l a h = gets-below (suc k) i (q ∷ qs) (omega arith) (a .3) (omega arith)
+
+-- ---- full FIFOs
+
+pub full-none : (caps passed : List ℕ) → FullFifos 1 caps passed
+full-none caps passed k h = absurd (omega arith)
+
+pub full-more : (caps passed : List ℕ) (k : ℕ) → FullFifos (k + 1) caps passed → getD passed k 0 ≡ getD passed (k + 1) 0 + getD caps k 0 → FullFifos (k + 1 + 1) caps passed
+full-more caps passed k f x j h = go (ℕ-discrete j k)
+  where
+    go : Dec (j ≡ k) → getD passed j 0 ≡ getD passed (suc j) 0 + getD caps j 0
+    go (yes e) = rw e (rw add-one at x)
+    go (no e) = f j (omega arith)
+
+pub full-below : (caps passed : List ℕ) (n k : ℕ) → n ≤ k + 1 → FullFifos (k + 1) caps passed → FullFifos n caps passed
+full-below caps passed n k l f j h = f j (omega arith)
+
+-- One table is enough where every FIFO is full.
+pub rings-heads : (full : Bool) (n : ℕ) (at caps bases tops passed us gs : List ℕ) → n ≤ length passed → (full ≡ true → FullFifos n caps passed)
+    → Rings n at caps bases tops passed us gs → Rings n at caps bases tops passed us (heads full us gs)
+rings-heads false n at caps bases tops passed us gs l f R = R
+rings-heads true n at caps bases tops passed us gs l f R =
+    let t = length-take-le n passed l in
+    record {
+      tops-are = R .tops-are;
+      aligned = R .aligned;
+      puts-there = R .puts-there;
+      gets-there = R .puts-there;
+      at-puts = R .at-puts;
+      at-gets = R .at-puts
+          ∙ full-places (of bases) (of caps) 0 (take n passed)
+          (λ i h. rw (zero-add, getD-take n passed i 0 (omega arith), getD-take n passed (suc i) 0 (omega arith)) (f refl i (omega arith)));
+    }
 
 -- ---- counters some cells on
 
@@ -127,19 +161,19 @@ module _ (L : Layout) (walk : ℕ → ℕ) (write : List ℕ → List ℕ) (size
     within-cells =
         omega (arith, holds-below L fired₀ 0 (L .cells) 0 (take n passed) (S .holds .all), getD-take n passed 0 0 (T .some), T .cells-are)
 
-    pub gliding-start : (wait left : ℕ) → left ≡ row - fired₀ % row → (fired₀ < iterations → getD passed 0 0 + wait ≡ getD at 0 0 + walk fired₀)
-        → Gliding us₀ gs₀ store₀ out₀ fired₀ wait left 0 0
+    pub gliding-start : (full : Bool) → (full ≡ true → FullFifos n caps passed) → (wait left : ℕ) → left ≡ row - fired₀ % row
+        → (fired₀ < iterations → getD passed 0 0 + wait ≡ getD at 0 0 + walk fired₀) → Gliding us₀ (heads full us₀ gs₀) store₀ out₀ fired₀ wait left 0 0
     unfolding ahead
-    gliding-start wait left e d = record {
+    gliding-start full f wait left e d = let H = rings-heads full n at caps bases tops passed us₀ gs₀ (omega (arith, S .there, T .few)) f R in record {
       begun = omega arith;
       made = omega (arith, S .holds .most, T .iterations-are);
       allowed = omega arith;
       fewer = omega arith;
       had = omega arith;
-      puts-there = R .puts-there;
-      gets-there = R .gets-there;
-      at-puts = R .at-puts;
-      at-gets = R .at-gets;
+      puts-there = H .puts-there;
+      gets-there = H .gets-there;
+      at-puts = H .at-puts;
+      at-gets = H .at-gets;
       inside = omega (arith, within-cells);
       waits = λ h. omega (arith, d h);
       lefts = e;

@@ -2,8 +2,8 @@ pub mod AlignedLaws
 pub mod FlowLaws
 pub mod CallLaws
 pub mod SweepLaws
-pub mod WriteLaws
 pub mod StoredLaws
+pub mod TurnLaws
 pub mod PassLaws
 pub mod FillLaws
 pub mod GlideLaws

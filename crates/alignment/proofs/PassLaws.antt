@@ -1,5 +1,6 @@
 -- The pass of the words, place by place.
 use Prim.Native.Nat.{ℕ, zero, suc, _+_, _≤_, _<_}
+use mathlib.Core.Bool.{Bool, true, false}
 use mathlib.Core.List.{List}
 use mathlib.Core.Path.{_≡_, refl, sym, _∙_, ap, ap₂}
 use native.Mathlib.Numerals.{add-one}
@@ -7,7 +8,7 @@ use native.Mathlib.Omega.{arith}
 use lib.ListN.{length, getD, set, length-set}
 use lib.Seq.{slice, slice-cons, slice-empty, sets, getD-set-other}
 use borrow.Author.Tests.{eq-eqb, ne-eqb}
-use Rattle.alignment.specs.Passes.{step, flow, flowed, stepped, lentOf, passOf, InStore}
+use Rattle.alignment.specs.Passes.{step, flow, flowed, stepped, lentOf, passOf, heads, InStore}
 
 pub step-back : (b t u : ℕ) → u + 1 ≡ t → b ≡ step b t u
 unfolding step
@@ -87,3 +88,20 @@ module _ (bases tops : List ℕ) where
           let pu : puts ≡ stepped bases tops m puts₀ = rw e at (s .at-puts) in
           let ge : gets ≡ stepped bases tops m gets₀ = rw e at (s .at-gets) in
           cc
+
+-- The heads are at the one table or at the other.
+module _ (full : Bool) (m : ℕ) (us gs store : List ℕ) where
+  pub one-table : full ≡ true → InStore m us (heads full us gs) store → InStore m us us store
+  one-table e i = rw e at i
+
+  pub two-tables : full ≡ false → InStore m us (heads full us gs) store → InStore m us gs store
+  two-tables e i = rw e at i
+
+  module _ (bases tops : List ℕ) (word : ℕ) (words us′ gs′ store′ words′ : List ℕ) where
+    pub passed-one : full ≡ true → lentOf us′ us′ store′ words′ ≡ passOf m bases tops word (lentOf us us store words)
+        → lentOf us′ (heads full us′ gs′) store′ words′ ≡ passOf m bases tops word (lentOf us (heads full us gs) store words)
+    passed-one e h = rw e h
+
+    pub passed-two : full ≡ false → lentOf us′ gs′ store′ words′ ≡ passOf m bases tops word (lentOf us gs store words)
+        → lentOf us′ (heads full us′ gs′) store′ words′ ≡ passOf m bases tops word (lentOf us (heads full us gs) store words)
+    passed-two e h = rw e h

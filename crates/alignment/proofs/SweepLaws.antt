@@ -9,7 +9,7 @@ use native.Mathlib.Omega.{arith}
 use lib.Dec.{ltb, eqb}
 use lib.ListN.{length, getD, take, drop, set, length-set, take-append-drop}
 use lib.Seq.{slice, slice-cons, slice-empty, getD-set-same, getD-set-other, take-set-lt, drop-set-lt}
-use borrow.Author.Tests.{lt-ltb, le-ltb, eq-eqb, ne-eqb}
+use borrow.Author.Tests.{lt-ltb, le-ltb, ltb-true, eq-eqb, ne-eqb}
 use Rattle.model.specs.Clock.{turn, limit, turns}
 use Rattle.alignment.specs.Sweeps.{source, swept}
 
@@ -45,6 +45,25 @@ turn-most src w b p = go (ltb p src && (not (eqb p w) && ltb p b))
     go : (x : Bool) → cond x (suc p) p ≤ p + 1
     go true = omega arith
     go false = omega arith
+
+-- A filter that goes on has a cell before it and a place behind it.
+pub turn-went : (src w b p : ℕ) → p < turn src w b p → (turn src w b p ≡ suc p) × (p < src) × (p < b)
+unfolding turn
+turn-went src w b p h = go (ltb p src) (eqb p w) (ltb p b) refl refl h
+  where
+    go : (x y z : Bool) → ltb p src ≡ x → ltb p b ≡ z → p < cond (x && (not y && z)) (suc p) p → (cond (x && (not y && z)) (suc p) p ≡ suc p) × (p < src) × (p < b)
+    go true false true e f h = (refl, ltb-true p src e, ltb-true p b f)
+    go true false false e f h = absurd (omega arith)
+    go true true z e f h = absurd (omega arith)
+    go false y z e f h = absurd (omega arith)
+
+pub turn-stayed : (src w b p : ℕ) → turn src w b p ≤ p → turn src w b p ≡ p
+unfolding turn
+turn-stayed src w b p h = go (ltb p src && (not (eqb p w) && ltb p b)) h
+  where
+    go : (x : Bool) → cond x (suc p) p ≤ p → cond x (suc p) p ≡ p
+    go true h = absurd (omega arith)
+    go false h = refl
 
 pub source-first : (cells : ℕ) (ps : List ℕ) (k : ℕ) → k ≡ 0 → cells ≡ source cells ps k
 unfolding source

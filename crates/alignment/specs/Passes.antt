@@ -1,6 +1,6 @@
 -- A clock in which every filter moves: the words pass through the FIFOs from the first to the last. FIFO k's places go from `base k` on, `cap k` of them.
 use Prim.Native.Nat.{ℕ, zero, suc, _+_, _%_, _≤_, _<_}
-use mathlib.Core.Bool.{cond}
+use mathlib.Core.Bool.{Bool, cond}
 use mathlib.Core.List.{List, [], _∷_, map}
 use mathlib.Core.Path.{_≡_}
 use lib.Dec.{eqb}
@@ -93,6 +93,14 @@ passOf m bases tops word l = record {
   store = flow word (slice 0 m (l .gets)) (slice 0 m (l .puts)) (l .store);
   words = sets (l .words) 0 (passing m word (l .puts) (l .gets) (l .store));
 }
+
+-- Where the heads of the FIFOs are: where the next cells go, if every FIFO is full.
+abbrev pub heads : (full : Bool) (puts gets : List ℕ) → List ℕ
+heads full puts gets = cond full puts gets
+
+-- The counters of n filters say that every FIFO is full.
+abbrev pub FullFifos : (n : ℕ) (caps passed : List ℕ) → Type 0
+FullFifos n caps passed = (k : ℕ) → suc k < n → getD passed k 0 ≡ getD passed (suc k) 0 + getD caps k 0
 
 -- The places are there, and lie in the store.
 pub record InStore (m : ℕ) (puts gets store : List ℕ) : Type 0 where

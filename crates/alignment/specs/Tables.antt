@@ -6,6 +6,7 @@ use lib.ListN.{length, getD, take}
 use Rattle.model.specs.Clock.{Layout}
 use Rattle.flow.specs.Machine.{Lawful, Invariant}
 use Rattle.alignment.specs.Passes.{of, Aligned, Places, gets, puts}
+use Rattle.alignment.specs.Sweeps.{Ringed}
 use Rattle.alignment.specs.Standings.{counting}
 
 -- How far the cells that iteration j reads lie behind those of iteration 0, where `boxes` and `strides` have, for each of the m dimensions from d on, how many
@@ -34,11 +35,15 @@ pub record Stands (L : Layout) (n fired : ℕ) (caps bases passed store : List �
   pub holds : Invariant L (counting fired (take n passed))
 
 -- What the clocks before the filters are aligned are handed.
-pub record Fills (L : Layout) (walk : ℕ → ℕ) (n cells iterations fired : ℕ) (at wants caps bases passed store : List ℕ) : Type 0 where
+pub record Fills (L : Layout) (walk : ℕ → ℕ) (n cells iterations fired : ℕ) (at wants caps bases tops passed puts₀ gets₀ store : List ℕ) : Type 0 where
   pub tables : Tables L walk n cells iterations at caps bases
   pub stands : Stands L n fired caps bases passed store
   pub more : fired < iterations
-  pub wants-are : (k : ℕ) → k < n → getD wants k 0 ≡ getD at k 0 + walk fired
+  pub wants-are : (k : ℕ) → k < n → getD wants k 0 ≡ L .wants fired k
+  pub tops-are : (k : ℕ) → suc k < n → getD tops k 0 ≡ getD bases k 0 + getD caps k 0
+  pub puts-there : length puts₀ ≡ 32
+  pub gets-there : length gets₀ ≡ 32
+  pub rings : Ringed n bases caps passed puts₀ gets₀
 
 -- Within a row, `row` iterations long, the walk rises by 1.
 pub record Rows (walk : ℕ → ℕ) (row iterations : ℕ) : Type 0 where

@@ -56,12 +56,12 @@ module _ (capacity : ℕ → ℕ) where
       go (no e) ih = omega (arith, ih (omega arith), first-place-suc n)
 
   -- A place of FIFO k lies before those of the FIFOs behind it.
-  place-before : (k p : ℕ) → 0 < capacity k → placeIn capacity k p < firstPlace capacity (suc k)
+  pub place-before : (k p : ℕ) → 0 < capacity k → placeIn capacity k p < firstPlace capacity (suc k)
   unfolding placeIn
   place-before k p h = omega (arith, first-place-suc k, mod-lt p h)
 
   -- A clock leaves the places of earlier FIFOs.
-  stored-before : (k x : ℕ) (old ps ps′ store : List ℕ) (i : ℕ) → i < firstPlace capacity k → getD (stored capacity k x old ps ps′ store) i 0 ≡ getD store i 0
+  pub stored-before : (k x : ℕ) (old ps ps′ store : List ℕ) (i : ℕ) → i < firstPlace capacity k → getD (stored capacity k x old ps ps′ store) i 0 ≡ getD store i 0
   unfolding stored placeIn
   stored-before k x old [] ps′ store i h = refl
   stored-before k x old (p ∷ []) ps′ store i h = refl

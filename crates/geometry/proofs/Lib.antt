@@ -6,4 +6,5 @@ pub mod GridLaws
 pub mod SpanLaws
 pub mod PlacingLaws
 pub mod ShapeLaws
+pub mod SurveyLaws
 pub mod Answers

@@ -86,7 +86,7 @@ module _ (f : ℕ → List ℤ) (k n : ℕ) where
   centre-end h = rw (part-none f k n h) (omega arith)
 
 -- The centre's number is below the count exactly if there is a centre.
-below-count : (os : List (List ℤ)) → ltb (centreOf os) (length os) ≡ any isZero os
+pub below-count : (os : List (List ℤ)) → ltb (centreOf os) (length os) ≡ any isZero os
 unfolding centreOf any
 below-count [] = refl
 below-count (o ∷ os) = go (isZero o) (below-count os)

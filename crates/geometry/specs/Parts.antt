@@ -45,3 +45,7 @@ placeBy dims lows strides offsets k = sum (tabulate dims (λ d. above (entryAt o
 -- No product of the last numbers, those before place `to`, is above the most cells.
 abbrev pub Small : List ℕ → (to : ℕ) → Type 0
 Small xs to = (d : ℕ) → product (part (numberAt xs) d to) ≤ mostCells
+
+-- Each of n numbers is above the next.
+abbrev pub Falls : (f : ℕ → ℕ) (n : ℕ) → Type 0
+Falls f n = (k : ℕ) → k + 1 < n → f (k + 1) < f k

@@ -8,12 +8,17 @@ use lib.ListN.{getD}
 use Rattle.model.specs.Lists.{tabulate, any}
 use Rattle.model.specs.Vectors.{isZero}
 use Rattle.model.specs.Geometry.{cellCount, extents, iterationCount, reads}
+use Rattle.model.specs.Answers.{Check, check, firstOf, byVerdict}
 use Rattle.model.specs.Values.{sizesOf, offsetsOf}
 use Rattle.model.specs.Judging.{badGrid, badCount, repeats, noIteration}
 use Rattle.model.specs.Kernels.{centreOf}
 use Rattle.model.specs.declared.Grid.{Grid}
+use Rattle.model.specs.declared.Refusal.{Refusal}
+use Rattle.model.specs.declared.Refusal.the-variants as refusal
+use Rattle.model.specs.declared.Verdict.the-variants as verdict
 use Rattle.model.specs.declared.Window.{Window}
 use Rattle.geometry.specs.declared.Shape.{Shape}
+use Rattle.geometry.specs.declared.Survey.{Survey}
 
 -- The arrays have as many entries as the counts say. A window of which they have not has no equal offsets and no centre.
 unfoldable pub held : (dims : ℕ) → Window → Bool
@@ -64,3 +69,22 @@ shapeOf g w =
     let offsets = offsetsOf (g .dims) w in
     let whole = shapeFor sizes offsets in
     cond (sound g w && not (noIteration sizes offsets)) whole blankShape
+
+-- What judging and running ask of a window on a grid, found together: the first of 3 to 6 that turns the two back, else the centre and the shape.
+unfoldable pub windowChecks : Grid → Window → List Check
+windowChecks g w =
+    let sizes = sizesOf g in
+    let offsets = offsetsOf (g .dims) w in
+    check (badGrid (g .dims) sizes) refusal.BadGrid
+    ∷ check (badCount (w .count)) refusal.BadCount
+    ∷ check (repeats offsets) refusal.EqualOffsets
+    ∷ check (noIteration sizes offsets) refusal.NoIteration
+    ∷ []
+
+abbrev pub unsurveyedOf : Refusal → Survey
+unsurveyedOf x = record { verdict = verdict.Refused x; centre = 0; shape = blankShape }
+
+unfoldable pub surveyOf : Grid → Window → Survey
+surveyOf g w =
+    let offsets = offsetsOf (g .dims) w in
+    byVerdict (firstOf (windowChecks g w)) (record { verdict = verdict.Accepted; centre = centreOf offsets; shape = shapeFor (sizesOf g) offsets }) unsurveyedOf

@@ -1,18 +1,21 @@
 // Grid and window as code (document 01, "Grid, window, distances"). What a public function answers on any value is fixed in specs/Shapes.antt.
 use model::Grid;
+use model::Refusal;
+use model::Verdict;
 use model::Window;
 ghost use mathlib.Core.Path.{_≡_};
-ghost use mathlib.Core.Bool.{cond};
+ghost use mathlib.Core.Bool.{true, false, cond};
 ghost use mathlib.Core.List.{map};
 ghost use Prim.Native.Nat.{ℕ, _+_, _-_, _≤_, _<_, max};
 ghost use lib.Signed.{ltZ};
-ghost use Rattle.model.specs.Lists.{product as productOf, greatest, any};
+ghost use Rattle.model.specs.Lists.{tabulate, product as productOf, greatest, any};
 ghost use Rattle.model.specs.Vectors.{above, equal, isZero};
 ghost use Rattle.model.specs.Geometry.{least, extent};
 ghost use Rattle.model.specs.Values.{sizesOf};
-ghost use Rattle.model.specs.Judging.{mostCells, badGrid, badCount};
-ghost use Rattle.geometry.specs.Parts.{part, numberAt, offsetAt, entriesIn, Filled, Lows, placeBy, Small};
-ghost use Rattle.geometry.specs.Shapes.{repeatsIn, centreIn, hasCentre, iterationsIn, blankShape, shapeOf};
+ghost use Rattle.model.specs.Judging.{mostCells, badGrid, badCount, repeats as repeatsOf};
+ghost use Rattle.model.specs.Kernels.{centreOf};
+ghost use Rattle.geometry.specs.Parts.{part, numberAt, offsetAt, entriesIn, Filled, Lows, placeBy, Small, Falls};
+ghost use Rattle.geometry.specs.Shapes.{repeatsIn, centreIn, hasCentre, iterationsIn, blankShape, shapeOf, unsurveyedOf, surveyOf};
 
 // A window on a grid as numbers. All are 0 where 3, 4 or 6 turns the two back.
 pub struct Shape {
@@ -105,6 +108,21 @@ fn occurs_later(offsets: &[i16; 128], k: usize, count: usize, dims: usize) -> bo
     false
 }
 
+// 5, of `count` references.
+fn repeats_in(offsets: &[i16; 128], count: usize, dims: usize) -> bool
+    requires { ⌜ (count ≤ 32) × (dims ≤ 4) ⌝ }
+    ensures { λ r. ⌜ r ≡ repeatsOf (tabulate count (offsetAt dims (now (offsets .entry)))) ⌝ }
+{
+    let mut k: usize = 0;
+    while k < count {
+        if occurs_later(offsets, k, count, dims) {
+            return true;
+        }
+        k += 1;
+    }
+    false
+}
+
 // 5: two equal offsets.
 pub fn repeats(dims: u8, window: Window) -> bool
     ensures { λ r. ⌜ r ≡ repeatsIn dims window ⌝ }
@@ -116,17 +134,8 @@ pub fn repeats(dims: u8, window: Window) -> bool
     if 32 < count {
         return false;
     }
-    let m = dims as usize;
-    let n = count as usize;
     let offsets = window.offsets;
-    let mut k: usize = 0;
-    while k < n {
-        if occurs_later(&offsets, k, n, m) {
-            return true;
-        }
-        k += 1;
-    }
-    false
+    repeats_in(&offsets, count as usize, dims as usize)
 }
 
 // Whether reference k's offset is zero.
@@ -145,6 +154,21 @@ fn is_zero(offsets: &[i16; 128], k: usize, dims: usize) -> bool
     true
 }
 
+// Which of `count` references is the centre; the count where none is.
+fn centre_in(offsets: &[i16; 128], count: u8, dims: usize) -> u8
+    requires { ⌜ (count ≤ 32) × (dims ≤ 4) ⌝ }
+    ensures { λ r. ⌜ r ≡ centreOf (tabulate count (offsetAt dims (now (offsets .entry)))) ⌝ }
+{
+    let mut k: u8 = 0;
+    while k < count {
+        if is_zero(offsets, k as usize, dims) {
+            return k;
+        }
+        k += 1;
+    }
+    count
+}
+
 // Which reference is the centre; the count where there is none.
 pub fn centre(dims: u8, window: Window) -> u8
     ensures { λ r. ⌜ r ≡ centreIn dims window ⌝ }
@@ -156,16 +180,8 @@ pub fn centre(dims: u8, window: Window) -> u8
     if 32 < n {
         return n;
     }
-    let m = dims as usize;
     let offsets = window.offsets;
-    let mut k: u8 = 0;
-    while k < n {
-        if is_zero(&offsets, k as usize, m) {
-            return k;
-        }
-        k += 1;
-    }
-    n
+    centre_in(&offsets, n, dims as usize)
 }
 
 // Whether a reference is the centre.
@@ -378,6 +394,32 @@ fn blank() -> Shape
     }
 }
 
+// The shape of a window that neither 3 nor 4 turns back.
+fn shape_in(grid: Grid, count: u8, offsets: &[i16; 128]) -> Shape
+    requires { ⌜ (badGrid (grid .dims) (sizesOf grid) ≡ false) × (badCount count ≡ false) ⌝ }
+    ensures { λ r. ⌜ r ≡ shapeOf grid (record { count = count; offsets = now (offsets .entry) }) ⌝ }
+{
+    let dims = grid.dims as usize;
+    let n = count as usize;
+    let sizes = grid.sizes;
+    let lows = lows_of(offsets, n, dims);
+    let extents = extents_of(&sizes, offsets, &lows, n, dims);
+    let iterations = product(&extents, 0, dims);
+    if iterations == 0 {
+        return blank();
+    }
+    let cells = product(&sizes, 0, dims);
+    let strides = strides_of(&sizes, dims);
+    let at = places_of(offsets, &lows, &strides, n, dims);
+    Shape {
+        cells,
+        iterations,
+        extents,
+        strides,
+        at,
+    }
+}
+
 // The shape of a window on a grid.
 pub fn shape_of(grid: Grid, window: Window) -> Shape
     ensures { λ r. ⌜ r ≡ shapeOf grid window ⌝ }
@@ -388,24 +430,79 @@ pub fn shape_of(grid: Grid, window: Window) -> Shape
     if bad_count(window) {
         return blank();
     }
-    let dims = grid.dims as usize;
-    let count = window.count as usize;
-    let sizes = grid.sizes;
     let offsets = window.offsets;
-    let lows = lows_of(&offsets, count, dims);
-    let extents = extents_of(&sizes, &offsets, &lows, count, dims);
-    let iterations = product(&extents, 0, dims);
-    if iterations == 0 {
-        return blank();
+    shape_in(grid, window.count, &offsets)
+}
+
+// Whether each position is above the next.
+fn falls(at: &[u32; 32], count: usize) -> bool
+    requires { ⌜ count ≤ 32 ⌝ }
+    ensures { λ r. ⌜ (r ≡ true → Falls (numberAt (now (at .entry))) count) ⌝ }
+{
+    let mut k: usize = 1;
+    while k < count {
+        if at[k - 1] <= at[k] {
+            return false;
+        }
+        k += 1;
     }
-    let cells = product(&sizes, 0, dims);
-    let strides = strides_of(&sizes, dims);
-    let at = places_of(&offsets, &lows, &strides, count, dims);
-    Shape {
-        cells,
-        iterations,
-        extents,
-        strides,
-        at,
+    true
+}
+
+// 5, of references whose positions are known: offsets whose positions fall differ.
+fn repeats_at(offsets: &[i16; 128], at: &[u32; 32], count: usize, dims: usize) -> bool
+    requires { ⌜ (count ≤ 32) × (dims ≤ 4) × (Falls (numberAt (now at)) count → repeatsOf (tabulate count (offsetAt dims (now offsets))) ≡ false) ⌝ }
+    ensures { λ r. ⌜ r ≡ repeatsOf (tabulate count (offsetAt dims (now (offsets .entry)))) ⌝ }
+{
+    if falls(at, count) {
+        return false;
+    }
+    repeats_in(offsets, count, dims)
+}
+
+// What judging and running ask of a window on a grid: the first of 3 to 6 that turns the two back, else the centre and the shape.
+pub struct Survey {
+    pub verdict: Verdict,
+    pub centre: u8,
+    pub shape: Shape,
+}
+
+fn unsurveyed(x: Refusal) -> Survey
+    ensures { λ r. ⌜ r ≡ unsurveyedOf x ⌝ }
+{
+    let shape = blank();
+    Survey {
+        verdict: Verdict::Refused(x),
+        centre: 0,
+        shape,
+    }
+}
+
+// 3 to 6, the centre and the shape, found together.
+pub fn survey_of(grid: Grid, window: Window) -> Survey
+    ensures { λ r. ⌜ r ≡ surveyOf grid window ⌝ }
+{
+    if bad_grid(grid) {
+        return unsurveyed(Refusal::BadGrid);
+    }
+    if bad_count(window) {
+        return unsurveyed(Refusal::BadCount);
+    }
+    let dims = grid.dims as usize;
+    let count = window.count;
+    let offsets = window.offsets;
+    let shape = shape_in(grid, count, &offsets);
+    let at = shape.at;
+    if repeats_at(&offsets, &at, count as usize, dims) {
+        return unsurveyed(Refusal::EqualOffsets);
+    }
+    if shape.iterations == 0 {
+        return unsurveyed(Refusal::NoIteration);
+    }
+    let centre = centre_in(&offsets, count, dims);
+    Survey {
+        verdict: Verdict::Accepted,
+        centre,
+        shape,
     }
 }

@@ -4,67 +4,30 @@ use mathlib.Core.Bool.{Bool, true, false, not, cond, _&&_}
 use mathlib.Core.List.{List, [], _∷_, _++_}
 use mathlib.Core.Path.{_≡_, refl, sym, _∙_, ap}
 use native.Mathlib.Omega.{arith}
-use lib.ListN.{take}
-use borrow.Author.Tests.{eq-eqb, ne-eqb, eqb-false}
+use lib.Dec.{leb, ltb}
+use lib.ListN.{length, take}
+use borrow.Author.Tests.{eqb-false, ltb-true, ltb-false, le-leb, lt-leb}
 use Rattle.model.specs.Geometry.{iterationCount}
-use Rattle.model.specs.Lists.{tabulate}
-use Rattle.model.specs.Values.{Trimmed, sizesOf, offsetsOf, capacitiesOf, trimmed}
+use Rattle.model.specs.Lists.{any}
+use Rattle.model.specs.Vectors.{isZero}
+use Rattle.model.specs.Kernels.{centreOf}
+use Rattle.model.specs.Values.{Trimmed, sizesOf, offsetOf, offsetsOf, capacitiesOf, trimmed}
 use Rattle.model.specs.Answers.{Check, check, firstOf, byVerdict}
-use Rattle.model.specs.Judging.{badGrid, badCount, noIteration, needsCentre, lacksCentre, badFactor, tooLarge, valueChecks, judged, judgeChain}
+use Rattle.model.specs.Judging.{badGrid, badCount, repeats, noIteration, needsCentre, lacksCentre, badFactor, tooLarge, valueChecks, judged, judgeChain}
 use Rattle.model.specs.declared.Grid.{Grid}
 use Rattle.model.specs.declared.Window.{Window}
 use Rattle.model.specs.declared.Kernel.{Kernel}
 use Rattle.model.specs.declared.Chain.{Chain}
 use Rattle.model.specs.declared.Refusal.{Refusal}
 use Rattle.model.specs.declared.Refusal.the-variants as refusal
+use Rattle.model.specs.declared.Verdict.{Verdict}
 use Rattle.model.specs.declared.Verdict.the-variants as verdict
-use Rattle.geometry.specs.Parts.{numberAt}
-use Rattle.geometry.specs.Shapes.{repeatsIn, hasCentre, iterationsIn}
-use Rattle.geometry.proofs.Answers.{repeats-is, has-centre-is, iterations-is}
-use Rattle.planner.specs.Checks.{uncapped, judgedWindow}
-
--- What is answered at each check, where those before it pass.
-module _ (g : Grid) (w : Window) (k : Kernel) where
-  pub refused-grid : badGrid (g .dims) (sizesOf g) ≡ true → verdict.Refused refusal.BadGrid ≡ judgedWindow g w k
-  unfolding judgedWindow uncapped valueChecks firstOf
-  refused-grid e = rw e
-
-  module _ (a : badGrid (g .dims) (sizesOf g) ≡ false) where
-    pub refused-count : badCount (w .count) ≡ true → verdict.Refused refusal.BadCount ≡ judgedWindow g w k
-    unfolding judgedWindow uncapped valueChecks firstOf
-    refused-count e = rw (a, e)
-
-    module _ (b : badCount (w .count) ≡ false) where
-      pub refused-repeats : repeatsIn (g .dims) w ≡ true → verdict.Refused refusal.EqualOffsets ≡ judgedWindow g w k
-      unfolding judgedWindow uncapped valueChecks firstOf
-      refused-repeats e = rw (a, b, sym (repeats-is g w a b) ∙ e)
-
-      module _ (c : repeatsIn (g .dims) w ≡ false) where
-        pub refused-iterations : iterationsIn g w ≡ 0 → verdict.Refused refusal.NoIteration ≡ judgedWindow g w k
-        unfolding judgedWindow uncapped valueChecks firstOf noIteration
-        refused-iterations e = rw (a, b, sym (repeats-is g w a b) ∙ c, eq-eqb (iterationCount (sizesOf g) (offsetsOf (g .dims) w)) 0 (sym (iterations-is g w a b) ∙ e))
-
-        module _ (d : iterationsIn g w ≡ 0 → ⊥) where
-          some : noIteration (sizesOf g) (offsetsOf (g .dims) w) ≡ false
-          unfolding noIteration
-          some = ne-eqb (iterationCount (sizesOf g) (offsetsOf (g .dims) w)) 0 (λ z. d (iterations-is g w a b ∙ z))
-
-          centre : (t : Bool) → (needsCentre k && not (hasCentre (g .dims) w)) ≡ t → lacksCentre k (offsetsOf (g .dims) w) ≡ t
-          unfolding lacksCentre
-          centre t e = ap (λ (u : Bool). needsCentre k && not u) (sym (has-centre-is g w a b)) ∙ e
-
-          pub refused-centre : (needsCentre k && not (hasCentre (g .dims) w)) ≡ true → verdict.Refused refusal.NoCentre ≡ judgedWindow g w k
-          unfolding judgedWindow uncapped valueChecks firstOf
-          refused-centre e = rw (a, b, sym (repeats-is g w a b) ∙ c, some, centre true e)
-
-          module _ (f : (needsCentre k && not (hasCentre (g .dims) w)) ≡ false) where
-            pub refused-factor : badFactor k ≡ true → verdict.Refused refusal.BadFactor ≡ judgedWindow g w k
-            unfolding judgedWindow uncapped valueChecks firstOf
-            refused-factor e = rw (a, b, sym (repeats-is g w a b) ∙ c, some, centre false f, e)
-
-            pub accepted : badFactor k ≡ false → verdict.Accepted ≡ judgedWindow g w k
-            unfolding judgedWindow uncapped valueChecks firstOf
-            accepted e = rw (a, b, sym (repeats-is g w a b) ∙ c, some, centre false f, e)
+use Rattle.geometry.specs.Shapes.{centreIn, shapeOf, windowChecks, surveyOf}
+use Rattle.geometry.specs.declared.Survey.{Survey}
+use Rattle.geometry.proofs.OffsetLaws.{below-count}
+use Rattle.geometry.proofs.Answers.{centre-is, shape-is}
+use Rattle.model.proofs.ListLaws.{length-tabulate}
+use Rattle.planner.specs.Checks.{uncapped, kernelChecks, judgedKernel, judgedWindow, judgedRest, examinedOf}
 
 -- A check behind others answers only where these pass.
 last-check : (cs : List Check) (c : Check)
@@ -103,6 +66,61 @@ first-passes c cs = go (c .holds)
     go true e = let z : _≡_ {A = ℕ} 0 1 = cc in absurd (omega arith)
     go false e = (refl, e)
 
+-- Checks behind others answer only where these pass.
+then-checks : (cs ds : List Check) → firstOf (cs ++ ds) ≡ byVerdict (firstOf cs) (firstOf ds) verdict.Refused
+unfolding firstOf
+then-checks [] ds = refl
+then-checks (c ∷ cs) ds = go (c .holds) (then-checks cs ds)
+  where
+    go : (t : Bool) → firstOf (cs ++ ds) ≡ byVerdict (firstOf cs) (firstOf ds) verdict.Refused
+        → cond t (verdict.Refused (c .refusal)) (firstOf (cs ++ ds)) ≡ byVerdict (cond t (verdict.Refused (c .refusal)) (firstOf cs)) (firstOf ds) verdict.Refused
+    go true e = refl
+    go false e = e
+
+-- There is no centre exactly if its number is at least the count.
+no-centre : (dims : ℕ) (w : Window) → leb (w .count) (centreOf (offsetsOf dims w)) ≡ not (any isZero (offsetsOf dims w))
+unfolding offsetsOf
+no-centre dims w = go (any isZero (offsetsOf dims w)) (below-count (offsetsOf dims w))
+  where
+    go : (t : Bool) → ltb (centreOf (offsetsOf dims w)) (length (offsetsOf dims w)) ≡ t → leb (w .count) (centreOf (offsetsOf dims w)) ≡ not t
+    go true e = lt-leb (w .count) (centreOf (offsetsOf dims w)) (omega (arith, ltb-true (centreOf (offsetsOf dims w)) (length (offsetsOf dims w)) e, length-tabulate (w .count) (offsetOf dims w)))
+    go false e = le-leb (w .count) (centreOf (offsetsOf dims w)) (omega (arith, ltb-false (centreOf (offsetsOf dims w)) (length (offsetsOf dims w)) e, length-tabulate (w .count) (offsetOf dims w)))
+
+-- What a survey answers is the first of 3 to 6.
+module _ (g : Grid) (w : Window) where
+  pub survey-verdict : surveyOf g w .verdict ≡ firstOf (windowChecks g w)
+  unfolding surveyOf
+  survey-verdict = go (firstOf (windowChecks g w)) refl
+    where
+      go : (v : Verdict) → firstOf (windowChecks g w) ≡ v → surveyOf g w .verdict ≡ firstOf (windowChecks g w)
+      go verdict.Accepted e = rw e
+      go (verdict.Refused x) e = rw e
+
+  survey-centre : firstOf (windowChecks g w) ≡ verdict.Accepted → surveyOf g w .centre ≡ centreOf (offsetsOf (g .dims) w)
+  unfolding surveyOf
+  survey-centre e = rw e
+
+  pub survey-count : surveyOf g w .verdict ≡ verdict.Accepted → badCount (w .count) ≡ false
+  unfolding windowChecks
+  survey-count e = first-passes _ _ (first-passes _ _ (sym survey-verdict ∙ e) .1) .0
+
+  -- 7 and 8 are looked at where 3 to 6 pass.
+  module _ (k : Kernel) where
+    by-kernel : judgedWindow g w k ≡ byVerdict (firstOf (windowChecks g w)) (judgedKernel k (centreOf (offsetsOf (g .dims) w)) (w .count)) verdict.Refused
+    unfolding judgedWindow uncapped valueChecks windowChecks judgedKernel kernelChecks lacksCentre
+    by-kernel =
+        then-checks (windowChecks g w) (check (lacksCentre k (offsetsOf (g .dims) w)) refusal.NoCentre ∷ check (badFactor k) refusal.BadFactor ∷ [])
+        ∙ ap (λ (t : Bool). byVerdict (firstOf (windowChecks g w)) (firstOf (check (needsCentre k && t) refusal.NoCentre ∷ check (badFactor k) refusal.BadFactor ∷ [])) verdict.Refused)
+        (sym (no-centre (g .dims) w))
+
+    pub window-refused : (x : Refusal) → surveyOf g w .verdict ≡ verdict.Refused x → verdict.Refused x ≡ judgedWindow g w k
+    window-refused x e = sym (rw (sym survey-verdict ∙ e) at by-kernel)
+
+    pub window-kernel : (v : Verdict) → surveyOf g w .verdict ≡ verdict.Accepted → v ≡ judgedKernel k (surveyOf g w .centre) (w .count) → v ≡ judgedWindow g w k
+    window-kernel v e d =
+        let f = sym survey-verdict ∙ e in
+        d ∙ ap (λ (m : ℕ). judgedKernel k m (w .count)) (survey-centre f) ∙ sym (rw f at by-kernel)
+
 module _ (g : Grid) (w : Window) (k : Kernel) (e : judgedWindow g w k ≡ verdict.Accepted) where
   parts : (badGrid (g .dims) (sizesOf g) ≡ false) × (badCount (w .count) ≡ false) × (noIteration (sizesOf g) (offsetsOf (g .dims) w) ≡ false)
   unfolding judgedWindow uncapped valueChecks
@@ -129,8 +147,62 @@ module _ (c : Chain) where
   unfolding judgeChain trimmed judgedWindow uncapped valueChecks
   chain-refused x e = judged-refused (trimmed c) x e
 
-  pub chain-capacities : (b : Bool) → judgedWindow (c .grid) (c .window) (c .kernel) ≡ verdict.Accepted
-      → tooLarge (tabulate (c .window .count - 1) (numberAt (c .capacities))) ≡ b
-      → cond b (verdict.Refused refusal.TooLarge) verdict.Accepted ≡ judgeChain c
-  unfolding judgeChain trimmed judgedWindow uncapped valueChecks capacitiesOf
-  chain-capacities b e f = judged-capacities (trimmed c) b e f
+  chain-capacities : judgedWindow (c .grid) (c .window) (c .kernel) ≡ verdict.Accepted
+      → firstOf (check (tooLarge (capacitiesOf c)) refusal.TooLarge ∷ []) ≡ judgeChain c
+  unfolding judgeChain trimmed judgedWindow uncapped valueChecks firstOf
+  chain-capacities e = judged-capacities (trimmed c) (tooLarge (capacitiesOf c)) e refl
+
+  -- What examining finds.
+  module _ (s : Survey) (d : s ≡ surveyOf (c .grid) (c .window)) where
+    found : (v : Verdict) → v ≡ judgeChain c → record { verdict = v; centre = s .centre; shape = s .shape } ≡ examinedOf c
+    unfolding examinedOf
+    found v e = rw (d, e)
+
+    pub examined-refused : (x : Refusal) → s .verdict ≡ verdict.Refused x → record { verdict = verdict.Refused x; centre = s .centre; shape = s .shape } ≡ examinedOf c
+    examined-refused x e = found (verdict.Refused x) (chain-refused x (sym (window-refused (c .grid) (c .window) (c .kernel) x (ap (λ (t : Survey). t .verdict) (sym d) ∙ e))))
+
+    pub examined-rest : (v : Verdict) → s .verdict ≡ verdict.Accepted → v ≡ judgedRest (c .kernel) (s .centre) (c .window .count) (capacitiesOf c)
+        → record { verdict = v; centre = s .centre; shape = s .shape } ≡ examinedOf c
+    unfolding judgedRest
+    examined-rest v e q = found v (q ∙ go (judgedKernel (c .kernel) (s .centre) (c .window .count)) refl)
+      where
+        window : (u : Verdict) → judgedKernel (c .kernel) (s .centre) (c .window .count) ≡ u → judgedWindow (c .grid) (c .window) (c .kernel) ≡ u
+        window u r =
+            sym (window-kernel (c .grid) (c .window) (c .kernel) u (ap (λ (t : Survey). t .verdict) (sym d) ∙ e)
+            (sym r ∙ ap (λ (t : Survey). judgedKernel (c .kernel) (t .centre) (c .window .count)) d))
+
+        go : (u : Verdict) → judgedKernel (c .kernel) (s .centre) (c .window .count) ≡ u
+            → byVerdict u (firstOf (check (tooLarge (capacitiesOf c)) refusal.TooLarge ∷ [])) verdict.Refused ≡ judgeChain c
+        go verdict.Accepted r = chain-capacities (window verdict.Accepted r)
+        go (verdict.Refused x) r = chain-refused x (window (verdict.Refused x) r)
+
+  pub examined-verdict : examinedOf c .verdict ≡ judgeChain c
+  unfolding examinedOf
+  examined-verdict = refl
+
+  -- Of an accepted chain it finds the centre and the shape.
+  module _ (e : judgeChain c ≡ verdict.Accepted) where
+    parts-clear : (badGrid (c .grid .dims) (sizesOf (c .grid)) ≡ false) × (badCount (c .window .count) ≡ false)
+        × (repeats (offsetsOf (c .grid .dims) (c .window)) ≡ false) × (noIteration (sizesOf (c .grid)) (offsetsOf (c .grid .dims) (c .window)) ≡ false)
+    unfolding judgeChain judged valueChecks trimmed
+    parts-clear =
+        let (a, p) = first-passes _ _ e in
+        let (b, q) = first-passes _ _ p in
+        let (d, r) = first-passes _ _ q in
+        let (f, s) = first-passes _ _ r in
+        (a, b, d, f)
+
+    window-clear : firstOf (windowChecks (c .grid) (c .window)) ≡ verdict.Accepted
+    unfolding windowChecks firstOf
+    window-clear = let (a, b, d, f) = parts-clear in rw (a, b, d, f)
+
+    pub examined-shape : examinedOf c .shape ≡ shapeOf (c .grid) (c .window)
+    unfolding examinedOf surveyOf noIteration
+    examined-shape =
+        let (a, b, d, f) = parts-clear in
+        rw window-clear
+        (sym (shape-is (c .grid) (c .window) a b (omega (arith, eqb-false (iterationCount (sizesOf (c .grid)) (offsetsOf (c .grid .dims) (c .window))) 0 f))))
+
+    pub examined-centre : examinedOf c .centre ≡ centreIn (c .grid .dims) (c .window)
+    unfolding examinedOf surveyOf
+    examined-centre = let (a, b, d, f) = parts-clear in rw window-clear (sym (centre-is (c .grid) (c .window) a b))

@@ -22,17 +22,18 @@ use Rattle.demands.proofs.Accepts.{trimmed-proper}
 use Rattle.alignment.specs.Passes.{of, Aligned}
 use Rattle.alignment.specs.Standings.{counting, stand, endedAt}
 use Rattle.alignment.specs.Tables.{walked, Tables, Stands, Fills}
-use Rattle.alignment.proofs.StoredLaws.{holds-below}
+use Rattle.alignment.specs.Sweeps.{Ringed}
+use Rattle.alignment.proofs.StoredLaws.{holds-below, holds-apart}
 use Rattle.alignment.proofs.CallLaws.{call-done, endedLater, call-later}
-use Rattle.runner.specs.Loops.{Walks, Glides, GlidesTo, FillsTo, calls, wayOf, Placed, Advanced}
+use Rattle.runner.specs.Loops.{Glides, GlidesTo, FillsTo, calls, wayOf, Placing, Advanced}
 use Rattle.runner.specs.Clocks.{Prepared, Begins, Ends}
 use Rattle.runner.specs.declared.Stop.the-variants as stop
 use Rattle.runner.specs.declared.Filled.{Filled}
 use Rattle.runner.specs.declared.Slid.{Slid}
 use Rattle.runner.proofs.FitLaws.{small-fits, small-fits-32}
 use Rattle.runner.proofs.FireLaws.{part-all}
-use Rattle.runner.proofs.TableLaws.{advanced-ahead, advanced-rest, placed-puts, placed-gets}
-use Rattle.runner.proofs.PreparedLaws.{good-grid, sizes-count, walks, rows, tables, stands, writes-are}
+use Rattle.runner.proofs.TableLaws.{advanced-ahead, advanced-rest, ringed-puts, ringed-gets}
+use Rattle.runner.proofs.PreparedLaws.{good-grid, sizes-count, walks, rows, tops-low, tables, stands, writes-are}
 
 -- No filter is before filter 0.
 holds-first : (L : Layout) (f k source i : ℕ) (ps : List ℕ) → Holds L f k source ps → getD ps i 0 ≤ getD ps 0 0
@@ -78,7 +79,7 @@ ends-there o f e x n taken made firings passed passed′ store out h eo er et es
 }
 
 module _ (c : Chain) (row iterations cells centre : ℕ) (at caps bases tops boxes strides : List ℕ)
-    (P : Prepared (trimmed c) row iterations cells centre at caps bases tops boxes strides) (fired : ℕ) (passed store : List ℕ) (B : Begins (trimmed c) fired passed store) where
+    (P : Prepared (trimmed c) row iterations cells centre at caps bases tops boxes strides) (fired : ℕ) (wants passed store : List ℕ) (B : Begins (trimmed c) fired wants passed store) where
   abbrev n : ℕ
   n = c .window .count
 
@@ -88,14 +89,25 @@ module _ (c : Chain) (row iterations cells centre : ℕ) (at caps bases tops box
 
   S : Stands (layout (trimmed c)) n fired caps bases passed store
   unfolding trimmed
-  S = stands (trimmed c) (sizes-count c) (trimmed-proper c) row iterations cells centre at caps bases tops boxes strides P fired passed store B
+  S = stands (trimmed c) (sizes-count c) (trimmed-proper c) row iterations cells centre at caps bases tops boxes strides P fired wants passed store B
 
   pub few : n ≤ 32
   few = T .few
 
-  pub may-walk : fired < iterations → Walks (c .grid .dims) boxes strides fired
+  -- The counters are in order, and each FIFO within its capacity.
+  pub may-place : (us gs : List ℕ) → length us ≡ 32 → length gs ≡ 32 → Placing n bases tops caps passed us gs
   unfolding trimmed
-  may-walk h = walks (trimmed c) (sizes-count c) (trimmed-proper c) row iterations cells centre at caps bases tops boxes strides P fired h
+  may-place us gs lu lg = record {
+    few = T .few;
+    puts-there = lu;
+    gets-there = lg;
+    fits = λ k h.
+        let x = holds-apart (layout (trimmed c)) fired 0 (layout (trimmed c) .cells) k (take n passed) (omega (arith, length-take-le n passed (omega (arith, B .there, T .few)))) (B .holds .all) in
+        let y = rw (zero-add, getD-take n passed k 0 (omega arith), getD-take n passed (suc k) 0 h) at x in
+        (y .0, omega (arith, y .1, T .places .caps-are k h));
+    tops-are = P .tops-are;
+    small = λ k h. omega (arith, tops-low (trimmed c) (sizes-count c) (trimmed-proper c) row iterations cells centre at caps bases tops boxes strides P k h, T .small k h);
+  }
 
   iterations-small : layout (trimmed c) .iterations ≤ 1048576
   unfolding layout
@@ -117,16 +129,21 @@ module _ (c : Chain) (row iterations cells centre : ℕ) (at caps bases tops box
       (rw ed at eo) refl (B .there) (λ k g. omega (arith, counters-small fired passed (B .holds) k g, T .most))
 
   module _ (more : fired < iterations) where
-    -- No reference reads past the cells.
-    pub wants-small : (w : ℕ) → w ≡ walked boxes strides (c .grid .dims) 0 fired → (k : ℕ) → k < n → getD at k 0 + w < 18446744073709551616
-    wants-small w e k h =
-        omega (arith, T .reads fired k more h, T .lawful .within fired k (omega (arith, T .iterations-are)) (omega (arith, T .filters-are)), T .cells-are, T .most)
+    pub may-fill : (us gs : List ℕ) → length us ≡ 32 → length gs ≡ 32 → Ringed n bases caps passed us gs
+        → Fills (layout (trimmed c)) (walked boxes strides (c .grid .dims) 0) n cells iterations fired at wants caps bases tops passed us gs store
+    unfolding trimmed
+    may-fill us gs lu lg r = record {
+      tables = T;
+      stands = S;
+      more = more;
+      wants-are = B .wants-are;
+      tops-are = P .tops-are;
+      puts-there = lu;
+      gets-there = lg;
+      rings = r;
+    }
 
-    pub may-fill : (wants : List ℕ) (w : ℕ) → w ≡ walked boxes strides (c .grid .dims) 0 fired → Advanced n w at wants
-        → Fills (layout (trimmed c)) (walked boxes strides (c .grid .dims) 0) n cells iterations fired at wants caps bases passed store
-    may-fill wants w e a = record { tables = T; stands = S; more = more; wants-are = λ k h. a .on k h ∙ ap (λ (y : ℕ). getD at k 0 + y) e }
-
-    module _ (lent out : List ℕ) (allowance : ℕ) (r : Filled) (passed′ store′ : List ℕ) (F : FillsTo r (trimmed c) n fired at passed passed′ store store′ lent allowance) where
+    module _ (lent out : List ℕ) (allowance : ℕ) (r : Filled) (passed′ us gs store′ : List ℕ) (F : FillsTo r (trimmed c) n fired at caps bases passed passed′ us gs store store′ lent allowance) where
       pub filled-small : (k : ℕ) → k < n → getD passed′ k 0 ≤ 1048576
       filled-small k h = omega (arith, counters-small fired passed′ (F .holds) k h, T .most)
 
@@ -162,26 +179,24 @@ module _ (c : Chain) (row iterations cells centre : ℕ) (at caps bases tops box
             rw (zero-add, getD-take n passed′ i 0 (omega (arith, long)), getD-take n passed′ (suc i) 0 (omega (arith, long))) x)
             (F .holds .all)
 
-        pub caps-there : (k : ℕ) → k + 1 < n → 0 < getD caps k 0
+        caps-there : (k : ℕ) → suc k < n → 0 < getD caps k 0
         caps-there k h = rw zero-add at (caps-at (of at) (of caps) 0 k (take n passed′) (omega (arith, long)) aligned-there)
 
-        pub places-small : length store < 2 ^ 64 → (k : ℕ) → k + 1 < n → getD bases k 0 + getD caps k 0 < 18446744073709551616
-        places-small l k h = omega (arith, S .within k (omega arith))
-
-        pub may-glide : (size : ℕ) (us gs : List ℕ) → size ≡ width (c .kernel) n → length store′ ≡ length store → Placed n bases caps passed′ 0 us → Placed n bases caps passed′ 1 gs
-            → Glides (trimmed c) (c .kernel) n row iterations cells centre size fired (c .grid .dims) at caps bases tops boxes strides passed′ us gs store′
+        pub may-glide : (size : ℕ) → size ≡ width (c .kernel) n → length store′ ≡ length store
+            → Glides (trimmed c) (c .kernel) n row iterations cells centre size fired (c .grid .dims) at wants caps bases tops boxes strides passed′ us gs store′
         unfolding trimmed widthOf
-        may-glide size us gs ew l pu pg = record {
+        may-glide size ew l = record {
           tables = T;
           stands = record { there = F .there; within = λ k h. omega (arith, S .within k h); holds = F .holds };
           more = more;
+          wanted = B .wants-are 0 (T .some) ∙ T .reads fired 0 more (T .some);
           rings = record {
             tops-are = P .tops-are;
             aligned = aligned-there;
-            puts-there = omega (arith, pu .there, T .few);
-            gets-there = omega (arith, pg .there, T .few);
-            at-puts = placed-puts n bases caps passed′ us (T .some) (T .few) (omega (arith, F .there, T .few)) pu;
-            at-gets = placed-gets n bases caps passed′ gs (T .some) (T .few) (omega (arith, F .there, T .few)) pg;
+            puts-there = omega (arith, F .puts-there, T .few);
+            gets-there = omega (arith, F .gets-there, T .few);
+            at-puts = ringed-puts n bases caps passed′ us gs (T .some) (T .few) (omega (arith, F .there, T .few)) (F .puts-there) caps-there (F .rings);
+            at-gets = ringed-gets n bases caps passed′ us gs (T .some) (T .few) (omega (arith, F .there, T .few)) (F .gets-there) caps-there (F .rings);
           };
           rows = rows (trimmed c) (sizes-count c) (trimmed-proper c) row iterations cells centre at caps bases tops boxes strides P;
           walks = walks (trimmed c) (sizes-count c) (trimmed-proper c) row iterations cells centre at caps bases tops boxes strides P;

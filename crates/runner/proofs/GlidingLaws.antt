@@ -1,19 +1,21 @@
 -- The loop over the clocks of aligned filters, as its function is handed it: one law for each way that a turn goes.
 use Prim.Native.Nat.{ℕ, _+_, _-_, _%_, _^_, _≤_, _<_}
+use mathlib.Core.Bool.{Bool, true}
 use mathlib.Core.List.{List}
 use mathlib.Core.Path.{_≡_, sym, _∙_, ap}
 use native.Mathlib.Nat.{mod-lt}
 use native.Mathlib.Omega.{arith}
 use lib.ListN.{length, getD, take}
-use lib.Seq.{sets}
+use lib.Seq.{sets, getD-take}
 use Rattle.model.specs.Values.{Trimmed}
 use Rattle.model.specs.Running.{Done, Spent, Starved, Full, layout, writtenBy}
 use Rattle.model.specs.declared.Kernel.{Kernel}
 use Rattle.flow.specs.Invariant.{first-wanted}
-use Rattle.alignment.specs.Passes.{ahead, Lent, lentOf, passing, passOf, InStore}
+use Rattle.alignment.specs.Passes.{ahead, Lent, lentOf, passing, passOf, heads, FullFifos, InStore}
 use Rattle.alignment.specs.Standings.{counting, stand, endedAt}
 use Rattle.alignment.specs.Tables.{walked}
 use Rattle.alignment.proofs.FillLaws.{first-take}
+use Rattle.alignment.proofs.StoredLaws.{holds-below}
 use Rattle.alignment.proofs.GlideLaws.{
   Gliding,
   gliding-start,
@@ -32,16 +34,12 @@ use mir.Val.{Fits}
 use Rattle.runner.proofs.FitLaws.{small-fits, sum-fits}
 use Rattle.runner.specs.Loops.{Fires, firedOf, Glides, calls}
 
-module _ (t : Trimmed) (kernel : Kernel) (n row iterations cells centre size fired₀ dims : ℕ) (at caps bases tops boxes strides passed us₀ gs₀ store₀ : List ℕ)
+module _ (t : Trimmed) (kernel : Kernel) (n row iterations cells centre size fired₀ dims : ℕ) (at wants caps bases tops boxes strides passed us₀ gs₀ store₀ : List ℕ)
     (lent out₀ : List ℕ) (allowance : ℕ) where
   abbrev pub Glide : (us gs store out : List ℕ) (fired wait left taken o : ℕ) → Type 0
   Glide = Gliding (layout t) (walked boxes strides dims 0) (writtenBy t) size n cells iterations row at caps bases tops passed lent fired₀ allowance us₀ gs₀ store₀ out₀
 
-  module _ (G : Glides t kernel n row iterations cells centre size fired₀ dims at caps bases tops boxes strides passed us₀ gs₀ store₀) where
-    pub glide-start : (wait left : ℕ) → left ≡ row - fired₀ % row
-        → (fired₀ < iterations → getD passed 0 0 + wait ≡ getD at 0 0 + walked boxes strides dims 0 fired₀) → Glide us₀ gs₀ store₀ out₀ fired₀ wait left 0 0
-    glide-start wait left e d = gliding-start _ _ _ _ _ _ _ _ _ _ _ _ _ _ _ _ _ _ _ _ (G .tables) (G .stands) (G .rows) (G .rings) wait left e d
-
+  module _ (G : Glides t kernel n row iterations cells centre size fired₀ dims at wants caps bases tops boxes strides passed us₀ gs₀ store₀) where
     pub row-left : fired₀ % row ≤ row
     row-left = let m = mod-lt fired₀ (G .rows .some) in omega arith
 
@@ -65,6 +63,25 @@ module _ (t : Trimmed) (kernel : Kernel) (n row iterations cells centre size fir
           first-take n passed (G .tables .some) (omega (arith, G .stands .there, G .tables .few)),
           G .tables .reads fired₀ 0 (G .more) (G .tables .some),
         )
+
+    pub wait-there : getD passed 0 0 ≤ getD wants 0 0
+    wait-there = omega (arith, due, G .wanted)
+
+    pub passed-small : (k : ℕ) → k < n → getD passed k 0 ≤ 1048576
+    passed-small k h =
+        omega (
+          arith,
+          getD-take n passed k 0 h,
+          holds-below (layout t) fired₀ 0 (layout t .cells) k (take n passed) (G .stands .holds .all),
+          G .tables .cells-are,
+          G .tables .most,
+        )
+
+    pub glide-start : (full : Bool) → (full ≡ true → FullFifos n caps passed) → (left : ℕ) → left ≡ row - fired₀ % row
+        → Glide us₀ (heads full us₀ gs₀) store₀ out₀ fired₀ (getD wants 0 0 - getD passed 0 0) left 0 0
+    glide-start full f left e =
+        gliding-start _ _ _ _ _ _ _ _ _ _ _ _ _ _ _ _ _ _ _ _ (G .tables) (G .stands) (G .rows) (G .rings) full f (getD wants 0 0 - getD passed 0 0) left e
+        (λ _. omega (arith, wait-there, G .wanted))
 
     module _ (us gs store out : List ℕ) (fired wait left taken o : ℕ) (s : Glide us gs store out fired wait left taken o) where
       pub in-store : InStore (n - 1) us gs store

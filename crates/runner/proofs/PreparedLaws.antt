@@ -104,6 +104,16 @@ module _ (t : Trimmed) (sized : length (t .sizes) ≡ t .dims) (proper : Proper 
       last-some [] h p = absurd (omega arith)
       last-some (x ∷ xs) h p = pos-of-dvd-of-pos (divides x xs) p
 
+  -- Every FIFO's places lie below the sum of the capacities.
+  top : (k : ℕ) → suc k < t .count → firstPlace (layout t .capacity) k + getD (t .capacities) k 0 ≤ sum (t .capacities)
+  unfolding layout
+  top k h =
+      omega (arith, first-place-suc (layout t .capacity) k, first-place-up (layout t .capacity) (suc k) (t .count - 1) (omega arith), all-places t proper (P .accepted))
+
+  pub tops-low : (k : ℕ) → suc k < t .count → getD tops k 0 ≤ 16384
+  unfolding layout
+  tops-low k h = omega (arith, P .tops-are k h, P .bases-are k h, P .caps-are k h, top k h, P .accepted .places)
+
   pub tables : Tables (layout t) (walked boxes strides (t .dims) 0) (t .count) cells iterations at caps bases
   unfolding layout
   tables = record {
@@ -125,24 +135,11 @@ module _ (t : Trimmed) (sized : length (t .sizes) ≡ t .dims) (proper : Proper 
           ∙ reads-sum (t .sizes) (t .offsets) (proper .entries) f k (omega (arith, P .iterations-are)) (omega (arith, proper .references))
           ∙ omega (arith, P .at-are k g, walk-is f)
 
-      top : (k : ℕ) → suc k < t .count → firstPlace (layout t .capacity) k + getD (t .capacities) k 0 ≤ sum (t .capacities)
-      top k h =
-          omega (arith, first-place-suc (layout t .capacity) k, first-place-up (layout t .capacity) (suc k) (t .count - 1) (omega arith), all-places t proper (P .accepted))
-
-  pub stands : (fired : ℕ) (passed store : List ℕ) → Begins t fired passed store → Stands (layout t) (t .count) fired caps bases passed store
+  pub stands : (fired : ℕ) (wants passed store : List ℕ) → Begins t fired wants passed store → Stands (layout t) (t .count) fired caps bases passed store
   unfolding layout
-  stands fired passed store B = record {
+  stands fired wants passed store B = record {
     there = B .there;
-    within = λ k h.
-        omega (
-          arith,
-          P .bases-are k h,
-          P .caps-are k h,
-          first-place-suc (layout t .capacity) k,
-          first-place-up (layout t .capacity) (suc k) (t .count - 1) (omega arith),
-          all-places t proper (P .accepted),
-          B .room,
-        );
+    within = λ k h. omega (arith, P .bases-are k h, P .caps-are k h, top k h, B .room);
     holds = B .holds;
   }
 

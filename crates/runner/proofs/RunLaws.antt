@@ -112,12 +112,13 @@ stored c caps old bases old′ tops store ok capped small b t long = record {
 -- A state that 11 does not turn back.
 pub taken : (c : Chain) (s : State) (cells iterations : ℕ) (es ss at caps bases tops store old passed old′ wants : List ℕ) (bad : Bool) → Stored c caps bases tops store
     → Shaped (trimmed c) (c .grid .dims) (c .window .count) cells iterations es ss at → length at ≡ 32 → length old ≡ 32
-    → TakenUp (trimmed c) s (c .window .count) bad old passed old′ wants → bad ≡ false → Taken c s cells iterations es ss at caps bases tops passed store
+    → TakenUp (trimmed c) s (c .window .count) bad old passed old′ wants → bad ≡ false → Taken c s cells iterations es ss at wants caps bases tops passed store
 unfolding trimmed
 taken c s cells iterations es ss at caps bases tops store old passed old′ wants bad st sh a l u e = record {
   stored = st;
   shaped = sh;
   at-there = a;
+  wants-are = u .wants-are .done;
   there = u .passed-are .long ∙ l;
   counters = ap (λ (k : Counters). k .passed) (counters-are (c .window .count) s old passed (omega (arith, st .accepted .few)) (u .passed-are));
   good = sym (u .bad-is) ∙ e;
@@ -141,7 +142,7 @@ product-last (suc x ∷ xs) (suc d) h = omega (arith, product-last xs d (some (p
     some zero g = omega arith
     some (suc p) g = omega arith
 
-module _ {c : Chain} {s : State} {cells iterations : ℕ} {es ss at caps bases tops passed store : List ℕ} (T : Taken c s cells iterations es ss at caps bases tops passed store) where
+module _ {c : Chain} {s : State} {cells iterations : ℕ} {es ss at wants caps bases tops passed store : List ℕ} (T : Taken c s cells iterations es ss at wants caps bases tops passed store) where
   abbrev whole : List ℕ
   whole = extents (sizesOf (c .grid)) (offsetsOf (c .grid .dims) (c .window))
 
@@ -208,9 +209,10 @@ module _ {c : Chain} {s : State} {cells iterations : ℕ} {es ss at caps bases t
   unfolding countersOf
   counters-there fired e = λ i. record { fired = e i; passed = T .counters i }
 
-  pub begins : (fired : ℕ) → fired ≡ s .fired .0 → Begins (trimmed c) fired passed store
+  pub begins : (fired : ℕ) → fired ≡ s .fired .0 → Begins (trimmed c) fired wants passed store
   unfolding trimmed shortStore
   begins fired e = record {
+    wants-are = λ k h. T .wants-are k h ∙ ap (λ (f : ℕ). layout (trimmed c) .wants f k) (sym e);
     there = T .there;
     room = ltb-false (length store) (sum (trimmed c .capacities)) (T .stored .long);
     holds = subst (Invariant (layout (trimmed c))) (sym (counters-there fired e)) (good-counters (trimmed c) s (T .good));

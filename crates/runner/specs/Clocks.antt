@@ -31,8 +31,9 @@ pub record Prepared (t : Trimmed) (row iterations cells centre : ℕ) (at caps b
   pub cells-are : cells ≡ cellCount (t .sizes)
   pub centre-is : centre ≡ centreOf (t .offsets)
 
--- A state that is not refused, its counters in a table, and a store that is not refused.
-pub record Begins (t : Trimmed) (fired : ℕ) (passed store : List ℕ) : Type 0 where
+-- A state that is not refused, its counters and the cells that its filters want next in tables, and a store that is not refused.
+pub record Begins (t : Trimmed) (fired : ℕ) (wants passed store : List ℕ) : Type 0 where
+  pub wants-are : (k : ℕ) → k < t .count → getD wants k 0 ≡ layout t .wants fired k
   pub there : length passed ≡ 32
   pub room : sum (t .capacities) ≤ length store
   pub holds : Invariant (layout t) (counting fired (take (t .count) passed))

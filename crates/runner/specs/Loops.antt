@@ -1,5 +1,5 @@
 -- What the loops of a call are handed and what they leave.
-use Prim.Native.Nat.{ℕ, _+_, _-_, _%_, _≤_, _<_}
+use Prim.Native.Nat.{ℕ, suc, _+_, _-_, _≤_, _<_}
 use mathlib.Core.List.{List}
 use mathlib.Core.Path.{_≡_}
 use lib.ListN.{length, getD, take, drop}
@@ -10,7 +10,7 @@ use Rattle.model.specs.Running.{Ending, Done, Spent, Starved, Stalled, Full, En
 use Rattle.model.specs.declared.Kernel.{Kernel}
 use Rattle.flow.specs.Machine.{Invariant}
 use Rattle.alignment.specs.Passes.{ahead, flow, stepped, Lent, passing, InStore}
-use Rattle.alignment.specs.Sweeps.{Lined}
+use Rattle.alignment.specs.Sweeps.{Lined, Ringed}
 use Rattle.alignment.specs.Standings.{counting, stand, endedAt}
 use Rattle.alignment.specs.Tables.{walked, Tables, Stands, Rows, Rings}
 use Rattle.runner.specs.declared.Way.{Way}
@@ -48,11 +48,12 @@ abbrev pub calls : (t : Trimmed) (n fired : ℕ) (passed store lent out : List �
 calls t n fired passed store lent out allowance = call (layout t) (writtenBy t) (widthOf t) lent allowance (stand fired (take n passed) store out 0 0 0)
 
 -- What the clocks of aligned filters are handed: tables, counters and ring places, rows, and what a firing writes.
-pub record Glides (t : Trimmed) (kernel : Kernel) (n row iterations cells centre size fired dims : ℕ) (at caps bases tops boxes strides passed puts gets store : List ℕ)
+pub record Glides (t : Trimmed) (kernel : Kernel) (n row iterations cells centre size fired dims : ℕ) (at wants caps bases tops boxes strides passed puts gets store : List ℕ)
     : Type 0 where
   pub tables : Tables (layout t) (walked boxes strides dims 0) n cells iterations at caps bases
   pub stands : Stands (layout t) n fired caps bases passed store
   pub more : fired < iterations
+  pub wanted : getD wants 0 0 ≡ getD at 0 0 + walked boxes strides dims 0 fired
   pub rings : Rings n at caps bases tops passed puts gets
   pub rows : Rows (walked boxes strides dims 0) row iterations
   pub walks : (j : ℕ) → j < iterations → Walks dims boxes strides j
@@ -83,8 +84,11 @@ stopOf stop.Spent rest spent starved stalled = spent
 stopOf stop.Starved rest spent starved stalled = starved
 stopOf stop.Stalled rest spent starved stalled = stalled
 
-pub record FillsTo (r : Filled) (t : Trimmed) (n fired : ℕ) (at passed passed′ store store′ lent : List ℕ) (allowance : ℕ) : Type 0 where
+pub record FillsTo (r : Filled) (t : Trimmed) (n fired : ℕ) (at caps bases passed passed′ puts′ gets′ store store′ lent : List ℕ) (allowance : ℕ) : Type 0 where
   pub lines : r .how ≡ stop.Aligned → Lined n at passed′
+  pub puts-there : length puts′ ≡ 32
+  pub gets-there : length gets′ ≡ 32
+  pub rings : Ringed n bases caps passed′ puts′ gets′
   pub holds : Invariant (layout t) (counting fired (take n passed′))
   pub rest : drop n passed′ ≡ drop n passed
   pub there : length passed′ ≡ 32
@@ -98,10 +102,14 @@ pub record FillsTo (r : Filled) (t : Trimmed) (n fired : ℕ) (at passed passed�
       (endedAt Stalled (stand fired (take n passed′) store′ out (r .taken) (r .clocks) 0))
       ≡ calls t n fired passed store lent out allowance
 
--- A table of ring places, by the index.
-pub record Placed (n : ℕ) (bases caps ps : List ℕ) (skip : ℕ) (to : List ℕ) : Type 0 where
-  pub there : length to ≡ 32
-  pub each : (k : ℕ) → k + 1 < n → getD to k 0 ≡ getD bases k 0 + getD ps (k + skip) 0 % getD caps k 0
+-- What the finding of the ring places is handed: counters in order, each FIFO within its capacity.
+pub record Placing (n : ℕ) (bases tops caps ps puts gets : List ℕ) : Type 0 where
+  pub few : n ≤ 32
+  pub puts-there : length puts ≡ 32
+  pub gets-there : length gets ≡ 32
+  pub fits : (k : ℕ) → suc k < n → (getD ps (suc k) 0 ≤ getD ps k 0) × (getD ps k 0 ≤ getD ps (suc k) 0 + getD caps k 0)
+  pub tops-are : (k : ℕ) → suc k < n → getD tops k 0 ≡ getD bases k 0 + getD caps k 0
+  pub small : (k : ℕ) → suc k < n → getD tops k 0 + getD caps k 0 < 18446744073709551616
 
 -- The first n counters m on, the others as they were.
 pub record Advanced (n m : ℕ) (ps ps′ : List ℕ) : Type 0 where

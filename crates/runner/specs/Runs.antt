@@ -26,11 +26,12 @@ pub record Stored (c : Chain) (caps bases tops store : List ℕ) : Type 0 where
   pub tops-are : (k : ℕ) → suc k < c .window .count → numberAt tops k ≡ numberAt bases k + numberAt caps k
   pub long : shortStore (trimmed c) store ≡ false
 
--- And a state that 11 does not turn back, its counters in an array.
-pub record Taken (c : Chain) (s : State) (cells iterations : ℕ) (es ss at caps bases tops passed store : List ℕ) : Type 0 where
+-- And a state that 11 does not turn back, its counters and the cells that its filters want next in arrays.
+pub record Taken (c : Chain) (s : State) (cells iterations : ℕ) (es ss at wants caps bases tops passed store : List ℕ) : Type 0 where
   pub stored : Stored c caps bases tops store
   pub shaped : Shaped (trimmed c) (c .grid .dims) (c .window .count) cells iterations es ss at
   pub at-there : length at ≡ 32
+  pub wants-are : (k : ℕ) → k < c .window .count → numberAt wants k ≡ layout (trimmed c) .wants (s .fired .0) k
   pub there : length passed ≡ 32
   pub counters : take (c .window .count) passed ≡ countersOf (c .window .count) s .passed
   pub good : badState (layout (trimmed c)) (countersOf (c .window .count) s) ≡ false

@@ -10,6 +10,7 @@ use crate::prepare::wide;
 use crate::prepare::widen4;
 use crate::prepare::widen31;
 use crate::prepare::widen32;
+use geometry::Shape;
 use model::Answer;
 use model::Chain;
 use model::Counts;
@@ -25,16 +26,16 @@ ghost use mathlib.Core.Bool.{true, false};
 ghost use Prim.Native.Nat.{ℕ, suc, _+_, _-_, _*_, _%_, _<_, _≤_};
 ghost use lib.ListN.{length, getD};
 ghost use lib.Seq.{slice};
-ghost use Rattle.model.specs.Lists.{sum};
 ghost use Rattle.model.specs.Clock.{turn as turnOf, limit};
 ghost use Rattle.model.specs.Values.{trimmed};
 ghost use Rattle.model.specs.Judging.{judgeChain};
 ghost use Rattle.model.specs.Running.{layout, outcomeOf, runOf};
 ghost use Rattle.model.specs.declared.Verdict.the-variants.{Accepted};
-ghost use Rattle.alignment.specs.Passes.{of, step, lentOf, passOf, InStore};
-ghost use Rattle.alignment.specs.Sweeps.{source, swept, headOf, putIn, writes, Writes, Lined};
+ghost use Rattle.geometry.specs.Shapes.{centreIn, shapeOf};
+ghost use Rattle.alignment.specs.Passes.{of, step, lentOf, passOf, heads, InStore, FullFifos};
+ghost use Rattle.alignment.specs.Sweeps.{source, Lined, Ringed, wordAt, getsOn, PutOn, Turns, Turned};
 ghost use Rattle.alignment.specs.Tables.{walked, Fills};
-ghost use Rattle.runner.specs.Loops.{Walks, Fires, firedOf, Glides, GlidesTo, FillsTo, calls, wayOf, Placed, Advanced};
+ghost use Rattle.runner.specs.Loops.{Walks, Fires, firedOf, Glides, GlidesTo, FillsTo, calls, wayOf, Placing, Advanced};
 ghost use Rattle.runner.specs.Clocks.{Prepared, Begins, Ends};
 ghost use Rattle.runner.specs.Runs.{ranOf, Stored, Taken};
 
@@ -51,8 +52,39 @@ fn next_place(u: usize, base: usize, top: usize) -> usize
     u + 1
 }
 
-// Every filter moves: `word` comes in, and the word that passes filter k is written to `words` at k.
+// Every filter moves, where every FIFO is full: a word is read where the next is written.
+fn exchange(
+    n: usize,
+    bases: &[usize; 32],
+    tops: &[usize; 32],
+    puts: &mut [usize; 32],
+    store: &mut [u32],
+    word: u32,
+    words: &mut [u32],
+)
+    requires { ⌜ (0 < n) × (n ≤ 32) × (n ≤ length (now words)) ⌝ }
+    requires { ⌜ InStore (n - 1) (now puts) (now puts) (now store) ⌝ }
+    ensures { λ _. ⌜ lentOf (now (puts .exit)) (now (puts .exit)) (now (store .exit)) (now (words .exit))
+        ≡ passOf (n - 1) (now (bases .entry)) (now (tops .entry)) word (lentOf (now (puts .entry)) (now (puts .entry)) (now (store .entry)) (now (words .entry))) ⌝ }
+{
+    let m = n - 1;
+    let mut carry = word;
+    let mut k = 0;
+    while k < m {
+        words[k] = carry;
+        let u = puts[k];
+        let w = store[u];
+        store[u] = carry;
+        carry = w;
+        puts[k] = next_place(u, bases[k], tops[k]);
+        k += 1;
+    }
+    words[m] = carry;
+}
+
+// Every filter moves: `word` comes in, and the word that passes filter k is written to `words` at k. Where every FIFO is full, `gets` is neither read nor kept.
 fn pass(
+    full: bool,
     n: usize,
     bases: &[usize; 32],
     tops: &[usize; 32],
@@ -63,10 +95,14 @@ fn pass(
     words: &mut [u32],
 )
     requires { ⌜ (0 < n) × (n ≤ 32) × (n ≤ length (now words)) ⌝ }
-    requires { ⌜ InStore (n - 1) (now puts) (now gets) (now store) ⌝ }
-    ensures { λ _. ⌜ lentOf (now (puts .exit)) (now (gets .exit)) (now (store .exit)) (now (words .exit))
-        ≡ passOf (n - 1) (now (bases .entry)) (now (tops .entry)) word (lentOf (now (puts .entry)) (now (gets .entry)) (now (store .entry)) (now (words .entry))) ⌝ }
+    requires { ⌜ InStore (n - 1) (now puts) (heads full (now puts) (now gets)) (now store) ⌝ }
+    ensures { λ _. ⌜ lentOf (now (puts .exit)) (heads full (now (puts .exit)) (now (gets .exit))) (now (store .exit)) (now (words .exit))
+        ≡ passOf (n - 1) (now (bases .entry)) (now (tops .entry)) word (lentOf (now (puts .entry)) (heads full (now (puts .entry)) (now (gets .entry))) (now (store .entry)) (now (words .entry))) ⌝ }
 {
+    if full {
+        exchange(n, bases, tops, puts, store, word, words);
+        return;
+    }
     let m = n - 1;
     let mut carry = word;
     let mut k = 0;
@@ -86,6 +122,7 @@ fn pass(
 
 // A firing: what the kernel makes of the words that pass goes to `out` from place o on. `row` is room for the words.
 fn fire(
+    full: bool,
     kernel: Kernel,
     centre: usize,
     n: usize,
@@ -99,15 +136,15 @@ fn fire(
     out: &mut [u32],
     o: usize,
 )
-    requires { ⌜ Fires kernel n o (now puts) (now gets) (now store) (now row) (now out) ⌝ }
-    ensures { λ _. ⌜ lentOf (now (puts .exit)) (now (gets .exit)) (now (store .exit)) (now (out .exit))
-        ≡ firedOf kernel centre n o (now (bases .entry)) (now (tops .entry)) word (lentOf (now (puts .entry)) (now (gets .entry)) (now (store .entry)) (now (out .entry))) ⌝ }
+    requires { ⌜ Fires kernel n o (now puts) (heads full (now puts) (now gets)) (now store) (now row) (now out) ⌝ }
+    ensures { λ _. ⌜ lentOf (now (puts .exit)) (heads full (now (puts .exit)) (now (gets .exit))) (now (store .exit)) (now (out .exit))
+        ≡ firedOf kernel centre n o (now (bases .entry)) (now (tops .entry)) word (lentOf (now (puts .entry)) (heads full (now (puts .entry)) (now (gets .entry))) (now (store .entry)) (now (out .entry))) ⌝ }
 {
     if let Kernel::Raw = kernel {
-        pass(n, bases, tops, puts, gets, store, word, &mut out[o..]);
+        pass(full, n, bases, tops, puts, gets, store, word, &mut out[o..]);
         return;
     }
-    pass(n, bases, tops, puts, gets, store, word, row);
+    pass(full, n, bases, tops, puts, gets, store, word, row);
     kernel::apply(kernel, centre, &row[..n], out, o);
 }
 
@@ -168,10 +205,29 @@ struct Slid {
     firings: usize,
 }
 
+// Whether each FIFO is full.
+fn full_fifos(n: usize, caps: &[usize; 32], passed: &[usize; 32]) -> bool
+    requires { ⌜ n ≤ 32 ⌝ }
+    requires { ⌜ ((k : ℕ) → k < n → getD (now passed) k 0 ≤ 1048576) ⌝ }
+    requires { ⌜ ((k : ℕ) → suc k < n → getD (now caps) k 0 ≤ 16384) ⌝ }
+    ensures { λ r. ⌜ (r ≡ true → FullFifos n (now (caps .entry)) (now (passed .entry))) ⌝ }
+{
+    let mut k = 0;
+    while k + 1 < n {
+        let p = passed[k];
+        if p != passed[k + 1] + caps[k] {
+            return false;
+        }
+        k += 1;
+    }
+    true
+}
+
 // The clocks of a call whose filters are aligned: every filter moves in each. Filter 0 waits for its wanted cell, `left` iterations are left in the row.
 fn glide(
     chain: Chain,
     at: &[usize; 32],
+    wants: &[usize; 32],
     caps: &[usize; 32],
     bases: &[usize; 32],
     tops: &[usize; 32],
@@ -192,16 +248,17 @@ fn glide(
     out: &mut [u32],
     allowance: usize,
 ) -> Slid
-    requires { ⌜ Glides (trimmed chain) (chain .kernel) (chain .window .count) row iterations size centre width fired0 dims (now at) (now caps) (now bases) (now tops) (now boxes) (now strides) (now passed) (now puts) (now gets) (now store) ⌝ }
+    requires { ⌜ Glides (trimmed chain) (chain .kernel) (chain .window .count) row iterations size centre width fired0 dims (now at) (now wants) (now caps) (now bases) (now tops) (now boxes) (now strides) (now passed) (now puts) (now gets) (now store) ⌝ }
     ensures { λ r. ⌜ GlidesTo r (trimmed chain) (chain .window .count) iterations size fired0 (now (passed .entry)) (now (store .entry)) (now (store .exit)) (now (out .entry)) (now (out .exit)) (now (cells .entry)) allowance ⌝ }
 {
     let n = chain.window.count as usize;
     let kernel = chain.kernel;
     let first = at[0];
     let position = passed[0];
+    let full = full_fifos(n, caps, passed);
     let mut spare = [0u32; 32];
     let mut fired = fired0;
-    let mut wait = wait_for(dims, boxes, strides, iterations, fired0, first, position);
+    let mut wait = wants[0] - position;
     let mut left = row - fired0 % row;
     let mut taken = 0;
     let mut o = 0;
@@ -222,7 +279,7 @@ fn glide(
         }
         let word = cells[taken];
         if 0 < wait {
-            pass(n, bases, tops, puts, gets, store, word, &mut spare);
+            pass(full, n, bases, tops, puts, gets, store, word, &mut spare);
             wait -= 1;
             taken += 1;
             continue;
@@ -235,6 +292,7 @@ fn glide(
             };
         }
         fire(
+            full,
             kernel,
             centre,
             n,
@@ -316,83 +374,87 @@ fn limit_of(ps: &[usize; 32], caps: &[usize; 32], n: usize, k: usize) -> usize
     ps[k] + 1
 }
 
-// The splitters' turns in a clock without firing, from the last to the first.
-fn sweep(n: usize, wants: &[usize; 32], caps: &[usize; 32], size: usize, ps: &mut [usize; 32])
-    requires { ⌜ (n ≤ 32) × (length (now ps) ≡ 32) ⌝ }
-    requires { ⌜ ((k : ℕ) → k < n → getD (now ps) k 0 ≤ 1048576) ⌝ }
-    requires { ⌜ ((k : ℕ) → suc k < n → getD (now caps) k 0 ≤ 16384) ⌝ }
-    ensures { λ _. ⌜ now (ps .exit) ≡ swept (now (wants .entry)) (now (caps .entry)) (now (ps .entry)) n size ⌝ }
-{
-    let mut k = n;
-    while k > 0 {
-        k -= 1;
-        let src = source_of(ps, k, size);
-        let b = limit_of(ps, caps, n, k);
-        let p = ps[k];
-        ps[k] = turn(src, wants[k], b, p);
-    }
-}
-
-// The head of a FIFO, where it holds a cell: the filter before it is at p, the one behind it at q.
-fn head_of(store: &[u32], base: usize, cap: usize, p: usize, q: usize) -> u32
-    requires { ⌜ ((q < p → 0 < cap) × (base + cap ≤ length (now store))) ⌝ }
-    ensures { λ r. ⌜ r ≡ headOf (now (store .entry)) base cap p q ⌝ }
-{
-    if q < p {
-        let place = base + q % cap;
-        return store[place];
-    }
-    0
-}
-
-// A filter that went from p to `next` has put its word into the FIFO behind it.
-fn put_in(store: &mut [u32], base: usize, cap: usize, p: usize, next: usize, word: u32)
-    requires { ⌜ ((p < next → 0 < cap) × (base + cap ≤ length (now store))) ⌝ }
-    ensures { λ _. ⌜ now (store .exit) ≡ putIn (now (store .entry)) base cap p next word ⌝ }
-{
-    if p < next {
-        let place = base + p % cap;
-        store[place] = word;
-    }
-}
-
-// The words of a clock that takes the counters from `old` to `new`.
-fn write(
-    n: usize,
-    bases: &[usize; 32],
-    caps: &[usize; 32],
-    old: &[usize; 32],
-    new: &[usize; 32],
-    store: &mut [u32],
+// The word that filter k is presented; the head of the FIFO before it is then its next cell.
+fn word_for(
+    k: usize,
     word: u32,
-)
-    requires { ⌜ Writes n (now bases) (now caps) (now old) (now new) (now store) ⌝ }
-    ensures { λ _. ⌜ now (store .exit) ≡ writes (of (now (bases .entry))) (of (now (caps .entry))) 0 word (slice 0 n (now (old .entry))) (slice 0 n (now (new .entry))) (now (store .entry)) ⌝ }
+    bases: &[usize; 32],
+    tops: &[usize; 32],
+    gets: &mut [usize; 32],
+    store: &[u32],
+) -> u32
+    requires { ⌜ (k < 32) × (length (now gets) ≡ 32) × ((k ≡ 0 → ⊥) → getD (now gets) (k - 1) 0 < length (now store)) ⌝ }
+    ensures { λ r. ⌜ (r ≡ wordAt k word (now (gets .entry)) (now (store .entry))) × (now (gets .exit) ≡ getsOn k (now (bases .entry)) (now (tops .entry)) (now (gets .entry))) ⌝ }
 {
-    let mut carry = word;
-    let mut k = 0;
-    while k + 1 < n {
-        let p = old[k];
-        let head = head_of(store, bases[k], caps[k], p, old[k + 1]);
-        put_in(store, bases[k], caps[k], p, new[k], carry);
-        carry = head;
-        k += 1;
+    if k == 0 {
+        return word;
     }
+    let i = k - 1;
+    let g = gets[i];
+    gets[i] = next_place(g, bases[i], tops[i]);
+    store[g]
 }
 
-// The sum of the first n counters.
-fn total_of(n: usize, ps: &[usize; 32]) -> usize
-    requires { ⌜ (n ≤ 32) × (n ≤ length (now ps)) ⌝ }
-    requires { ⌜ ((k : ℕ) → k < n → getD (now ps) k 0 ≤ 1048576) ⌝ }
-    ensures { λ r. ⌜ r ≡ sum (slice 0 n (now (ps .entry))) ⌝ }
+// Filter k puts its word into the FIFO behind it.
+fn put_on(
+    n: usize,
+    k: usize,
+    word: u32,
+    bases: &[usize; 32],
+    tops: &[usize; 32],
+    puts: &mut [usize; 32],
+    store: &mut [u32],
+)
+    requires { ⌜ (k < n) × (n ≤ 32) × (length (now puts) ≡ 32) × (k + 1 < n → getD (now puts) k 0 < length (now store)) ⌝ }
+    ensures { λ _. ⌜ PutOn n k word (now (bases .entry)) (now (tops .entry)) (now (puts .entry)) (now (puts .exit)) (now (store .entry)) (now (store .exit)) ⌝ }
 {
-    let mut total = 0;
+    if n <= k + 1 {
+        return;
+    }
+    let u = puts[k];
+    store[u] = word;
+    puts[k] = next_place(u, bases[k], tops[k]);
+}
+
+// The splitters' turns in a clock without firing, from the last to the first: `word` is the cell that filter 0 is presented. Tells whether a filter moved.
+fn turns(
+    n: usize,
+    wants: &[usize; 32],
+    caps: &[usize; 32],
+    bases: &[usize; 32],
+    tops: &[usize; 32],
+    size: usize,
+    word: u32,
+    ps: &mut [usize; 32],
+    puts: &mut [usize; 32],
+    gets: &mut [usize; 32],
+    store: &mut [u32],
+) -> bool
+    requires { ⌜ ((c : ℕ → ℕ) × Turns c n (now bases) (now tops) (now caps) (now ps) (now puts) (now gets) (now store)) ⌝ }
+    ensures { λ r. ⌜ ((c : ℕ → ℕ) → Turns c n (now (bases .entry)) (now (tops .entry)) (now (caps .entry)) (now (ps .entry)) (now (puts .entry)) (now (gets .entry)) (now (store .entry))
+        → Turned c n size word (now (wants .entry)) (now (bases .entry)) (now (caps .entry)) (now (ps .entry)) (now (ps .exit)) (now (puts .exit)) (now (gets .exit)) (now (store .entry)) (now (store .exit)) r) ⌝ }
+{
+    let mut moved = false;
     let mut k = n;
     while 0 < k {
         k -= 1;
-        total += ps[k];
+        let p = ps[k];
+        let w = wants[k];
+        if p == w {
+            continue;
+        }
+        let src = source_of(ps, k, size);
+        let b = limit_of(ps, caps, n, k);
+        let next = turn(src, w, b, p);
+        if next <= p {
+            continue;
+        }
+        let x = word_for(k, word, bases, tops, gets, store);
+        put_on(n, k, x, bases, tops, puts, store);
+        ps[k] = next;
+        moved = true;
     }
-    total
+    moved
 }
 
 // ---- the clocks before the filters are aligned
@@ -421,6 +483,28 @@ fn lined(n: usize, at: &[usize; 32], ps: &[usize; 32]) -> bool
     true
 }
 
+// The same, where it is to be looked at.
+fn aligned(look: bool, n: usize, at: &[usize; 32], ps: &[usize; 32]) -> bool
+    requires { ⌜ n ≤ 32 ⌝ }
+    requires { ⌜ ((k : ℕ) → k < n → getD (now ps) k 0 ≤ 1048576) ⌝ }
+    requires { ⌜ ((k : ℕ) → k < n → getD (now at) k 0 ≤ 1048576) ⌝ }
+    ensures { λ r. ⌜ ((r ≡ true → Lined n (now (at .entry)) (now (ps .entry))) × (r ≡ false → look ≡ true → Lined n (now (at .entry)) (now (ps .entry)) → ⊥)) ⌝ }
+{
+    if look {
+        return lined(n, at, ps);
+    }
+    false
+}
+
+fn equal(x: usize, y: usize) -> bool
+    ensures { λ r. ⌜ (r ≡ false → x ≡ y → ⊥) ⌝ }
+{
+    if x == y {
+        return true;
+    }
+    false
+}
+
 enum Stop {
     Aligned,
     Spent,
@@ -434,13 +518,15 @@ struct Filled {
     clocks: usize,
 }
 
-// The clocks of a call up to the first whose filters are aligned: none of them fires, since a firing finds the filters aligned.
+// The clocks of a call up to one whose filters are aligned: none of them fires, since a firing finds the filters aligned, and filter 0 at its wanted cell. So the filters
+// are looked at where filter 0 is there, and at the start, since they may be aligned between two rows.
 fn fill(
     chain: Chain,
     at: &[usize; 32],
     wants: &[usize; 32],
     caps: &[usize; 32],
     bases: &[usize; 32],
+    tops: &[usize; 32],
     dims: usize,
     boxes: &[usize; 4],
     strides: &[usize; 4],
@@ -448,16 +534,19 @@ fn fill(
     size: usize,
     fired: usize,
     passed: &mut [usize; 32],
+    puts: &mut [usize; 32],
+    gets: &mut [usize; 32],
     store: &mut [u32],
     cells: &[u32],
     allowance: usize,
 ) -> Filled
-    requires { ⌜ Fills (layout (trimmed chain)) (walked (now boxes) (now strides) dims 0) (chain .window .count) size iterations fired (now at) (now wants) (now caps) (now bases) (now passed) (now store) ⌝ }
-    ensures { λ r. ⌜ FillsTo r (trimmed chain) (chain .window .count) fired (now (at .entry)) (now (passed .entry)) (now (passed .exit)) (now (store .entry)) (now (store .exit)) (now (cells .entry)) allowance ⌝ }
+    requires { ⌜ Fills (layout (trimmed chain)) (walked (now boxes) (now strides) dims 0) (chain .window .count) size iterations fired (now at) (now wants) (now caps) (now bases) (now tops) (now passed) (now puts) (now gets) (now store) ⌝ }
+    ensures { λ r. ⌜ FillsTo r (trimmed chain) (chain .window .count) fired (now (at .entry)) (now (caps .entry)) (now (bases .entry)) (now (passed .entry)) (now (passed .exit)) (now (puts .exit)) (now (gets .exit)) (now (store .entry)) (now (store .exit)) (now (cells .entry)) allowance ⌝ }
 {
     let n = chain.window.count as usize;
     let mut taken = 0;
     let mut clocks = 0;
+    let mut look = true;
     while clocks < allowance {
         if cells.len() <= taken {
             return Filled {
@@ -466,28 +555,36 @@ fn fill(
                 clocks,
             };
         }
-        if lined(n, at, passed) {
+        if aligned(look, n, at, passed) {
             return Filled {
                 how: Stop::Aligned,
                 taken,
                 clocks,
             };
         }
-        let old = *passed;
-        sweep(n, wants, caps, size, passed);
-        let before = total_of(n, &old);
-        let after = total_of(n, passed);
-        if after <= before {
-            *passed = old;
+        let before = passed[0];
+        if !turns(
+            n,
+            wants,
+            caps,
+            bases,
+            tops,
+            size,
+            cells[taken],
+            passed,
+            puts,
+            gets,
+            store,
+        ) {
             return Filled {
                 how: Stop::Stalled,
                 taken,
                 clocks,
             };
         }
-        write(n, bases, caps, &old, passed, store, cells[taken]);
         let p = passed[0];
-        taken += p - old[0];
+        look = equal(p, wants[0]);
+        taken += p - before;
         clocks += 1;
     }
     Filled {
@@ -499,32 +596,50 @@ fn fill(
 
 // ---- the whole call
 
-// The place of position p in a FIFO.
-fn place(base: usize, cap: usize, p: usize) -> usize
-    requires { ⌜ (0 < cap) × (base + cap < 18446744073709551616) ⌝ }
-    ensures { λ r. ⌜ r ≡ base + p % cap ⌝ }
+// The place of position q in a FIFO. One of a single place, or of none, needs no remainder.
+fn place(base: usize, cap: usize, q: usize) -> usize
+    requires { ⌜ base + cap < 18446744073709551616 ⌝ }
+    ensures { λ r. ⌜ (0 < cap → r ≡ base + q % cap) × (r ≤ base + cap) ⌝ }
 {
-    base + p % cap
+    if cap <= 1 {
+        return base;
+    }
+    base + q % cap
 }
 
-// Where the next cell of filter k + skip lies in FIFO k, for each FIFO.
+// The place `held` cells behind u in a ring of `cap` places up to below top.
+fn place_behind(u: usize, held: usize, cap: usize, top: usize) -> usize
+    requires { ⌜ (u ≤ top) × (held ≤ cap) × (cap ≤ top) × (top + cap < 18446744073709551616) ⌝ }
+    ensures { λ r. ⌜ ((base q : ℕ) → 0 < cap → top ≡ base + cap → u ≡ base + q % cap → r ≡ base + (q + held) % cap) ⌝ }
+{
+    let v = u + held;
+    if v < top {
+        return v;
+    }
+    v - cap
+}
+
+// The ring places of each FIFO: where its head lies, and where its next cell goes.
 fn places(
     n: usize,
     bases: &[usize; 32],
+    tops: &[usize; 32],
     caps: &[usize; 32],
     ps: &[usize; 32],
-    skip: usize,
-    to: &mut [usize; 32],
+    puts: &mut [usize; 32],
+    gets: &mut [usize; 32],
 )
-    requires { ⌜ (n ≤ 32) × (skip ≤ 1) × (length (now to) ≡ 32) ⌝ }
-    requires { ⌜ ((k : ℕ) → k + 1 < n → 0 < getD (now caps) k 0) ⌝ }
-    requires { ⌜ ((k : ℕ) → k + 1 < n → getD (now bases) k 0 + getD (now caps) k 0 < 18446744073709551616) ⌝ }
-    ensures { λ _. ⌜ Placed n (now (bases .entry)) (now (caps .entry)) (now (ps .entry)) skip (now (to .exit)) ⌝ }
+    requires { ⌜ Placing n (now bases) (now tops) (now caps) (now ps) (now puts) (now gets) ⌝ }
+    ensures { λ _. ⌜ (length (now (puts .exit)) ≡ 32) × (length (now (gets .exit)) ≡ 32) × Ringed n (now (bases .entry)) (now (caps .entry)) (now (ps .entry)) (now (puts .exit)) (now (gets .exit)) ⌝ }
 {
     let mut k = 0;
     while k + 1 < n {
-        let p = ps[k + skip];
-        to[k] = place(bases[k], caps[k], p);
+        let q = ps[k + 1];
+        let held = ps[k] - q;
+        let cap = caps[k];
+        let g = place(bases[k], cap, q);
+        puts[k] = place_behind(g, held, cap, tops[k]);
+        gets[k] = g;
         k += 1;
     }
 }
@@ -576,6 +691,7 @@ fn outcome_of(way: Way, c: Counts) -> Outcome
 fn clocks(
     chain: Chain,
     at: &[usize; 32],
+    wants: &[usize; 32],
     caps: &[usize; 32],
     bases: &[usize; 32],
     tops: &[usize; 32],
@@ -593,7 +709,7 @@ fn clocks(
     allowance: u32,
 ) -> Stopped
     requires { ⌜ Prepared (trimmed chain) row iterations size centre (now at) (now caps) (now bases) (now tops) (now boxes) (now strides) ⌝ }
-    requires { ⌜ Begins (trimmed chain) fired (now passed) (now store) ⌝ }
+    requires { ⌜ Begins (trimmed chain) fired (now wants) (now passed) (now store) ⌝ }
     ensures { λ r. ⌜ Ends r (calls (trimmed chain) (chain .window .count) fired (now (passed .entry)) (now (store .entry)) (now (cells .entry)) (now (out .entry)) allowance) (chain .window .count)
         (now (passed .entry)) (now (passed .exit)) (now (store .exit)) (now (out .exit)) ⌝ }
 {
@@ -608,14 +724,16 @@ fn clocks(
     let kernel = chain.kernel;
     let width = kernel::width(kernel, n);
     let allowed = allowance as usize;
-    let mut wants = *at;
-    advance(n, walk(dims, boxes, strides, fired), &mut wants);
+    let mut puts = [0usize; 32];
+    let mut gets = [0usize; 32];
+    places(n, bases, tops, caps, passed, &mut puts, &mut gets);
     let f = fill(
         chain,
         at,
-        &wants,
+        wants,
         caps,
         bases,
+        tops,
         dims,
         boxes,
         strides,
@@ -623,6 +741,8 @@ fn clocks(
         size,
         fired,
         passed,
+        &mut puts,
+        &mut gets,
         store,
         cells,
         allowed,
@@ -651,13 +771,10 @@ fn clocks(
         }
         Stop::Aligned => {}
     }
-    let mut puts = [0usize; 32];
-    let mut gets = [0usize; 32];
-    places(n, bases, caps, passed, 0, &mut puts);
-    places(n, bases, caps, passed, 1, &mut gets);
     let g = glide(
         chain,
         at,
+        wants,
         caps,
         bases,
         tops,
@@ -693,12 +810,14 @@ fn clocks(
 // The call on a state that 11 does not turn back.
 fn run_taken(
     chain: Chain,
+    centre: u8,
     state: State,
     size: usize,
     iterations: usize,
     extents: &[usize; 4],
     strides: &[usize; 4],
     at: &[usize; 32],
+    wants: &[usize; 32],
     caps: &[usize; 32],
     bases: &[usize; 32],
     tops: &[usize; 32],
@@ -708,21 +827,20 @@ fn run_taken(
     out: &mut [u32],
     allowance: u32,
 ) -> Ran
-    requires { ⌜ Taken chain state size iterations (now extents) (now strides) (now at) (now caps) (now bases) (now tops) (now passed) (now store) ⌝ }
+    requires { ⌜ centre ≡ centreIn (chain .grid .dims) (chain .window) ⌝ }
+    requires { ⌜ Taken chain state size iterations (now extents) (now strides) (now at) (now wants) (now caps) (now bases) (now tops) (now passed) (now store) ⌝ }
     ensures { λ r. ⌜ ranOf r (now (store .exit)) (now (out .exit)) ≡ runOf chain state (now (store .entry)) (now (cells .entry)) (now (out .entry)) allowance ⌝ }
 {
     let n = chain.window.count as usize;
-    let grid = chain.grid;
-    let window = chain.window;
-    let dims = grid.dims as usize;
+    let dims = chain.grid.dims as usize;
     let boxes = boxes_of(dims, extents);
     let row = extents[dims - 1];
-    let centre = geometry::centre(grid.dims, window) as usize;
     let made = state.fired;
     let fired = wide(made.0);
     let stopped = clocks(
         chain,
         at,
+        wants,
         caps,
         bases,
         tops,
@@ -731,7 +849,7 @@ fn run_taken(
         row,
         iterations,
         size,
-        centre,
+        centre as usize,
         fired,
         passed,
         store,
@@ -750,6 +868,8 @@ fn run_taken(
 // The call with a store that 10 does not turn back.
 fn run_stored(
     chain: Chain,
+    shape: Shape,
+    centre: u8,
     state: State,
     caps: &[usize; 32],
     bases: &[usize; 32],
@@ -759,14 +879,12 @@ fn run_stored(
     out: &mut [u32],
     allowance: u32,
 ) -> Ran
+    requires { ⌜ (shape ≡ shapeOf (chain .grid) (chain .window)) × (centre ≡ centreIn (chain .grid .dims) (chain .window)) ⌝ }
     requires { ⌜ Stored chain (now caps) (now bases) (now tops) (now store) ⌝ }
     ensures { λ r. ⌜ ranOf r (now (store .exit)) (now (out .exit)) ≡ runOf chain state (now (store .entry)) (now (cells .entry)) (now (out .entry)) allowance ⌝ }
 {
     let n = chain.window.count as usize;
     let dims = chain.grid.dims as usize;
-    let grid = chain.grid;
-    let window = chain.window;
-    let shape = geometry::shape_of(grid, window);
     let es = shape.extents;
     let extents = widen4(&es);
     let ss = shape.strides;
@@ -797,12 +915,14 @@ fn run_stored(
     }
     run_taken(
         chain,
+        centre,
         state,
         size,
         iterations,
         &extents,
         &strides,
         &at,
+        &wants,
         caps,
         bases,
         tops,
@@ -817,6 +937,8 @@ fn run_stored(
 // The call on a chain that no number from 3 to 9 turns back.
 fn run_accepted(
     chain: Chain,
+    shape: Shape,
+    centre: u8,
     state: State,
     store: &mut [u32],
     cells: &[u32],
@@ -824,6 +946,7 @@ fn run_accepted(
     allowance: u32,
 ) -> Ran
     requires { ⌜ judgeChain chain ≡ Accepted ⌝ }
+    requires { ⌜ (shape ≡ shapeOf (chain .grid) (chain .window)) × (centre ≡ centreIn (chain .grid .dims) (chain .window)) ⌝ }
     ensures { λ r. ⌜ ranOf r (now (store .exit)) (now (out .exit)) ≡ runOf chain state (now (store .entry)) (now (cells .entry)) (now (out .entry)) allowance ⌝ }
 {
     let n = chain.window.count as usize;
@@ -840,6 +963,8 @@ fn run_accepted(
     }
     run_stored(
         chain,
+        shape,
+        centre,
         state,
         &caps,
         &bases,
@@ -862,11 +987,25 @@ pub fn run(
 ) -> Ran
     ensures { λ r. ⌜ ranOf r (now (store .exit)) (now (out .exit)) ≡ runOf chain state (now (store .entry)) (now (cells .entry)) (now (out .entry)) allowance ⌝ }
 {
-    match planner::judge_chain(chain) {
+    let found = planner::examine(chain);
+    let verdict = found.verdict;
+    match verdict {
         Verdict::Refused(x) => Ran {
             answer: Answer::Refused(x),
             state,
         },
-        Verdict::Accepted => run_accepted(chain, state, store, cells, out, allowance),
+        Verdict::Accepted => {
+            let shape = found.shape;
+            run_accepted(
+                chain,
+                shape,
+                found.centre,
+                state,
+                store,
+                cells,
+                out,
+                allowance,
+            )
+        }
     }
 }

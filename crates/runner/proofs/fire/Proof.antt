@@ -62,7 +62,7 @@ slice-aggregate-apply : tie.Need-slice-aggregate-apply
 slice-aggregate-apply c =
     let p = c .before .before .before .before .before in
     let st = p .before .before .before .before .before .before .before .before .before in
-    sym (length-take-le _ _ (omega (arith, st .pre .row-there, p .pass2 .kept .1 .1 .1 .1 .1 .1 .1 .0)))
+    sym (length-take-le _ _ (omega (arith, st .pre .row-there, p .pass2 .kept .1 .1 .1 .1 .1 .1 .1 .1 .0)))
 
 -- src/lib.rt:72:5
 apply-requires : tie.Need-apply-requires

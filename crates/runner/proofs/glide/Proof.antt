@@ -4,6 +4,7 @@ use mathlib.Core.Path.{_≡_, refl, sym, _∙_}
 use lib.ListN.{length}
 use borrow.Author.Needs.{needs, scaled-fits}
 use Rattle.model.specs.Values.{Trimmed}
+use Rattle.alignment.specs.Passes.{heads}
 use Rattle.runner.specs.Loops.{Glides}
 use Rattle.runner.proofs.FitLaws.{next-fits, less-left}
 use Rattle.runner.proofs.GlidingLaws.{
@@ -11,7 +12,8 @@ use Rattle.runner.proofs.GlidingLaws.{
   glide-start,
   row-left,
   first-small,
-  due,
+  wait-there,
+  passed-small,
   in-store,
   may-fire,
   position-fits,
@@ -32,18 +34,18 @@ use Rattle.runner.proofs.glide.Statement.{statement}
 use Rattle.runner.proofs.glide.Tie as tie
 
 abbrev Inv-loop : tie.InvT-loop
-Inv-loop at caps bases tops dims boxes strides row iterations size centre width passed fired0 puts₀ gets₀ store₀ cells out₀ allowance n kernel first position spare₀ fired₀ wait₀ left₀ taken₀ o₀ puts gets store out spare fired wait left taken o =
-    ((t : Trimmed) → Glides t kernel n row iterations size centre width fired0 dims at caps bases tops boxes strides passed puts₀ gets₀ store₀
-    → Glide t kernel n row iterations size centre width fired0 dims at caps bases tops boxes strides passed puts₀ gets₀ store₀ cells out₀ allowance puts gets store out
-    fired wait left taken o)
+Inv-loop at wants caps bases tops dims boxes strides row iterations size centre width passed fired0 puts₀ gets₀ store₀ cells out₀ allowance n kernel first position full spare₀ fired₀ wait₀ left₀ taken₀ o₀ puts gets store out spare fired wait left taken o =
+    ((t : Trimmed) → Glides t kernel n row iterations size centre width fired0 dims at wants caps bases tops boxes strides passed puts₀ gets₀ store₀
+    → Glide t kernel n row iterations size centre width fired0 dims at wants caps bases tops boxes strides passed puts₀ gets₀ store₀ cells out₀ allowance puts
+    (heads full puts gets) store out fired wait left taken o)
     × (length spare ≡ 32)
 
 abbrev μ-loop : tie.MeasureT-loop
-μ-loop at caps bases tops dims boxes strides row iterations size centre width passed fired0 puts₀ gets₀ store₀ cells out₀ allowance n kernel first position spare₀ fired₀ wait₀ left₀ taken₀ o₀ puts gets store out spare fired wait left taken o = allowance - taken
+μ-loop at wants caps bases tops dims boxes strides row iterations size centre width passed fired0 puts₀ gets₀ store₀ cells out₀ allowance n kernel first position full spare₀ fired₀ wait₀ left₀ taken₀ o₀ puts gets store out spare fired wait left taken o = allowance - taken
 
 -- the function's entry, from the loop's head
 abbrev start : tie.At-loop Inv-loop μ-loop → tie.Start Inv-loop μ-loop
-start a = a .before .before .before .before .before .before .before .before
+start a = a .before .before .before .before .before .before .before .before .before
 
 cast-n : tie.Need-cast-n Inv-loop μ-loop
 cast-n c = search needs
@@ -54,24 +56,32 @@ element-copy-out-first c = search needs
 element-copy-out-position : tie.Need-element-copy-out-position Inv-loop μ-loop
 element-copy-out-position c = search needs
 
-wait-for-requires : tie.Need-wait-for-requires Inv-loop μ-loop
-wait-for-requires c κs =
+full-fifos-requires : tie.Need-full-fifos-requires Inv-loop μ-loop
+full-fifos-requires c κs =
     let st = c .before .before .before .before .before .before in
-    (st .pre .walks _, ((λ _. due _ _ _ _ _ _ _ _ _ _ _ _ _ _ _ _ _ _ _ _ (st .args .cells .now) (st .args .out .now) 0 (st .pre)), first-small _ _ _ _ _ _ _ _ _ _ _ _ _ _ _ _ _ _ _ _ (st .args .cells .now) (st .args .out .now) 0 (st .pre)))
+    (st .pre .tables .few, (passed-small _ _ _ _ _ _ _ _ _ _ _ _ _ _ _ _ _ _ _ _ _ (st .args .cells .now) (st .args .out .now) 0 (st .pre), st .pre .tables .small))
+
+element-copy-out-wait : tie.Need-element-copy-out-wait Inv-loop μ-loop
+element-copy-out-wait c = search needs
+
+sub-wait : tie.Need-sub-wait Inv-loop μ-loop
+sub-wait c =
+    let st = c .before .before .before .before .before .before .before .before in
+    wait-there _ _ _ _ _ _ _ _ _ _ _ _ _ _ _ _ _ _ _ _ _ (st .args .cells .now) (st .args .out .now) 0 (st .pre)
 
 rem-left : tie.Need-rem-left Inv-loop μ-loop
-rem-left c = c .before .before .before .before .before .before .before .pre .rows .some
+rem-left c = c .before .before .before .before .before .before .before .before .pre .rows .some
 
 sub-left : tie.Need-sub-left Inv-loop μ-loop
 sub-left c =
-    let st = c .before .before .before .before .before .before .before in
-    row-left _ _ _ _ _ _ _ _ _ _ _ _ _ _ _ _ _ _ _ _ (st .args .cells .now) (st .args .out .now) 0 (st .pre)
+    let st = c .before .before .before .before .before .before .before .before in
+    row-left _ _ _ _ _ _ _ _ _ _ _ _ _ _ _ _ _ _ _ _ _ (st .args .cells .now) (st .args .out .now) 0 (st .pre)
 
 loop-holds : tie.Need-loop-holds Inv-loop μ-loop
-loop-holds c = ((λ t G. glide-start _ _ _ _ _ _ _ _ _ _ _ _ _ _ _ _ _ _ _ _ _ _ _ G _ _ refl (c .wait-for .ensures)), refl)
+loop-holds c = ((λ t G. glide-start _ _ _ _ _ _ _ _ _ _ _ _ _ _ _ _ _ _ _ _ _ _ _ _ G _ (c .before .full-fifos .ensures) _ refl), refl)
 
-sub-t40 : tie.Need-sub-t40 Inv-loop μ-loop
-sub-t40 c =
+sub-t44 : tie.Need-sub-t44 Inv-loop μ-loop
+sub-t44 c =
     let a = c .before .before in
     let s = a .loop .inv .0 _ (start a .pre) in
     s .begun
@@ -92,10 +102,10 @@ returns : tie.Need-returns Inv-loop μ-loop
 returns c =
     let a = c .before .before in
     let s = a .loop .inv .0 _ (start a .pre) in
-    record { ends = glide-spent _ _ _ _ _ _ _ _ _ _ _ _ _ _ _ _ _ _ _ _ _ _ _ (start a .pre) _ _ _ _ _ _ _ _ _ s (c .before .loop-test .taken) (c .if1 .taken); had = s .had; allowed = s .allowed; fewer = s .fewer; inside = s .inside; most = fired-most _ _ _ _ _ _ _ _ _ _ _ _ _ _ _ _ _ _ _ _ _ _ _ (start a .pre) _ _ _ _ _ _ _ _ _ s }
+    record { ends = glide-spent _ _ _ _ _ _ _ _ _ _ _ _ _ _ _ _ _ _ _ _ _ _ _ _ (start a .pre) _ _ _ _ _ _ _ _ _ s (c .before .loop-test .taken) (c .if1 .taken); had = s .had; allowed = s .allowed; fewer = s .fewer; inside = s .inside; most = fired-most _ _ _ _ _ _ _ _ _ _ _ _ _ _ _ _ _ _ _ _ _ _ _ _ (start a .pre) _ _ _ _ _ _ _ _ _ s }
 
-sub-t43 : tie.Need-sub-t43 Inv-loop μ-loop
-sub-t43 c =
+sub-t47 : tie.Need-sub-t47 Inv-loop μ-loop
+sub-t47 c =
     let a = c .before .before .before in
     let s = a .loop .inv .0 _ (start a .pre) in
     s .begun
@@ -116,12 +126,12 @@ returns-2 : tie.Need-returns-2 Inv-loop μ-loop
 returns-2 c =
     let a = c .before .before .before in
     let s = a .loop .inv .0 _ (start a .pre) in
-    record { ends = glide-starved _ _ _ _ _ _ _ _ _ _ _ _ _ _ _ _ _ _ _ _ _ _ _ (start a .pre) _ _ _ _ _ _ _ _ _ s (c .before .before .loop-test .taken) (c .before .if1 .left) (c .if2 .taken); had = s .had; allowed = s .allowed; fewer = s .fewer; inside = s .inside; most = fired-most _ _ _ _ _ _ _ _ _ _ _ _ _ _ _ _ _ _ _ _ _ _ _ (start a .pre) _ _ _ _ _ _ _ _ _ s }
+    record { ends = glide-starved _ _ _ _ _ _ _ _ _ _ _ _ _ _ _ _ _ _ _ _ _ _ _ _ (start a .pre) _ _ _ _ _ _ _ _ _ s (c .before .before .loop-test .taken) (c .before .if1 .left) (c .if2 .taken); had = s .had; allowed = s .allowed; fewer = s .fewer; inside = s .inside; most = fired-most _ _ _ _ _ _ _ _ _ _ _ _ _ _ _ _ _ _ _ _ _ _ _ _ (start a .pre) _ _ _ _ _ _ _ _ _ s }
 
 mul-word : tie.Need-mul-word Inv-loop μ-loop
 mul-word c =
     let a = c .before .before .before in
-    scaled-fits _ _ _ (c .if2 .left) (start a .good .1 .1 .1 .1 .1 .1 .1 .1 .1 .1 .1 .1 .1 .1 .1 .1 .1 .1 .0 .1)
+    scaled-fits _ _ _ (c .if2 .left) (start a .good .1 .1 .1 .1 .1 .1 .1 .1 .1 .1 .1 .1 .1 .1 .1 .1 .1 .1 .1 .0 .1)
 
 shared-slice-read-word : tie.Need-shared-slice-read-word Inv-loop μ-loop
 shared-slice-read-word c = c .before .if2 .left
@@ -133,15 +143,15 @@ pass-requires : tie.Need-pass-requires Inv-loop μ-loop
 pass-requires c κs =
     let a = c .before .before .before .before .before .before .before .before .before in
     let s = a .loop .inv .0 _ (start a .pre) in
-    ((start a .pre .tables .some, start a .pre .tables .few, row-there _ _ _ _ _ _ _ _ _ _ _ _ _ _ _ _ _ _ _ _ _ _ _ (start a .pre) _ _ _ _ _ _ _ _ _ s (a .loop .spare) (a .loop .inv .1)), in-store _ _ _ _ _ _ _ _ _ _ _ _ _ _ _ _ _ _ _ _ _ _ _ (start a .pre) _ _ _ _ _ _ _ _ _ s)
+    ((start a .pre .tables .some, start a .pre .tables .few, row-there _ _ _ _ _ _ _ _ _ _ _ _ _ _ _ _ _ _ _ _ _ _ _ _ (start a .pre) _ _ _ _ _ _ _ _ _ s (a .loop .spare) (a .loop .inv .1)), in-store _ _ _ _ _ _ _ _ _ _ _ _ _ _ _ _ _ _ _ _ _ _ _ _ (start a .pre) _ _ _ _ _ _ _ _ _ s)
 
-sub-wait : tie.Need-sub-wait Inv-loop μ-loop
-sub-wait c = c .before .before .before .before .before .before .before .before .if3 .taken
+sub-wait-2 : tie.Need-sub-wait-2 Inv-loop μ-loop
+sub-wait-2 c = c .before .before .before .before .before .before .before .before .if3 .taken
 
 add-taken : tie.Need-add-taken Inv-loop μ-loop
 add-taken c =
     let a = c .before .before .before .before .before .before .before .before .before .before .before .before .before in
-    next-fits _ _ (c .before .before .before .before .before .before .before .before .before .before .if2 .left) (start a .good .1 .1 .1 .1 .1 .1 .1 .1 .1 .1 .1 .1 .1 .1 .1 .1 .1 .1 .0 .0)
+    next-fits _ _ (c .before .before .before .before .before .before .before .before .before .before .if2 .left) (start a .good .1 .1 .1 .1 .1 .1 .1 .1 .1 .1 .1 .1 .1 .1 .1 .1 .1 .1 .1 .0 .0)
 
 loop-less : tie.Need-loop-less Inv-loop μ-loop
 loop-less c =
@@ -156,8 +166,8 @@ loop-again c =
     let e2 = th .before .before in
     let i = e2 .before .before in
     let a = i .before in (
-      (λ t G. glide-waits _ _ _ _ _ _ _ _ _ _ _ _ _ _ _ _ _ _ _ _ _ _ _ G _ _ _ _ _ _ _ _ _ (a .loop .inv .0 t G) _ _ _ _ _ _ (p .pass .ensures) refl (i .loop-test .taken) (e2 .before .if1 .left) (e2 .if2 .left) (th .if3 .taken)),
-      p .pass .kept .1 .1 .1 .1 .1 .1 .1 .0 ∙ a .loop .inv .1,
+      (λ t G. glide-waits _ _ _ _ _ _ _ _ _ _ _ _ _ _ _ _ _ _ _ _ _ _ _ _ G _ _ _ _ _ _ _ _ _ (a .loop .inv .0 t G) _ _ _ _ _ _ (p .pass .ensures) refl (i .loop-test .taken) (e2 .before .if1 .left) (e2 .if2 .left) (th .if3 .taken)),
+      p .pass .kept .1 .1 .1 .1 .1 .1 .1 .1 .0 ∙ a .loop .inv .1,
     )
 
 sub-if4 : tie.Need-sub-if4 Inv-loop μ-loop
@@ -166,8 +176,8 @@ sub-if4 c =
     let s = a .loop .inv .0 _ (start a .pre) in
     s .room
 
-sub-t55 : tie.Need-sub-t55 Inv-loop μ-loop
-sub-t55 c =
+sub-t59 : tie.Need-sub-t59 Inv-loop μ-loop
+sub-t59 c =
     let a = c .before .before .before .before .before .before in
     let s = a .loop .inv .0 _ (start a .pre) in
     s .begun
@@ -191,12 +201,12 @@ returns-3 c =
     let a = i .before in
     let s = a .loop .inv .0 _ (start a .pre) in
     record {
-      ends = glide-full _ _ _ _ _ _ _ _ _ _ _ _ _ _ _ _ _ _ _ _ _ _ _ (start a .pre) _ _ _ _ _ _ _ _ _ s (i .loop-test .taken) (e2 .before .if1 .left) (e2 .if2 .left) (c .before .if3 .left) (c .if4 .taken);
+      ends = glide-full _ _ _ _ _ _ _ _ _ _ _ _ _ _ _ _ _ _ _ _ _ _ _ _ (start a .pre) _ _ _ _ _ _ _ _ _ s (i .loop-test .taken) (e2 .before .if1 .left) (e2 .if2 .left) (c .before .if3 .left) (c .if4 .taken);
       had = s .had;
       allowed = s .allowed;
       fewer = s .fewer;
       inside = s .inside;
-      most = fired-most _ _ _ _ _ _ _ _ _ _ _ _ _ _ _ _ _ _ _ _ _ _ _ (start a .pre) _ _ _ _ _ _ _ _ _ s;
+      most = fired-most _ _ _ _ _ _ _ _ _ _ _ _ _ _ _ _ _ _ _ _ _ _ _ _ (start a .pre) _ _ _ _ _ _ _ _ _ s;
     }
 
 slice-aggregate-fire : tie.Need-slice-aggregate-fire Inv-loop μ-loop
@@ -207,7 +217,7 @@ fire-requires c κs =
     let e4 = c .before .before .before .before .before in
     let a = e4 .before .before .before .before .before .before in
     let s = a .loop .inv .0 _ (start a .pre) in
-    may-fire _ _ _ _ _ _ _ _ _ _ _ _ _ _ _ _ _ _ _ _ _ _ _ (start a .pre) _ _ _ _ _ _ _ _ _ s _ (a .loop .inv .1) (e4 .if4 .left)
+    may-fire _ _ _ _ _ _ _ _ _ _ _ _ _ _ _ _ _ _ _ _ _ _ _ _ (start a .pre) _ _ _ _ _ _ _ _ _ s _ (a .loop .inv .1) (e4 .if4 .left)
 
 add-o : tie.Need-add-o Inv-loop μ-loop
 add-o c =
@@ -216,7 +226,7 @@ add-o c =
     let i = e2 .before .before in
     let a = i .before in
     let s = a .loop .inv .0 _ (start a .pre) in
-    output-fits _ _ _ _ _ _ _ _ _ _ _ _ _ _ _ _ _ _ _ _ _ _ _ (start a .pre) _ _ _ _ _ _ _ _ _ s (e4 .if4 .left) (start a .good .1 .1 .1 .1 .1 .1 .1 .1 .1 .1 .1 .1 .1 .1 .1 .1 .1 .1 .1 .0 .0)
+    output-fits _ _ _ _ _ _ _ _ _ _ _ _ _ _ _ _ _ _ _ _ _ _ _ _ (start a .pre) _ _ _ _ _ _ _ _ _ s (e4 .if4 .left) (start a .good .1 .1 .1 .1 .1 .1 .1 .1 .1 .1 .1 .1 .1 .1 .1 .1 .1 .1 .1 .1 .0 .0)
 
 add-fired : tie.Need-add-fired Inv-loop μ-loop
 add-fired c =
@@ -232,7 +242,7 @@ add-taken-2 c =
     let e2 = e4 .before .before .before in
     let i = e2 .before .before in
     let a = i .before in
-    next-fits _ _ (e2 .if2 .left) (start a .good .1 .1 .1 .1 .1 .1 .1 .1 .1 .1 .1 .1 .1 .1 .1 .1 .1 .1 .0 .0)
+    next-fits _ _ (e2 .if2 .left) (start a .good .1 .1 .1 .1 .1 .1 .1 .1 .1 .1 .1 .1 .1 .1 .1 .1 .1 .1 .1 .0 .0)
 
 sub-left-2 : tie.Need-sub-left-2 Inv-loop μ-loop
 sub-left-2 c =
@@ -241,7 +251,7 @@ sub-left-2 c =
     let i = e2 .before .before in
     let a = i .before in
     let s = a .loop .inv .0 _ (start a .pre) in
-    left-some _ _ _ _ _ _ _ _ _ _ _ _ _ _ _ _ _ _ _ _ _ _ _ (start a .pre) _ _ _ _ _ _ _ _ _ s
+    left-some _ _ _ _ _ _ _ _ _ _ _ _ _ _ _ _ _ _ _ _ _ _ _ _ (start a .pre) _ _ _ _ _ _ _ _ _ s
 
 loop-less-2 : tie.Need-loop-less-2 Inv-loop μ-loop
 loop-less-2 c =
@@ -259,9 +269,9 @@ loop-again-2 c =
     let e2 = e4 .before .before .before in
     let i = e2 .before .before in
     let a = i .before in (
-      (λ t G. glide-fires _ _ _ _ _ _ _ _ _ _ _ _ _ _ _ _ _ _ _ _ _ _ _ G _ _ _ _ _ _ _ _ _ (a .loop .inv .0 t G) _ _ _ _ _ (f .fire .ensures) refl (i .loop-test .taken) (e2 .before .if1 .left) (e2 .if2 .left) (e4 .before .if3 .left) (e4 .if4 .left)
+      (λ t G. glide-fires _ _ _ _ _ _ _ _ _ _ _ _ _ _ _ _ _ _ _ _ _ _ _ _ G _ _ _ _ _ _ _ _ _ (a .loop .inv .0 t G) _ _ _ _ _ (f .fire .ensures) refl (i .loop-test .taken) (e2 .before .if1 .left) (e2 .if2 .left) (e4 .before .if3 .left) (e4 .if4 .left)
           (c .if5 .taken)),
-      f .fire .kept .1 .1 .1 .1 .1 .1 .1 .1 .1 .0 ∙ a .loop .inv .1,
+      f .fire .kept .1 .1 .1 .1 .1 .1 .1 .1 .1 .1 .0 ∙ a .loop .inv .1,
     )
 
 add-wait-for : tie.Need-add-wait-for Inv-loop μ-loop
@@ -271,16 +281,16 @@ add-wait-for c =
     let i = e2 .before .before in
     let a = i .before in
     let s = a .loop .inv .0 _ (start a .pre) in
-    position-fits _ _ _ _ _ _ _ _ _ _ _ _ _ _ _ _ _ _ _ _ _ _ _ (start a .pre) _ _ _ _ _ _ _ _ _ s (i .loop-test .taken)
+    position-fits _ _ _ _ _ _ _ _ _ _ _ _ _ _ _ _ _ _ _ _ _ _ _ _ (start a .pre) _ _ _ _ _ _ _ _ _ s (i .loop-test .taken)
 
-wait-for-requires-2 : tie.Need-wait-for-requires-2 Inv-loop μ-loop
-wait-for-requires-2 c κs =
+wait-for-requires : tie.Need-wait-for-requires Inv-loop μ-loop
+wait-for-requires c κs =
     let e4 = c .before .before .before .before .before .before .before .before .before .before .before .before in
     let e2 = e4 .before .before .before in
     let i = e2 .before .before in
     let a = i .before in
     let s = a .loop .inv .0 _ (start a .pre) in
-    (start a .pre .walks _, (due-after _ _ _ _ _ _ _ _ _ _ _ _ _ _ _ _ _ _ _ _ _ _ _ (start a .pre) _ _ _ _ _ _ _ _ _ s (i .loop-test .taken) (e4 .before .if3 .left), first-small _ _ _ _ _ _ _ _ _ _ _ _ _ _ _ _ _ _ _ _ (start a .args .cells .now) (start a .args .out .now) 0 (start a .pre)))
+    (start a .pre .walks _, (due-after _ _ _ _ _ _ _ _ _ _ _ _ _ _ _ _ _ _ _ _ _ _ _ _ (start a .pre) _ _ _ _ _ _ _ _ _ s (i .loop-test .taken) (e4 .before .if3 .left), first-small _ _ _ _ _ _ _ _ _ _ _ _ _ _ _ _ _ _ _ _ _ (start a .args .cells .now) (start a .args .out .now) 0 (start a .pre)))
 
 loop-less-3 : tie.Need-loop-less-3 Inv-loop μ-loop
 loop-less-3 c =
@@ -298,13 +308,13 @@ loop-again-3 c =
     let e2 = e4 .before .before .before in
     let i = e2 .before .before in
     let a = i .before in (
-      (λ t G. glide-turns _ _ _ _ _ _ _ _ _ _ _ _ _ _ _ _ _ _ _ _ _ _ _ G _ _ _ _ _ _ _ _ _ (a .loop .inv .0 t G) _ _ _ _ _ (f .fire .ensures) refl (i .loop-test .taken) (e2 .before .if1 .left) (e2 .if2 .left) (e4 .before .if3 .left) (e4 .if4 .left)
-          _ (c .before .if5 .left) (c .wait-for2 .ensures)),
-      f .fire .kept .1 .1 .1 .1 .1 .1 .1 .1 .1 .0 ∙ a .loop .inv .1,
+      (λ t G. glide-turns _ _ _ _ _ _ _ _ _ _ _ _ _ _ _ _ _ _ _ _ _ _ _ _ G _ _ _ _ _ _ _ _ _ (a .loop .inv .0 t G) _ _ _ _ _ (f .fire .ensures) refl (i .loop-test .taken) (e2 .before .if1 .left) (e2 .if2 .left) (e4 .before .if3 .left) (e4 .if4 .left)
+          _ (c .before .if5 .left) (c .wait-for .ensures)),
+      f .fire .kept .1 .1 .1 .1 .1 .1 .1 .1 .1 .1 .0 ∙ a .loop .inv .1,
     )
 
-sub-t35 : tie.Need-sub-t35 Inv-loop μ-loop
-sub-t35 c =
+sub-t37 : tie.Need-sub-t37 Inv-loop μ-loop
+sub-t37 c =
     let a = c .before in
     let s = a .loop .inv .0 _ (start a .pre) in
     s .begun
@@ -325,7 +335,7 @@ returns-4 : tie.Need-returns-4 Inv-loop μ-loop
 returns-4 c =
     let a = c .before in
     let s = a .loop .inv .0 _ (start a .pre) in
-    record { ends = glide-done _ _ _ _ _ _ _ _ _ _ _ _ _ _ _ _ _ _ _ _ _ _ _ (start a .pre) _ _ _ _ _ _ _ _ _ s (c .loop-test .left); had = s .had; allowed = s .allowed; fewer = s .fewer; inside = s .inside; most = fired-most _ _ _ _ _ _ _ _ _ _ _ _ _ _ _ _ _ _ _ _ _ _ _ (start a .pre) _ _ _ _ _ _ _ _ _ s }
+    record { ends = glide-done _ _ _ _ _ _ _ _ _ _ _ _ _ _ _ _ _ _ _ _ _ _ _ _ (start a .pre) _ _ _ _ _ _ _ _ _ s (c .loop-test .left); had = s .had; allowed = s .allowed; fewer = s .fewer; inside = s .inside; most = fired-most _ _ _ _ _ _ _ _ _ _ _ _ _ _ _ _ _ _ _ _ _ _ _ _ (start a .pre) _ _ _ _ _ _ _ _ _ s }
 
 pub glide-spec : {M : Type 1} → statement M
 glide-spec =
@@ -336,15 +346,17 @@ glide-spec =
     cast-n
     element-copy-out-first
     element-copy-out-position
-    wait-for-requires
+    full-fifos-requires
+    element-copy-out-wait
+    sub-wait
     rem-left
     sub-left
     loop-holds
-    sub-t40
+    sub-t44
     same-length
     same-length-2
     returns
-    sub-t43
+    sub-t47
     same-length-3
     same-length-4
     returns-2
@@ -352,12 +364,12 @@ glide-spec =
     shared-slice-read-word
     slice-aggregate-pass
     pass-requires
-    sub-wait
+    sub-wait-2
     add-taken
     loop-less
     loop-again
     sub-if4
-    sub-t55
+    sub-t59
     same-length-5
     same-length-6
     returns-3
@@ -370,10 +382,10 @@ glide-spec =
     loop-less-2
     loop-again-2
     add-wait-for
-    wait-for-requires-2
+    wait-for-requires
     loop-less-3
     loop-again-3
-    sub-t35
+    sub-t37
     same-length-7
     same-length-8
     returns-4)

@@ -3,22 +3,44 @@ use Prim.Native.Nat.{_-_, _<_}
 use native.Mathlib.Omega.{arith}
 use lib.ListN.{length, getD}
 use borrow.Author.Needs.{needs}
-use Rattle.alignment.proofs.PassLaws.{Passing, passing-start, passing-again, passing-end, put-within, get-within}
+use Rattle.alignment.specs.Passes.{InStore}
+use Rattle.alignment.proofs.PassLaws.{Passing, passing-start, passing-again, passing-end, put-within, get-within, one-table, two-tables, passed-one, passed-two}
 use Rattle.runner.proofs.pass.Statement.{statement}
 use Rattle.runner.proofs.pass.Tie as tie
 
 abbrev Inv-loop : tie.InvT-loop
-Inv-loop n bases tops puts₀ gets₀ store₀ word words₀ m carry₀ k₀ puts gets store words carry k = Passing bases tops puts₀ gets₀ store₀ words₀ word m puts gets store words carry k
+Inv-loop full n bases tops puts₀ gets₀ store₀ word words₀ m carry₀ k₀ puts gets store words carry k = Passing bases tops puts₀ gets₀ store₀ words₀ word m puts gets store words carry k
 
 abbrev μ-loop : tie.MeasureT-loop
-μ-loop n bases tops puts₀ gets₀ store₀ word words₀ m carry₀ k₀ puts gets store words carry k = m - k
+μ-loop full n bases tops puts₀ gets₀ store₀ word words₀ m carry₀ k₀ puts gets store words carry k = m - k
+
+-- the places that the loop starts from
+there : (a : tie.At-loop Inv-loop μ-loop) → InStore (a .before .before .before .before .args .n - 1) (a .before .before .before .before .args .puts .now) (a .before .before .before .before .args .gets .now) (a .before .before .before .before .args .store .now)
+there a = two-tables _ _ _ _ _ (a .before .if1 .left) (a .before .before .before .before .pre .1)
 
 -- the two places lie in the store
 within : (i : tie.In-loop Inv-loop μ-loop) → (getD (i .before .loop .puts) (i .before .loop .k) 0 < length (i .before .loop .store)) × (getD (i .before .loop .gets) (i .before .loop .k) 0 < length (i .before .loop .store))
 within i =
     let a = i .before in
-    let q = a .before .before .before .pre .1 in
+    let q = there a in
     (put-within _ _ _ _ _ _ _ _ _ _ _ _ _ _ (a .loop .inv) q (i .loop-test .taken), get-within _ _ _ _ _ _ _ _ _ _ _ _ _ _ (a .loop .inv) q (i .loop-test .taken))
+
+exchange-requires : tie.Need-exchange-requires Inv-loop μ-loop
+exchange-requires c κs =
+    let th = c .before .before .before in
+    let st = th .before .before .before in
+    (st .pre .0, one-table _ _ _ _ _ (th .if1 .taken) (st .pre .1))
+
+same-length : tie.Need-same-length Inv-loop μ-loop
+same-length c = search needs
+
+same-length-2 : tie.Need-same-length-2 Inv-loop μ-loop
+same-length-2 c = search needs
+
+returns : tie.Need-returns Inv-loop μ-loop
+returns c =
+    let x = c .before .before .before .before in
+    passed-one _ _ _ _ _ _ _ _ _ _ _ _ _ (x .before .before .before .before .if1 .taken) (x .exchange .ensures)
 
 sub-m : tie.Need-sub-m Inv-loop μ-loop
 sub-m c = search needs
@@ -107,7 +129,7 @@ loop-less c = search needs
 loop-again : tie.Need-loop-again Inv-loop μ-loop
 loop-again c =
     let i = c .before .before .before .before .before .before .before .before .before in
-    let q = i .before .before .before .before .pre .1 in
+    let q = there (i .before) in
     passing-again _ _ _ _ _ _ _ _ _ _ _ _ _ _ (i .before .loop .inv) _ _ (i .loop-test .taken) (q .puts-there) (q .gets-there) (c .before .before .before .next-place .ensures) (c .next-place2 .ensures)
 
 mul-words-2 : tie.Need-mul-words-2 Inv-loop μ-loop
@@ -116,14 +138,16 @@ mul-words-2 c = search needs
 slice-write-words-2 : tie.Need-slice-write-words-2 Inv-loop μ-loop
 slice-write-words-2 c = search needs
 
-same-length : tie.Need-same-length Inv-loop μ-loop
-same-length c = search needs
+same-length-3 : tie.Need-same-length-3 Inv-loop μ-loop
+same-length-3 c = search needs
 
-same-length-2 : tie.Need-same-length-2 Inv-loop μ-loop
-same-length-2 c = search needs
+same-length-4 : tie.Need-same-length-4 Inv-loop μ-loop
+same-length-4 c = search needs
 
-returns : tie.Need-returns Inv-loop μ-loop
-returns c = passing-end _ _ _ _ _ _ _ _ _ _ _ _ _ _ (c .before .loop .inv) (omega (arith, c .before .loop .inv .range))
+returns-2 : tie.Need-returns-2 Inv-loop μ-loop
+returns-2 c =
+    passed-two _ _ _ _ _ _ _ _ _ _ _ _ _ (c .before .before .if1 .left)
+    (passing-end _ _ _ _ _ _ _ _ _ _ _ _ _ _ (c .before .loop .inv) (omega (arith, c .before .loop .inv .range)))
 
 pub pass-spec : {M : Type 1} → statement M
 pass-spec =
@@ -131,6 +155,10 @@ pass-spec =
     (tie.spec
     Inv-loop
     μ-loop
+    exchange-requires
+    same-length
+    same-length-2
+    returns
     sub-m
     loop-holds
     mul-words
@@ -162,6 +190,6 @@ pass-spec =
     loop-again
     mul-words-2
     slice-write-words-2
-    same-length
-    same-length-2
-    returns)
+    same-length-3
+    same-length-4
+    returns-2)

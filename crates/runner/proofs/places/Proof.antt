@@ -1,32 +1,51 @@
-use Prim.Native.Nat.{ℕ, _+_, _-_, _%_, _<_, _≤_}
-use mathlib.Core.Path.{_≡_, _∙_}
+use Prim.Native.Nat.{suc, _+_, _-_, _≤_, _<_}
+use mathlib.Core.Path.{refl}
+use native.Mathlib.Numerals.{add-one}
 use native.Mathlib.Omega.{arith}
-use lib.ListN.{length, getD, length-set}
 use borrow.Author.Needs.{needs}
-use Rattle.runner.proofs.TableLaws.{placing-again}
+use Rattle.runner.proofs.TableLaws.{Ringing, ringing-start, ringing-again, ringing-end}
 use Rattle.runner.proofs.places.Statement.{statement}
 use Rattle.runner.proofs.places.Tie as tie
 
 abbrev Inv-loop : tie.InvT-loop
-Inv-loop n bases caps ps skip to₀ k₀ to k = (k ≤ 32) × (length to ≡ 32) × ((j : ℕ) → j < k → getD to j 0 ≡ getD bases j 0 + getD ps (j + skip) 0 % getD caps j 0)
+Inv-loop n bases tops caps ps puts₀ gets₀ k₀ puts gets k = (k ≤ 32) × Ringing n bases caps ps puts gets k
 
 abbrev μ-loop : tie.MeasureT-loop
-μ-loop n bases caps ps skip to₀ k₀ to k = 32 - k
+μ-loop n bases tops caps ps puts₀ gets₀ k₀ puts gets k = 32 - k
+
+-- FIFO k is one of the chain's.
+inside : (c : tie.In-loop Inv-loop μ-loop) → suc (c .before .loop .k) < c .before .before .args .n
+inside c = rw (← add-one (c .before .loop .k)) (c .loop-test .taken)
 
 loop-holds : tie.Need-loop-holds Inv-loop μ-loop
-loop-holds c = (omega arith, c .pre .0 .2, λ j h. absurd (let z : ⊥ = omega arith in z))
+loop-holds c = (omega arith, ringing-start _ _ _ _ _ _ (c .pre .puts-there) (c .pre .gets-there))
 
 add-loop : tie.Need-add-loop Inv-loop μ-loop
 add-loop c = search needs
 
-add-p : tie.Need-add-p Inv-loop μ-loop
-add-p c = search needs
+add-q : tie.Need-add-q Inv-loop μ-loop
+add-q c = search needs
 
-mul-p : tie.Need-mul-p Inv-loop μ-loop
-mul-p c = search needs
+mul-q : tie.Need-mul-q Inv-loop μ-loop
+mul-q c = search needs
 
-element-copy-out-p : tie.Need-element-copy-out-p Inv-loop μ-loop
-element-copy-out-p c = search needs
+element-copy-out-q : tie.Need-element-copy-out-q Inv-loop μ-loop
+element-copy-out-q c = search needs
+
+mul-held : tie.Need-mul-held Inv-loop μ-loop
+mul-held c = search needs
+
+element-copy-out-held : tie.Need-element-copy-out-held Inv-loop μ-loop
+element-copy-out-held c = search needs
+
+sub-held : tie.Need-sub-held Inv-loop μ-loop
+sub-held c = let i = c .before .before in let a = i .before in rw add-one (a .before .pre .fits (a .loop .k) (inside i) .0)
+
+mul-cap : tie.Need-mul-cap Inv-loop μ-loop
+mul-cap c = search needs
+
+element-copy-out-cap : tie.Need-element-copy-out-cap Inv-loop μ-loop
+element-copy-out-cap c = search needs
 
 mul-place : tie.Need-mul-place Inv-loop μ-loop
 mul-place c = search needs
@@ -34,20 +53,38 @@ mul-place c = search needs
 element-copy-out-place : tie.Need-element-copy-out-place Inv-loop μ-loop
 element-copy-out-place c = search needs
 
-mul-place-2 : tie.Need-mul-place-2 Inv-loop μ-loop
-mul-place-2 c = search needs
-
-element-copy-out-place-2 : tie.Need-element-copy-out-place-2 Inv-loop μ-loop
-element-copy-out-place-2 c = search needs
-
 place-requires : tie.Need-place-requires Inv-loop μ-loop
-place-requires c κs = let a = c .before .before .before .before in (a .before .pre .1 .0 (a .loop .k) (c .before .before .before .loop-test .taken), a .before .pre .1 .1 (a .loop .k) (c .before .before .before .loop-test .taken))
+place-requires c κs =
+    let i = c .before .before .before .before in
+    let a = i .before in
+    omega (arith, a .before .pre .tops-are (a .loop .k) (inside i), a .before .pre .small (a .loop .k) (inside i))
 
-mul-to : tie.Need-mul-to Inv-loop μ-loop
-mul-to c = search needs
+mul-place-behind : tie.Need-mul-place-behind Inv-loop μ-loop
+mul-place-behind c = search needs
 
-element-write-to : tie.Need-element-write-to Inv-loop μ-loop
-element-write-to c = search needs
+element-copy-out-place-behind : tie.Need-element-copy-out-place-behind Inv-loop μ-loop
+element-copy-out-place-behind c = search needs
+
+place-behind-requires : tie.Need-place-behind-requires Inv-loop μ-loop
+place-behind-requires c κs =
+    let p = c .before in
+    let i = p .before .before .before .before .before in
+    let a = i .before in
+    let t = a .before .pre .tops-are (a .loop .k) (inside i) in
+    let f = rw (← add-one (a .loop .k)) at (a .before .pre .fits (a .loop .k) (inside i)) in
+    (omega (arith, p .place .ensures .1), omega (arith, f .0, f .1), omega arith, a .before .pre .small (a .loop .k) (inside i))
+
+mul-puts : tie.Need-mul-puts Inv-loop μ-loop
+mul-puts c = search needs
+
+element-write-puts : tie.Need-element-write-puts Inv-loop μ-loop
+element-write-puts c = search needs
+
+mul-gets : tie.Need-mul-gets Inv-loop μ-loop
+mul-gets c = search needs
+
+element-write-gets : tie.Need-element-write-gets Inv-loop μ-loop
+element-write-gets c = search needs
 
 add-k : tie.Need-add-k Inv-loop μ-loop
 add-k c = search needs
@@ -56,10 +93,20 @@ loop-less : tie.Need-loop-less Inv-loop μ-loop
 loop-less c = search needs
 
 loop-again : tie.Need-loop-again Inv-loop μ-loop
-loop-again c = let a = c .before .before .before .before .before in (omega (arith, c .before .before .before .before .loop-test .taken), length-set (a .loop .to) (a .loop .k) (c .place .result) ∙ a .loop .inv .1, placing-again (a .before .args .bases .now) (a .before .args .caps .now) (a .before .args .ps .now) (a .before .args .skip) (a .loop .k) (c .place .result) (a .loop .to) (a .loop .inv .1) (omega (arith, c .before .before .before .before .loop-test .taken)) (a .loop .inv .2) (c .place .ensures))
+loop-again c =
+    let p = c .before .before in
+    let i = p .before .before .before .before .before in
+    let a = i .before in
+    let h = inside i in
+    let f = rw (← add-one (a .loop .k)) at (a .before .pre .fits (a .loop .k) h) in
+    let t = a .before .pre .tops-are (a .loop .k) h in (
+      omega (arith, h, a .before .pre .few),
+      ringing-again _ _ _ _ _ _ _ _ _ _ (a .loop .inv .1) (omega (arith, h, a .before .pre .few)) (f .0) refl (p .place .ensures .0)
+          (λ z. c .place-behind .ensures _ _ z t (p .place .ensures .0 z)),
+    )
 
 returns : tie.Need-returns Inv-loop μ-loop
-returns c = let a = c .before in record { there = a .loop .inv .1; each = λ j h. a .loop .inv .2 j (omega (arith, c .loop-test .left)) }
+returns c = let r = c .before .loop .inv .1 in (r .puts-there, r .gets-there, ringing-end _ _ _ _ _ _ _ (c .loop-test .left) r)
 
 pub places-spec : {M : Type 1} → statement M
 places-spec =
@@ -69,16 +116,24 @@ places-spec =
     μ-loop
     loop-holds
     add-loop
-    add-p
-    mul-p
-    element-copy-out-p
+    add-q
+    mul-q
+    element-copy-out-q
+    mul-held
+    element-copy-out-held
+    sub-held
+    mul-cap
+    element-copy-out-cap
     mul-place
     element-copy-out-place
-    mul-place-2
-    element-copy-out-place-2
     place-requires
-    mul-to
-    element-write-to
+    mul-place-behind
+    element-copy-out-place-behind
+    place-behind-requires
+    mul-puts
+    element-write-puts
+    mul-gets
+    element-write-gets
     add-k
     loop-less
     loop-again

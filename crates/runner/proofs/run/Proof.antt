@@ -1,24 +1,38 @@
 -- 3 to 9 turn the chain back, or the call goes on. Assumes nothing.
-use mathlib.Core.Path.{sym, _∙_}
+use mathlib.Core.Path.{_≡_, sym, _∙_, ap}
+use Rattle.model.specs.declared.Verdict.{Verdict}
+use Rattle.model.specs.Judging.{judgeChain}
+use Rattle.planner.specs.declared.Examined.{Examined}
+use Rattle.planner.proofs.JudgeLaws.{examined-verdict, examined-shape, examined-centre}
 use Rattle.runner.proofs.RunLaws.{run-refused}
 use borrow.Author.Needs.{needs}
 use Rattle.runner.proofs.run.Statement.{statement}
 use Rattle.runner.proofs.run.Tie as tie
 
-judge-chain-requires : tie.Need-judge-chain-requires
-judge-chain-requires c κs = search needs
+examine-requires : tie.Need-examine-requires
+examine-requires c κs = search needs
 
-enum-known-x : tie.Need-enum-known-x
-enum-known-x c = search needs
+enum-known-verdict : tie.Need-enum-known-verdict
+enum-known-verdict c = search needs
 
 enum-told : tie.Need-enum-told
 enum-told c = search needs
 
+-- The verdict is the chain's.
+verdict-is : (c : tie.After-examine) (v : Verdict) → c .examine .result .verdict ≡ v → judgeChain (c .before .before .before .before .args .chain) ≡ v
+verdict-is c v e =
+    sym (examined-verdict (c .before .before .before .before .args .chain)) ∙ ap (λ (x : Examined). x .verdict) (sym (c .examine .ensures)) ∙ e
+
 run-accepted-requires : tie.Need-run-accepted-requires
-run-accepted-requires c κs = sym (c .before .before .before .before .judge-chain .ensures) ∙ c .before .before .enum-told .given .1
+run-accepted-requires c κs =
+    let t = c .before .before .before in
+    let x = t .before .before in
+    let ok = verdict-is x _ (t .enum-told .given .1) in
+    let a = x .before .before .before .before .args in
+    (ok, (ap (λ (e : Examined). e .shape) (x .examine .ensures) ∙ examined-shape (a .chain) ok, ap (λ (e : Examined). e .centre) (x .examine .ensures) ∙ examined-centre (a .chain) ok))
 
 returns : tie.Need-returns
-returns c = run-refused _ _ _ _ _ _ _ (sym (c .before .before .before .judge-chain .ensures) ∙ c .before .x .given .1)
+returns c = run-refused _ _ _ _ _ _ _ (verdict-is (c .before .before .before) _ (c .before .verdict .given .1))
 
 same-length : tie.Need-same-length
 same-length c = search needs
@@ -33,8 +47,8 @@ pub run-spec : {M : Type 1} → statement M
 run-spec =
     tie.close
     (tie.spec
-    judge-chain-requires
-    enum-known-x
+    examine-requires
+    enum-known-verdict
     enum-told
     run-accepted-requires
     returns

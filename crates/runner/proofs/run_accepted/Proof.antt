@@ -21,7 +21,7 @@ bases-of-requires : tie.Need-bases-of-requires
 unfolding trimmed
 bases-of-requires c κs =
     let s = c .before .before .before .before .before .before .before .before .before .before in
-    (accepted-chain (s .args .chain) (s .pre) .few, refl, refl, c .before .before .before .widen31 .ensures .small)
+    (accepted-chain (s .args .chain) (s .pre .0) .few, refl, refl, c .before .before .before .widen31 .ensures .small)
 
 short-requires : tie.Need-short-requires
 short-requires c κs = search needs
@@ -30,27 +30,29 @@ same-length : tie.Need-same-length
 same-length c = search needs
 
 capped : (c : tie.After-widen31) → let a = c .before .before .before .before .before .before .before .args in Capped (trimmed (a .chain)) (a .chain .window .count) (c .widen31 .result)
-capped c = let s = c .before .before .before .before .before .before .before in chain-capped (s .args .chain) (accepted-chain (s .args .chain) (s .pre)) (c .widen31 .result) (c .widen31 .ensures)
+capped c = let s = c .before .before .before .before .before .before .before in chain-capped (s .args .chain) (accepted-chain (s .args .chain) (s .pre .0)) (c .widen31 .result) (c .widen31 .ensures)
 
 -- 10 is looked at.
 is-short : (c : tie.After-short) → let a = c .before .before .before .before .before .before .before .before .before .before .before .before .before .args in c .short .result ≡ shortStore (trimmed (a .chain)) (a .store .now)
 is-short c =
     let s = c .before .before .before .before .before .before .before .before .before .before .before .before .before in
     c .short .ensures
-    ∙ short-is (capped (c .before .before .before .before .before .before)) (trimmed-proper (s .args .chain)) (accepted-chain (s .args .chain) (s .pre)) (s .args .store .now) _ (c .before .before .bases-of .ensures .0)
+    ∙ short-is (capped (c .before .before .before .before .before .before)) (trimmed-proper (s .args .chain)) (accepted-chain (s .args .chain) (s .pre .0)) (s .args .store .now) _ (c .before .before .bases-of .ensures .0)
 
 returns : tie.Need-returns
 returns c =
     let s = c .before .before .before .before .before .before .before .before .before .before .before .before .before .before in
-    run-short (s .args .chain) _ _ _ _ _ (accepted-chain (s .args .chain) (s .pre)) (sym (is-short (c .before)) ∙ c .if1 .taken)
+    run-short (s .args .chain) _ _ _ _ _ (accepted-chain (s .args .chain) (s .pre .0)) (sym (is-short (c .before)) ∙ c .if1 .taken)
 
 run-stored-requires : tie.Need-run-stored-requires
 run-stored-requires c κs =
     let s = c .before .before .before .before .before .before .before .before .before .before .before .before .before .before .before .before .before .before .before in
     let w = c .before .before .before .before .before .before .before .before .before .before .before .before in
-    let b = c .before .before .before .before .before .before .before .before in
-    stored (s .args .chain) _ _ _ _ _ _ (accepted-chain (s .args .chain) (s .pre)) (capped w) (w .widen31 .ensures .small) (b .bases-of .ensures .1) (b .bases-of .ensures .2)
-    (sym (is-short (c .before .before .before .before .before .before)) ∙ c .before .before .before .before .before .if1 .left)
+    let b = c .before .before .before .before .before .before .before .before in (
+      s .pre .1,
+      stored (s .args .chain) _ _ _ _ _ _ (accepted-chain (s .args .chain) (s .pre .0)) (capped w) (w .widen31 .ensures .small) (b .bases-of .ensures .1) (b .bases-of .ensures .2)
+          (sym (is-short (c .before .before .before .before .before .before)) ∙ c .before .before .before .before .before .if1 .left),
+    )
 
 same-length-2 : tie.Need-same-length-2
 same-length-2 c = search needs

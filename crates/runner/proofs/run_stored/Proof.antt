@@ -14,9 +14,6 @@ cast-n c = search needs
 cast-dims : tie.Need-cast-dims
 cast-dims c = search needs
 
-shape-of-requires : tie.Need-shape-of-requires
-shape-of-requires c κs = search needs
-
 widen4-requires : tie.Need-widen4-requires
 widen4-requires c κs = search needs
 
@@ -34,32 +31,32 @@ cast-iterations c = search needs
 
 -- The arrays of the shape.
 shaped : (c : tie.After-widen32) →
-    let g = c .before .before .before .before .before .before .before .before .before .shape-of .result in
-    let a = c .before .before .before .before .before .before .before .before .before .before .before .before .before .before .before .before .before .args in
-    Shaped (trimmed (a .chain)) (a .chain .grid .dims) (a .chain .window .count) (g .cells) (g .iterations) (c .before .before .before .before .before .before .widen4 .result) (c .before .before .before .widen42 .result) (c .widen32 .result)
+    let a = c .before .before .before .before .before .before .before .before .before .before .before .before .before .before .args in
+    Shaped (trimmed (a .chain)) (a .chain .grid .dims) (a .chain .window .count) (a .shape .cells) (a .shape .iterations) (c .before .before .before .before .before .before .widen4 .result) (c .before .before .before .widen42 .result)
+    (c .widen32 .result)
 shaped c =
-    let h = c .before .before .before .before .before .before .before .before .before in
-    let s = c .before .before .before .before .before .before .before .before .before .before .before .before .before .before .before .before .before in
-    chain-shaped (s .args .chain) (s .pre .accepted) (h .shape-of .result) _ _ _ (h .shape-of .ensures) (c .before .before .before .before .before .before .widen4 .ensures) (c .before .before .before .widen42 .ensures)
-    (c .widen32 .ensures)
+    let s = c .before .before .before .before .before .before .before .before .before .before .before .before .before .before in
+    chain-shaped (s .args .chain) (s .pre .1 .accepted) (s .args .shape) _ _ _ (s .pre .0 .0) (c .before .before .before .before .before .before .widen4 .ensures) (c .before .before .before .widen42 .ensures) (c .widen32 .ensures)
 
 take-up-requires : tie.Need-take-up-requires
 take-up-requires c κs =
     let w = c .before .before .before .before .before .before .before in
-    (refl, refl, c .before .before .before .before .before .before .before .before .before .before .before .before .before .before .before .before .before .before .before .before .before .before .before .before .pre .small, (_, shaped w))
+    (refl, refl, w .before .before .before .before .before .before .before .before .before .before .before .before .before .before .pre .1 .small, (_, shaped w))
 
 returns : tie.Need-returns
 returns c =
     let u = c .before in
-    let P = u .before .before .before .before .before .before .before .before .before .before .before .before .before .before .before .before .before .before .before .before .before .before .before .before .before .pre in
-    run-bad _ _ _ _ _ _ (P .accepted) (P .long) (sym (u .take-up .ensures _ (shaped (u .before .before .before .before .before .before .before .before)) (P .capped) .bad-is) ∙ c .if1 .taken)
+    let w = u .before .before .before .before .before .before .before .before in
+    let P = w .before .before .before .before .before .before .before .before .before .before .before .before .before .before .pre .1 in
+    run-bad _ _ _ _ _ _ (P .accepted) (P .long) (sym (u .take-up .ensures _ (shaped w) (P .capped) .bad-is) ∙ c .if1 .taken)
 
 run-taken-requires : tie.Need-run-taken-requires
 run-taken-requires c κs =
-    let u = c .before .before .before .before .before .before .before in
+    let e = c .before .before .before .before .before .before .before in
+    let u = e .before in
     let w = u .before .before .before .before .before .before .before .before in
-    let P = u .before .before .before .before .before .before .before .before .before .before .before .before .before .before .before .before .before .before .before .before .before .before .before .before .before .pre in
-    taken _ _ _ _ _ _ _ _ _ _ _ _ _ _ _ _ P (shaped w) (w .widen32 .ensures .long) refl (u .take-up .ensures _ (shaped w) (P .capped)) (c .before .before .before .before .before .before .if1 .left)
+    let s = w .before .before .before .before .before .before .before .before .before .before .before .before .before .before in
+    (s .pre .0 .1, taken _ _ _ _ _ _ _ _ _ _ _ _ _ _ _ _ (s .pre .1) (shaped w) (w .widen32 .ensures .long) refl (u .take-up .ensures _ (shaped w) (s .pre .1 .capped)) (e .if1 .left))
 
 same-length : tie.Need-same-length
 same-length c = search needs
@@ -76,7 +73,6 @@ run-stored-spec =
     (tie.spec
     cast-n
     cast-dims
-    shape-of-requires
     widen4-requires
     widen4-requires-2
     widen32-requires

@@ -13,10 +13,10 @@ cast-dims : tie.Need-cast-dims
 cast-dims c = search needs
 
 boxes-of-requires : tie.Need-boxes-of-requires
-boxes-of-requires c κs = let T = c .before .before .before .before .before .before .before .pre in (some-dimensions T .1, extents-small T)
+boxes-of-requires c κs = let T = c .before .before .before .before .before .pre .1 in (some-dimensions T .1, extents-small T)
 
 sub-row : tie.Need-sub-row
-sub-row c = omega (arith, some-dimensions (c .before .before .before .before .before .before .before .before .pre) .0)
+sub-row c = omega (arith, some-dimensions (c .before .before .before .before .before .before .pre .1) .0)
 
 mul-row : tie.Need-mul-row
 mul-row c = search needs
@@ -24,23 +24,18 @@ mul-row c = search needs
 element-copy-out-row : tie.Need-element-copy-out-row
 element-copy-out-row c = search needs
 
-centre-requires : tie.Need-centre-requires
-centre-requires c κs = search needs
-
-cast-centre : tie.Need-cast-centre
-cast-centre c = search needs
-
 wide-requires : tie.Need-wide-requires
 wide-requires c κs = search needs
 
 clocks-requires : tie.Need-clocks-requires
 clocks-requires c κs =
-    let T = c .before .before .before .before .before .before .before .before .before .before .before .before .before .before .before .before .pre in
-    (prepared T _ _ _ (c .before .before .before .before .before .before .before .before .boxes-of .ensures) refl (c .before .before .before .before .before .before .centre .ensures), begins T _ (c .before .before .before .before .wide .ensures .0))
+    let s = c .before .before .before .before .before .before .before .before .before .before .before .before .before in
+    let T = s .pre .1 in
+    (prepared T _ _ _ (c .before .before .before .before .before .before .before .boxes-of .ensures) refl (s .pre .0), begins T _ (c .before .before .before .before .wide .ensures .0))
 
 state-of-requires : tie.Need-state-of-requires
 state-of-requires c κs =
-    let T = c .before .before .before .before .before .before .before .before .before .before .before .before .before .before .before .before .before .before .before .before .before .before .before .pre in
+    let T = c .before .before .before .before .before .before .before .before .before .before .before .before .before .before .before .before .before .before .before .before .pre .1 in
     let e = c .before .before .before .before .before .before .clocks .ensures in
     (few-references T, omega (arith, few-references T, e .there), λ k h. omega (arith, e .small k h))
 
@@ -52,8 +47,9 @@ same-length-2 c = search needs
 
 returns : tie.Need-returns
 returns c =
-    let T = c .before .before .before .before .before .before .before .before .before .before .before .before .before .before .before .before .before .before .before .before .before .before .before .before .pre in
-    run-ended T _ _ _ _ (c .before .before .before .before .before .before .before .before .before .before .before .before .wide .ensures .0) _ _ _ _ _ (c .before .before .before .before .before .before .before .clocks .ensures) (c .state-of .ensures)
+    let k = c .before .before .before .before .before .before .before in
+    let T = k .before .before .before .before .before .before .before .before .before .before .before .before .before .before .pre .1 in
+    run-ended T _ _ _ _ (k .before .before .before .before .before .wide .ensures .0) _ _ _ _ _ (k .clocks .ensures) (c .state-of .ensures)
 
 pub run-taken-spec : {M : Type 1} → statement M
 run-taken-spec =
@@ -65,8 +61,6 @@ run-taken-spec =
     sub-row
     mul-row
     element-copy-out-row
-    centre-requires
-    cast-centre
     wide-requires
     clocks-requires
     state-of-requires
