@@ -13,7 +13,7 @@ use borrow.Author.Tests.{lt-ltb, le-ltb}
 use Rattle.model.specs.Lists.{sum}
 use Rattle.model.specs.Clock.{Layout, first, turns, fires, next, moves}
 use Rattle.model.specs.Running.{Spent, Starved, Stalled, call}
-use Rattle.flow.specs.Machine.{Invariant, Ready}
+use Rattle.flow.specs.Machine.{Invariant}
 use Rattle.flow.specs.Tests.{fires-yes}
 use Rattle.flow.specs.Invariant.{next-invariant}
 use Rattle.demands.proofs.Held.{Steps, next-steps}
@@ -69,10 +69,6 @@ first-steps source [] [] s = (omega arith, omega arith)
 first-steps source [] (p′ ∷ ps′) s = absurd s
 first-steps source (p ∷ ps) [] s = absurd s
 first-steps source (p ∷ ps) (p′ ∷ ps′) s = (s .0, s .1)
-
-ready-first : (L : Layout) (f source : ℕ) (ps : List ℕ) → 0 < length ps → Ready L f 0 source ps → getD ps 0 0 ≡ L .wants f 0
-ready-first L f source [] h r = absurd (omega arith)
-ready-first L f source (p ∷ ps) h r = r .1
 
 aligned-at : (w cap : ℕ → ℕ) (k i : ℕ) (ps : List ℕ) → suc i < length ps → Aligned w cap k ps
     → (getD ps (suc i) 0 < getD ps i 0) × (getD ps i 0 + w (suc (k + i)) ≡ getD ps (suc i) 0 + w (k + i))
@@ -169,18 +165,6 @@ module _ (L : Layout) (walk : ℕ → ℕ) (n cells iterations fired : ℕ) (at 
         rings = s .rings;
       }
 
-      -- Nor do filters of which filter 0 is not presented its wanted cell. They are looked at, or that is so.
-      pub quiet : (look : Bool) → (look ≡ false → getD passed 0 0 ≡ getD wants 0 0 → ⊥) → (look ≡ true → Lined n at passed → ⊥) → fires L (counting fired (take n passed)) ≡ false
-      quiet true f g = idle (g refl)
-      quiet false f g = go (fires L (counting fired (take n passed))) refl
-        where
-          go : (b : Bool) → fires L (counting fired (take n passed)) ≡ b → b ≡ false
-          go true e =
-              absurd (f refl (sym (getD-take n passed 0 0 (F .tables .some))
-              ∙ ready-first L fired (L .cells) (take n passed) (omega (arith, long, F .tables .some)) (fires-yes L (counting fired (take n passed)) e)
-              ∙ sym (F .wants-are 0 (F .tables .some))))
-          go false e = refl
-
       -- The counters after the turns.
       module _ (passed′ : List ℕ) (e : passed′ ≡ swept wants caps passed n cells) where
         same-turns : turns (of wants) (of caps) 0 cells (take n passed) ≡ turns (L .wants fired) (L .capacity) 0 (L .cells) (take n passed)
@@ -209,11 +193,11 @@ module _ (L : Layout) (walk : ℕ → ℕ) (n cells iterations fired : ℕ) (at 
             ∙ length-append (turns (of wants) (of caps) 0 cells (take n passed)) (drop n passed)
             ∙ omega (arith, length-turns (of wants) (of caps) 0 cells (take n passed), long, length-drop n passed, s .there, F .tables .few)
 
-        module _ (none : fires L (counting fired (take n passed)) ≡ false) where
+        module _ (nl : Lined n at passed → ⊥) where
           -- The clock is the next of the definition.
           next-is : next L (counting fired (take n passed)) ≡ counting fired (take n passed′)
           unfolding next
-          next-is = rw (none, taken-turns)
+          next-is = rw (idle nl, taken-turns)
 
           holds-now : Invariant L (counting fired (take n passed′))
           holds-now = rw next-is at (next-invariant L (F .tables .lawful) (counting fired (take n passed)) left (s .holds))
@@ -260,7 +244,7 @@ module _ (L : Layout) (walk : ℕ → ℕ) (n cells iterations fired : ℕ) (at 
                   fewer = omega (arith, first-on, s .fewer);
                   goes = λ write size out.
                       let g = rw more-left at (s .goes write size out) in
-                      let l = call-shifts L write size lent fired (take n passed) store out taken clocks 0 left tl none (allowance - suc clocks) mo in
+                      let l = call-shifts L write size lent fired (take n passed) store out taken clocks 0 left tl (idle nl) (allowance - suc clocks) mo in
                       sym (rw (next-is, ← ex, ← (t .words), first-before, first-after) at l) ∙ g;
                 }
 

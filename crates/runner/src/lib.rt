@@ -483,28 +483,6 @@ fn lined(n: usize, at: &[usize; 32], ps: &[usize; 32]) -> bool
     true
 }
 
-// The same, where it is to be looked at.
-fn aligned(look: bool, n: usize, at: &[usize; 32], ps: &[usize; 32]) -> bool
-    requires { ⌜ n ≤ 32 ⌝ }
-    requires { ⌜ ((k : ℕ) → k < n → getD (now ps) k 0 ≤ 1048576) ⌝ }
-    requires { ⌜ ((k : ℕ) → k < n → getD (now at) k 0 ≤ 1048576) ⌝ }
-    ensures { λ r. ⌜ ((r ≡ true → Lined n (now (at .entry)) (now (ps .entry))) × (r ≡ false → look ≡ true → Lined n (now (at .entry)) (now (ps .entry)) → ⊥)) ⌝ }
-{
-    if look {
-        return lined(n, at, ps);
-    }
-    false
-}
-
-fn equal(x: usize, y: usize) -> bool
-    ensures { λ r. ⌜ (r ≡ false → x ≡ y → ⊥) ⌝ }
-{
-    if x == y {
-        return true;
-    }
-    false
-}
-
 enum Stop {
     Aligned,
     Spent,
@@ -518,8 +496,7 @@ struct Filled {
     clocks: usize,
 }
 
-// The clocks of a call up to one whose filters are aligned: none of them fires, since a firing finds the filters aligned, and filter 0 at its wanted cell. So the filters
-// are looked at where filter 0 is there, and at the start, since they may be aligned between two rows.
+// The clocks of a call up to the first whose filters are aligned: none of them fires, since a firing finds the filters aligned.
 fn fill(
     chain: Chain,
     at: &[usize; 32],
@@ -546,7 +523,6 @@ fn fill(
     let n = chain.window.count as usize;
     let mut taken = 0;
     let mut clocks = 0;
-    let mut look = true;
     while clocks < allowance {
         if cells.len() <= taken {
             return Filled {
@@ -555,7 +531,7 @@ fn fill(
                 clocks,
             };
         }
-        if aligned(look, n, at, passed) {
+        if lined(n, at, passed) {
             return Filled {
                 how: Stop::Aligned,
                 taken,
@@ -582,9 +558,7 @@ fn fill(
                 clocks,
             };
         }
-        let p = passed[0];
-        look = equal(p, wants[0]);
-        taken += p - before;
+        taken += passed[0] - before;
         clocks += 1;
     }
     Filled {

@@ -1,9 +1,7 @@
 -- `fill` makes the clocks of the call's definition up to the first whose filters are aligned. Assumes nothing.
 use Prim.Native.Nat.{ℕ, _-_}
-use mathlib.Core.Bool.{false}
-use mathlib.Core.Path.{_≡_, refl}
+use mathlib.Core.Path.{_≡_, refl, _∙_}
 use native.Mathlib.Omega.{arith}
-use lib.ListN.{getD}
 use borrow.Author.Needs.{needs}
 use Rattle.model.specs.Values.{Trimmed}
 use Rattle.model.specs.Running.{layout}
@@ -16,12 +14,10 @@ use Rattle.alignment.proofs.FillLaws.{
   at-small,
   small,
   may-turn,
-  quiet,
   first-on,
   stops-spent,
   stops-starved,
   stops-stalled,
-  not-true,
   none-moved,
   some-moved,
 }
@@ -29,13 +25,12 @@ use Rattle.runner.proofs.fill.Statement.{statement}
 use Rattle.runner.proofs.fill.Tie as tie
 
 abbrev Inv-loop : tie.InvT-loop
-Inv-loop at wants caps bases tops dims boxes strides iterations size fired passed₀ puts₀ gets₀ store₀ cells allowance n taken₀ clocks₀ look₀ passed puts gets store taken clocks look =
-    (look ≡ false → getD passed 0 0 ≡ getD wants 0 0 → ⊥)
-    × ((t : Trimmed) → Fills (layout t) (walked boxes strides dims 0) n size iterations fired at wants caps bases tops passed₀ puts₀ gets₀ store₀
-    → Filling (layout t) (walked boxes strides dims 0) n size iterations fired at wants caps bases tops passed₀ puts₀ gets₀ store₀ cells allowance passed puts gets store taken clocks)
+Inv-loop at wants caps bases tops dims boxes strides iterations size fired passed₀ puts₀ gets₀ store₀ cells allowance n taken₀ clocks₀ passed puts gets store taken clocks =
+    (t : Trimmed) → Fills (layout t) (walked boxes strides dims 0) n size iterations fired at wants caps bases tops passed₀ puts₀ gets₀ store₀
+    → Filling (layout t) (walked boxes strides dims 0) n size iterations fired at wants caps bases tops passed₀ puts₀ gets₀ store₀ cells allowance passed puts gets store taken clocks
 
 abbrev μ-loop : tie.MeasureT-loop
-μ-loop at wants caps bases tops dims boxes strides iterations size fired passed₀ puts₀ gets₀ store₀ cells allowance n taken₀ clocks₀ look₀ passed puts gets store taken clocks look = allowance - clocks
+μ-loop at wants caps bases tops dims boxes strides iterations size fired passed₀ puts₀ gets₀ store₀ cells allowance n taken₀ clocks₀ passed puts gets store taken clocks = allowance - clocks
 
 -- the function's entry, from the loop's head
 abbrev start : tie.At-loop Inv-loop μ-loop → tie.Start Inv-loop μ-loop
@@ -45,15 +40,15 @@ cast-n : tie.Need-cast-n Inv-loop μ-loop
 cast-n c = search needs
 
 loop-holds : tie.Need-loop-holds Inv-loop μ-loop
-loop-holds c = ((λ e. not-true e), λ t F. filling-start _ _ _ _ _ _ _ _ _ _ _ _ _ _ _ _ _ F)
+loop-holds c = λ t F. filling-start _ _ _ _ _ _ _ _ _ _ _ _ _ _ _ _ _ F
 
 same-length : tie.Need-same-length Inv-loop μ-loop
-same-length c = let a = c .before .before in a .loop .inv .1 _ (start a .pre) .store-length
+same-length c = let a = c .before .before in a .loop .inv _ (start a .pre) .store-length
 
 returns : tie.Need-returns Inv-loop μ-loop
 returns c =
     let a = c .before .before in
-    let s = a .loop .inv .1 _ (start a .pre) in
+    let s = a .loop .inv _ (start a .pre) in
     record {
       lines = λ e. absurd (let z : _≡_ {A = ℕ} 0 1 = cc in let y : ⊥ = omega arith in y);
       puts-there = s .puts-there;
@@ -68,21 +63,21 @@ returns c =
       resumes = stops-starved _ _ _ _ _ _ _ _ _ _ _ _ _ _ _ _ _ (start a .pre) _ _ _ _ _ _ s (c .before .loop-test .taken) (c .if1 .taken) _ _;
     }
 
-aligned-requires : tie.Need-aligned-requires Inv-loop μ-loop
-aligned-requires c κs =
+lined-requires : tie.Need-lined-requires Inv-loop μ-loop
+lined-requires c κs =
     let a = c .before .before .before in
-    let s = a .loop .inv .1 _ (start a .pre) in
+    let s = a .loop .inv _ (start a .pre) in
     (start a .pre .tables .few, (small _ _ _ _ _ _ _ _ _ _ _ _ _ _ _ _ _ (start a .pre) _ _ _ _ _ _ s, at-small _ _ _ _ _ _ _ _ _ _ _ _ _ _ _ (start a .args .cells .now) (start a .args .allowance) (start a .pre)))
 
 same-length-2 : tie.Need-same-length-2 Inv-loop μ-loop
-same-length-2 c = let a = c .before .before .before .before .before in a .loop .inv .1 _ (start a .pre) .store-length
+same-length-2 c = let a = c .before .before .before .before .before in a .loop .inv _ (start a .pre) .store-length
 
 returns-2 : tie.Need-returns-2 Inv-loop μ-loop
 returns-2 c =
     let a = c .before .before .before .before .before in
-    let s = a .loop .inv .1 _ (start a .pre) in
+    let s = a .loop .inv _ (start a .pre) in
     record {
-      lines = λ _. c .before .aligned .ensures .0 (c .if2 .taken);
+      lines = λ _. c .before .lined .ensures .0 (c .if2 .taken);
       puts-there = s .puts-there;
       gets-there = s .gets-there;
       rings = s .rings;
@@ -108,7 +103,7 @@ turns-requires : tie.Need-turns-requires Inv-loop μ-loop
 turns-requires c κs =
     let e2 = c .before .before .before .before .before .before in
     let a = e2 .before .before .before .before .before in
-    let s = a .loop .inv .1 _ (start a .pre) in
+    let s = a .loop .inv _ (start a .pre) in
     (_, may-turn _ _ _ _ _ _ _ _ _ _ _ _ _ _ _ _ _ (start a .pre) _ _ _ _ _ _ s)
 
 -- the test for alignment, from the turns
@@ -125,9 +120,9 @@ same-length-3 c =
     let e1 = e2 .before .before .before in
     let a = head f in
     let F = start a .pre in
-    let s = a .loop .inv .1 _ F in
+    let s = a .loop .inv _ F in
     let t = f .turns .ensures _ (may-turn _ _ _ _ _ _ _ _ _ _ _ _ _ _ _ _ _ F _ _ _ _ _ _ s) in
-    filling-still _ _ _ _ _ _ _ _ _ _ _ _ _ _ _ _ _ F _ _ _ _ _ _ s _ (t .counters) (quiet _ _ _ _ _ _ _ _ _ _ _ _ _ _ _ _ _ F _ _ _ _ _ _ s (a .loop .look) (a .loop .inv .0) (e2 .before .aligned .ensures .1 (e2 .if2 .left))) (e1 .before .loop-test .taken) (e1 .if1 .left) _ _ _ _ _ (none-moved (f .turns .result) (c .if3 .taken)) t .store-length
+    filling-still _ _ _ _ _ _ _ _ _ _ _ _ _ _ _ _ _ F _ _ _ _ _ _ s _ (t .counters) (e2 .before .lined .ensures .1 (e2 .if2 .left)) (e1 .before .loop-test .taken) (e1 .if1 .left) _ _ _ _ _ (none-moved (f .turns .result) (c .if3 .taken)) t .store-length
 
 returns-3 : tie.Need-returns-3 Inv-loop μ-loop
 returns-3 c =
@@ -136,10 +131,10 @@ returns-3 c =
     let e1 = e2 .before .before .before in
     let a = head f in
     let F = start a .pre in
-    let s = a .loop .inv .1 _ F in
+    let s = a .loop .inv _ F in
     let t = f .turns .ensures _ (may-turn _ _ _ _ _ _ _ _ _ _ _ _ _ _ _ _ _ F _ _ _ _ _ _ s) in
-    let q = quiet _ _ _ _ _ _ _ _ _ _ _ _ _ _ _ _ _ F _ _ _ _ _ _ s (a .loop .look) (a .loop .inv .0) (e2 .before .aligned .ensures .1 (e2 .if2 .left)) in
-    let s′ = filling-still _ _ _ _ _ _ _ _ _ _ _ _ _ _ _ _ _ F _ _ _ _ _ _ s _ (t .counters) q (e1 .before .loop-test .taken) (e1 .if1 .left) _ _ _ _ _ (none-moved (f .turns .result) (c .if3 .taken)) t in
+    let nl = e2 .before .lined .ensures .1 (e2 .if2 .left) in
+    let s′ = filling-still _ _ _ _ _ _ _ _ _ _ _ _ _ _ _ _ _ F _ _ _ _ _ _ s _ (t .counters) nl (e1 .before .loop-test .taken) (e1 .if1 .left) _ _ _ _ _ (none-moved (f .turns .result) (c .if3 .taken)) t in
     record {
       lines = λ e. absurd (let z : _≡_ {A = ℕ} 0 1 = cc in let y : ⊥ = omega arith in y);
       puts-there = s′ .puts-there;
@@ -151,42 +146,36 @@ returns-3 c =
       had = s′ .had;
       allowed = s′ .allowed;
       fewer = s′ .fewer;
-      resumes = stops-stalled _ _ _ _ _ _ _ _ _ _ _ _ _ _ _ _ _ F _ _ _ _ _ _ s _ (t .counters) q (e1 .before .loop-test .taken) (e1 .if1 .left) _ _ _ _ _ (none-moved (f .turns .result) (c .if3 .taken)) t _ _;
+      resumes = stops-stalled _ _ _ _ _ _ _ _ _ _ _ _ _ _ _ _ _ F _ _ _ _ _ _ s _ (t .counters) nl (e1 .before .loop-test .taken) (e1 .if1 .left) _ _ _ _ _ (none-moved (f .turns .result) (c .if3 .taken)) t _ _;
     }
 
-element-copy-out-p : tie.Need-element-copy-out-p Inv-loop μ-loop
-element-copy-out-p c = search needs
-
-element-copy-out-equal : tie.Need-element-copy-out-equal Inv-loop μ-loop
-element-copy-out-equal c = search needs
-
-equal-requires : tie.Need-equal-requires Inv-loop μ-loop
-equal-requires c κs = search needs
+element-copy-out-taken : tie.Need-element-copy-out-taken Inv-loop μ-loop
+element-copy-out-taken c = search needs
 
 sub-taken : tie.Need-sub-taken Inv-loop μ-loop
 sub-taken c =
-    let f = c .before .before .before .before .before .before in
+    let f = c .before .before .before .before in
     let e2 = unlined f in
     let a = head f in
     let F = start a .pre in
-    let s = a .loop .inv .1 _ F in
+    let s = a .loop .inv _ F in
     let t = f .turns .ensures _ (may-turn _ _ _ _ _ _ _ _ _ _ _ _ _ _ _ _ _ F _ _ _ _ _ _ s) in
-    omega (arith, first-on _ _ _ _ _ _ _ _ _ _ _ _ _ _ _ _ _ F _ _ _ _ _ _ s _ (t .counters) (quiet _ _ _ _ _ _ _ _ _ _ _ _ _ _ _ _ _ F _ _ _ _ _ _ s (a .loop .look) (a .loop .inv .0) (e2 .before .aligned .ensures .1 (e2 .if2 .left))))
+    omega (arith, first-on _ _ _ _ _ _ _ _ _ _ _ _ _ _ _ _ _ F _ _ _ _ _ _ s _ (t .counters) (e2 .before .lined .ensures .1 (e2 .if2 .left)))
 
 add-taken : tie.Need-add-taken Inv-loop μ-loop
 add-taken c =
-    let f = c .before .before .before .before .before .before in
+    let f = c .before .before .before .before in
     let e2 = unlined f in
     let e1 = e2 .before .before .before in
     let a = head f in
     let F = start a .pre in
-    let s = a .loop .inv .1 _ F in
+    let s = a .loop .inv _ F in
     let t = f .turns .ensures _ (may-turn _ _ _ _ _ _ _ _ _ _ _ _ _ _ _ _ _ F _ _ _ _ _ _ s) in
-    omega (arith, first-on _ _ _ _ _ _ _ _ _ _ _ _ _ _ _ _ _ F _ _ _ _ _ _ s _ (t .counters) (quiet _ _ _ _ _ _ _ _ _ _ _ _ _ _ _ _ _ F _ _ _ _ _ _ s (a .loop .look) (a .loop .inv .0) (e2 .before .aligned .ensures .1 (e2 .if2 .left))), e1 .if1 .left, start a .good)
+    omega (arith, first-on _ _ _ _ _ _ _ _ _ _ _ _ _ _ _ _ _ F _ _ _ _ _ _ s _ (t .counters) (e2 .before .lined .ensures .1 (e2 .if2 .left)), e1 .if1 .left, start a .good)
 
 add-clocks : tie.Need-add-clocks Inv-loop μ-loop
 add-clocks c =
-    let f = c .before .before .before .before .before .before in
+    let f = c .before .before .before .before in
     let e1 = unlined f .before .before .before in
     omega (arith, e1 .before .loop-test .taken, start (head f) .fits)
 
@@ -195,25 +184,23 @@ loop-less c = search needs
 
 loop-again : tie.Need-loop-again Inv-loop μ-loop
 loop-again c =
-    let f = c .before .before .before .before .before .before in
+    let f = c .before .before .before .before in
     let e2 = unlined f in
     let e1 = e2 .before .before .before in
-    let a = head f in (
-      c .equal .ensures,
-      λ t F.
-          let s = a .loop .inv .1 t F in
-          let q = quiet _ _ _ _ _ _ _ _ _ _ _ _ _ _ _ _ _ F _ _ _ _ _ _ s (a .loop .look) (a .loop .inv .0) (e2 .before .aligned .ensures .1 (e2 .if2 .left)) in
-          let u = f .turns .ensures _ (may-turn _ _ _ _ _ _ _ _ _ _ _ _ _ _ _ _ _ F _ _ _ _ _ _ s) in
-          filling-again _ _ _ _ _ _ _ _ _ _ _ _ _ _ _ _ _ F _ _ _ _ _ _ s _ (u .counters) q (e1 .before .loop-test .taken) (e1 .if1 .left) _ _ _ _ _ refl (some-moved (f .turns .result) (c .before .before .before .if3 .left)) u,
-    )
+    let a = head f in
+    let nl = e2 .before .lined .ensures .1 (e2 .if2 .left) in
+    λ t F.
+        let s = a .loop .inv t F in
+        let u = f .turns .ensures _ (may-turn _ _ _ _ _ _ _ _ _ _ _ _ _ _ _ _ _ F _ _ _ _ _ _ s) in
+        filling-again _ _ _ _ _ _ _ _ _ _ _ _ _ _ _ _ _ F _ _ _ _ _ _ s _ (u .counters) nl (e1 .before .loop-test .taken) (e1 .if1 .left) _ _ _ _ _ refl (some-moved (f .turns .result) (c .before .if3 .left)) u
 
 same-length-4 : tie.Need-same-length-4 Inv-loop μ-loop
-same-length-4 c = let a = c .before in a .loop .inv .1 _ (start a .pre) .store-length
+same-length-4 c = let a = c .before in a .loop .inv _ (start a .pre) .store-length
 
 returns-4 : tie.Need-returns-4 Inv-loop μ-loop
 returns-4 c =
     let a = c .before in
-    let s = a .loop .inv .1 _ (start a .pre) in
+    let s = a .loop .inv _ (start a .pre) in
     record {
       lines = λ e. absurd (let z : _≡_ {A = ℕ} 0 1 = cc in let y : ⊥ = omega arith in y);
       puts-there = s .puts-there;
@@ -238,7 +225,7 @@ fill-spec =
     loop-holds
     same-length
     returns
-    aligned-requires
+    lined-requires
     same-length-2
     returns-2
     element-copy-out-before
@@ -247,9 +234,7 @@ fill-spec =
     turns-requires
     same-length-3
     returns-3
-    element-copy-out-p
-    element-copy-out-equal
-    equal-requires
+    element-copy-out-taken
     sub-taken
     add-taken
     add-clocks
