@@ -1,6 +1,6 @@
 -- The splitters' turns of a clock without firing: counters, ring places and words, from the last filter to the first.
 use Prim.Native.Nat.{ℕ, zero, suc, _+_, _-_, _%_, _≤_, _<_}
-use mathlib.Core.Bool.{Bool, true, false, cond, false≢true}
+use mathlib.Core.Bool.{Bool, true, false, false≢true}
 use mathlib.Core.List.{List, [], _∷_}
 use mathlib.Core.Path.{_≡_, refl, sym, _∙_, ap}
 use native.Mathlib.Nat.{mod-lt}
@@ -15,11 +15,11 @@ use Rattle.model.specs.Lists.{sum}
 use Rattle.model.specs.Clock.{turn, limit}
 use Rattle.model.specs.Store.{firstPlace, placeIn, stored}
 use Rattle.demands.proofs.Held.{first-place-suc, place-before, stored-before}
-use Rattle.alignment.specs.Passes.{of, step, Places}
+use Rattle.alignment.specs.Passes.{of, step}
 use Rattle.alignment.specs.Sweeps.{source, Ringed, wordAt, getsOn, PutOn, Turns, Turned}
 use Rattle.alignment.proofs.FlowLaws.{step-is, place-is}
 use Rattle.alignment.proofs.SweepLaws.{turn-wanted, turn-went, turn-stayed, limit-inner, Sweeping, sweeping-start, sweeping-step, sweeping-end}
-use Rattle.alignment.proofs.StoredLaws.{length-stored, stored-past, stored-at, stored-last}
+use Rattle.alignment.proofs.StoredLaws.{stored-past, stored-at, stored-last}
 
 -- ---- the word of a filter
 

@@ -9,6 +9,5 @@ pub mod Due
 pub mod Steps
 pub mod RunStep
 pub mod Turns
-pub mod SheetLength
 pub mod Plan
 pub mod Whole

@@ -24,13 +24,13 @@ use Rattle.model.specs.Writing.{sheetOf}
 use Rattle.model.specs.Arriving.{opened, arrive, finished}
 use Rattle.model.specs.Programs.{refusalText, planText}
 use Rattle.model.proofs.Tests.{neither}
+use Rattle.sheet_laws.proofs.SheetLength.{sheet-length}
 use Rattle.demands.proofs.Accepts.{accepted-chain, passes}
 use Rattle.demands.proofs.Plans.{plan-demand}
 use Rattle.round.proofs.AsItArrives.{as-it-arrives, in-pieces, stays}
 use Rattle.answer.specs.Answer.{planAnswer}
 use Rattle.program_laws.specs.Whole.{planTaken, PlanWrites}
 use Rattle.program_laws.proofs.Texts.{laid-fitting, refusal-length}
-use Rattle.program_laws.proofs.SheetLength.{sheet-length}
 
 -- After a refusal no further block matters.
 all-taken : (a : Arriving) (blocks : List (List ℕ)) → planTaken a blocks ≡ arrive false a (flatten blocks)

@@ -3,11 +3,12 @@ use Prim.Native.Nat.{ℕ, suc, _+_, _*_, _/_, _%_}
 use mathlib.Core.List.{List, [], _∷_, _++_}
 use mathlib.Core.Path.{_≡_, refl, ap, _∙_}
 use native.Mathlib.Omega.{arith}
-use lib.ListN.{length, set, length-append}
+use lib.ListN.{length, set}
 use lib.Seq.{sets}
 use Rattle.model.specs.Frames.{digitOf, digitsOf, framed}
 use Rattle.model.specs.Lines.{lineFeed}
 use Rattle.model.specs.Numbers.{wordBytes}
+use Rattle.sheet_laws.proofs.SheetLength.{digits-length}
 
 pub sets-join : (xs ys l : List ℕ) (i : ℕ) → sets (sets l i xs) (i + length xs) ys ≡ sets l i (xs ++ ys)
 sets-join [] ys l i = ap (λ j. sets l j ys) (zero-right i)
@@ -22,15 +23,6 @@ digits-join : (xs ys : List ℕ) → digitsOf (xs ++ ys) ≡ digitsOf xs ++ digi
 unfolding digitsOf
 digits-join [] ys = refl
 digits-join (x ∷ xs) ys = ap (λ t. digitOf (x / 16) ∷ digitOf (x % 16) ∷ t) (digits-join xs ys)
-
-digits-length : (bs : List ℕ) → length (digitsOf bs) ≡ 2 * length bs
-unfolding digitsOf
-digits-length [] = refl
-digits-length (b ∷ bs) = omega (arith, digits-length bs)
-
-pub framed-length : (bs : List ℕ) → length (framed bs) ≡ 2 * length bs + 1
-unfolding framed
-framed-length bs = length-append (digitsOf bs) (lineFeed ∷ []) ∙ ap (λ n. n + 1) (digits-length bs)
 
 -- The digits of more bytes, and a line's end, behind those of the bytes before.
 module _ (out : List ℕ) (at next : ℕ) (bs : List ℕ) (e : next ≡ at + 2 * length bs) where

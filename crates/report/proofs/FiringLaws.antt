@@ -11,7 +11,8 @@ use Rattle.model.specs.Lines.{lineFeed}
 use Rattle.model.specs.Numbers.{wordBytes}
 use Rattle.model.specs.Programs.{firingLine, firingsText}
 use Rattle.report.specs.Texts.{firingChars}
-use Rattle.report.proofs.DigitLaws.{sets-join, framed-length, digits-on, line-end}
+use Rattle.sheet_laws.proofs.SheetLength.{framed-length}
+use Rattle.report.proofs.DigitLaws.{sets-join, digits-on, line-end}
 
 -- The words of a firing among all words.
 abbrev pub wordsAt : List ℕ → (from size : ℕ) → List ℕ

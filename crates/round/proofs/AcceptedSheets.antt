@@ -1,6 +1,6 @@
 -- What is known of a chain sheet that is accepted: every line is, none is missing, and the chain that was read is.
 use Prim.Native.Nat.{ℕ}
-use mathlib.Core.Bool.{true, cond}
+use mathlib.Core.Bool.{true, false, cond}
 use mathlib.Core.List.{List}
 use mathlib.Core.Path.{_≡_, refl}
 use lib.Dec.{eqb}
@@ -10,9 +10,11 @@ use Rattle.model.specs.declared.Refusal.the-variants as refusal
 use Rattle.model.specs.declared.Verdict.{Verdict}
 use Rattle.model.specs.declared.Verdict.the-variants as verdict
 use Rattle.model.specs.Answers.{byVerdict}
+use Rattle.model.specs.Values.{requestOf}
 use Rattle.model.specs.Judging.{judgeChain}
+use Rattle.model.specs.Planning.{judgeRequest}
 use Rattle.model.specs.Lines.{linesOf}
-use Rattle.model.specs.Reading.{start, readLines, endVerdict, readChain}
+use Rattle.model.specs.Reading.{start, readLines, endVerdict, readChain, readRequest}
 use Rattle.sheet_laws.proofs.Cases.{by-bool}
 use Rattle.sheet_laws.proofs.AcceptedLines.{refused-accepted}
 
@@ -44,3 +46,10 @@ module _ (sheet : List ℕ) where
   pub accepted-read : readChain sheet .verdict ≡ verdict.Accepted → readChain sheet .chain ≡ read .reading .chain
   unfolding readChain
   accepted-read h = rw h
+
+-- And of a request sheet: the request that was read is accepted.
+pub accepted-request : (sheet : List ℕ) → readRequest sheet .verdict ≡ verdict.Accepted → judgeRequest (readRequest sheet .request) ≡ verdict.Accepted
+unfolding readRequest
+accepted-request sheet h =
+    let s = readLines false start (linesOf sheet) in
+    rw h (accepted-end s (judgeRequest (requestOf (s .reading .chain))) h .1 .1)

@@ -6,3 +6,4 @@ pub mod AcceptedChains
 pub mod FixedMemory
 pub mod ReadingLaws
 pub mod SheetRows
+pub mod SheetLength

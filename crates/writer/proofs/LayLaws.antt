@@ -2,7 +2,7 @@
 use Prim.Native.Nat.{ℕ, suc, _+_, _-_, _*_, _/_, _%_, _≤_, _<_}
 use mathlib.Core.Bool.{Bool, true, false, cond}
 use mathlib.Core.List.{List, [], _∷_, _++_}
-use mathlib.Core.Path.{_≡_, refl, ap, _∙_}
+use mathlib.Core.Path.{_≡_, ap, _∙_}
 use native.Mathlib.Numerals.{add-one}
 use native.Mathlib.Omega.{arith}
 use lib.Dec.{eqb, leb, ltb}
@@ -16,6 +16,7 @@ use Rattle.model.specs.Frames.{kept, digitOf, digitsOf, framed, padded}
 use Rattle.model.specs.Numbers.{halfBytes, wordBytes}
 use Rattle.model.specs.Lines.{lineFeed}
 use Rattle.model.specs.Writing.{capacityLine, kernelLine}
+use Rattle.sheet_laws.proofs.SheetLength.{framed-length}
 use Rattle.sheet_laws.specs.Rows.{gridRow, offsetRow, rowAt, lenAt, lineAt, linesFrom}
 
 sets-join : (xs ys l : List ℕ) (i : ℕ) → sets (sets l i xs) (i + length xs) ys ≡ sets l i (xs ++ ys)
@@ -26,15 +27,6 @@ sets-join [] ys l i = ap (λ j. sets l j ys) (zero-right i)
 sets-join (x ∷ xs) ys l i =
     let e : i + suc (length xs) ≡ suc i + length xs = omega arith in
     ap (λ j. sets (sets (set l i x) (suc i) xs) j ys) e ∙ sets-join xs ys (set l i x) (suc i)
-
-digits-length : (bs : List ℕ) → length (digitsOf bs) ≡ 2 * length bs
-unfolding digitsOf
-digits-length [] = refl
-digits-length (b ∷ bs) = omega (arith, digits-length bs)
-
-framed-length : (bs : List ℕ) → length (framed bs) ≡ 2 * length bs + 1
-unfolding framed
-framed-length bs = length-append (digitsOf bs) (lineFeed ∷ []) ∙ ap (λ n. n + 1) (digits-length bs)
 
 -- One byte of a frame more, and its LF.
 module _ (x out : List ℕ) (len p i : ℕ) (whole : len ≤ length x) where

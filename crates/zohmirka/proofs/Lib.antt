@@ -3,3 +3,4 @@ pub mod CallLaws
 pub mod ReadChains
 pub mod ThereAndBack
 pub mod Promised
+pub mod Sizes

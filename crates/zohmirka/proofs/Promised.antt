@@ -35,7 +35,7 @@ use Rattle.zohmirka.proofs.ThereAndBack.{chain-back}
 use Rattle.zohmirka.specs.Promises.{PlanRefused, ReadRefused, Untouched, RunRefused, SameRuns, ShortState, ShortChain}
 
 -- Each refusal has a number.
-numbered : (x : Refusal) → numberOf x ≡ 0 → ⊥
+pub numbered : (x : Refusal) → numberOf x ≡ 0 → ⊥
 unfolding numberOf
 numbered refusal.Malformed e = omega arith
 numbered refusal.Misplaced e = omega arith

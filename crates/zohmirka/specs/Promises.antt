@@ -1,8 +1,14 @@
 -- What is promised of the calls beside what each answers.
-use Prim.Native.Nat.{ℕ, _<_}
+use Prim.Native.Nat.{ℕ, _≤_, _<_}
 use mathlib.Core.List.{List}
 use mathlib.Core.Path.{_≡_}
 use lib.ListN.{length}
+use Rattle.model.specs.Values.{trimmed}
+use Rattle.model.specs.Judging.{judgeChain}
+use Rattle.model.specs.Reading.{readRequest}
+use Rattle.model.specs.Running.{widthOf}
+use Rattle.model.specs.declared.Chain.{Chain}
+use Rattle.model.specs.declared.Verdict.the-variants.{Accepted}
 use Rattle.zohmirka.specs.Words.{stateSize, chainSize}
 use Rattle.zohmirka.specs.Calls.{planCall, readCall, Runs, runSheet, runChain}
 
@@ -47,3 +53,15 @@ ShortState =
 abbrev pub ShortChain : Type 0
 ShortChain =
     (state store cells out : List ℕ) (allowance : ℕ) (chain : List ℕ) → length chain < chainSize → runChain state store cells out allowance chain .report .refusal ≡ 3
+
+-- The sizes of the C header are enough: in `ZOHMIRKA_SHEET_BYTES` every accepted request is planned, with `ZOHMIRKA_STORE_WORDS` no run is refused by 10, and no firing of an
+-- accepted chain writes more than `ZOHMIRKA_FIRING_WORDS`.
+abbrev pub LongSheet : Type 0
+LongSheet = (request sheet : List ℕ) → readRequest request .verdict ≡ Accepted → 1007 ≤ length sheet → planCall request sheet .answer .refusal ≡ 0
+
+abbrev pub LongStore : Type 0
+LongStore =
+    (state store cells out : List ℕ) (allowance : ℕ) (chain : List ℕ) → 16384 ≤ length store → runChain state store cells out allowance chain .report .refusal ≡ 10 → ⊥
+
+abbrev pub FewWords : Type 0
+FewWords = (c : Chain) → judgeChain c ≡ Accepted → widthOf (trimmed c) ≤ 32

@@ -1,6 +1,5 @@
 -- `clocks` makes the clocks of the call's definition. Assumes nothing.
 use mathlib.Core.Path.{refl, _∙_}
-use native.Mathlib.Omega.{arith}
 use Rattle.model.specs.Running.{outcomeOf}
 use Rattle.runner.proofs.FitLaws.{bytes-fit}
 use Rattle.runner.proofs.ClocksLaws.{

@@ -1,6 +1,6 @@
 -- `fill` makes the clocks of the call's definition up to the first whose filters are aligned. Assumes nothing.
 use Prim.Native.Nat.{ℕ, _-_}
-use mathlib.Core.Path.{_≡_, refl, _∙_}
+use mathlib.Core.Path.{_≡_, refl}
 use native.Mathlib.Omega.{arith}
 use borrow.Author.Needs.{needs}
 use Rattle.model.specs.Values.{Trimmed}
@@ -190,9 +190,9 @@ loop-again c =
     let a = head f in
     let nl = e2 .before .lined .ensures .1 (e2 .if2 .left) in
     λ t F.
-        let s = a .loop .inv t F in
-        let u = f .turns .ensures _ (may-turn _ _ _ _ _ _ _ _ _ _ _ _ _ _ _ _ _ F _ _ _ _ _ _ s) in
-        filling-again _ _ _ _ _ _ _ _ _ _ _ _ _ _ _ _ _ F _ _ _ _ _ _ s _ (u .counters) nl (e1 .before .loop-test .taken) (e1 .if1 .left) _ _ _ _ _ refl (some-moved (f .turns .result) (c .before .if3 .left)) u
+    let s = a .loop .inv t F in
+    let u = f .turns .ensures _ (may-turn _ _ _ _ _ _ _ _ _ _ _ _ _ _ _ _ _ F _ _ _ _ _ _ s) in
+    filling-again _ _ _ _ _ _ _ _ _ _ _ _ _ _ _ _ _ F _ _ _ _ _ _ s _ (u .counters) nl (e1 .before .loop-test .taken) (e1 .if1 .left) _ _ _ _ _ refl (some-moved (f .turns .result) (c .before .if3 .left)) u
 
 same-length-4 : tie.Need-same-length-4 Inv-loop μ-loop
 same-length-4 c = let a = c .before in a .loop .inv _ (start a .pre) .store-length

@@ -1,4 +1,4 @@
--- How long a chain sheet is at most.
+-- How long frames are, and a chain sheet at most.
 use Prim.Native.Nat.{ℕ, zero, suc, _+_, _*_, _-_, _≤_}
 use mathlib.Core.List.{List, [], _∷_, _++_, map, flatMap}
 use mathlib.Core.Path.{_≡_, refl, sym, _∙_, ap}
@@ -17,12 +17,12 @@ use Rattle.model.specs.Numbers.{halfBytes, wordBytes, pattern}
 use Rattle.model.specs.Writing.{gridLine, offsetLine, capacityLine, kernelLine, chainLines, sheetOf}
 use Rattle.model.proofs.ListLaws.{length-tabulate}
 
-digits-length : (bs : List ℕ) → length (digitsOf bs) ≡ 2 * length bs
+pub digits-length : (bs : List ℕ) → length (digitsOf bs) ≡ 2 * length bs
 unfolding digitsOf
 digits-length [] = refl
 digits-length (b ∷ bs) = omega (arith, digits-length bs)
 
-framed-length : (bs : List ℕ) → length (framed bs) ≡ 2 * length bs + 1
+pub framed-length : (bs : List ℕ) → length (framed bs) ≡ 2 * length bs + 1
 unfolding framed
 framed-length bs = length-append (digitsOf bs) (lineFeed ∷ []) ∙ ap (λ n. n + 1) (digits-length bs)
 
