@@ -139,15 +139,6 @@ sweeping-step ws cs old ps n cells j s = record {
     small i (yes e) = rw (e, getD-set-same ps j v 0 (omega (arith, s .size, s .fits, s .range))) (omega (arith, turn-most (source cells ps j) (getD ws j 0) (limit (λ i. getD cs i 0) j (getD ps j 0) (slice (suc j) n ps)) (getD ps j 0), s .front j (omega arith)))
     small i (no e) = rw (getD-set-other ps j i v 0 e) (s .small i)
 
--- The same, as the loop's body leaves it.
-pub sweeping-again : (ws cs old ps : List ℕ) (n cells k src b v : ℕ) → 0 < k → Sweeping ws cs old ps n cells k
-    → src ≡ source cells ps (k - 1) → b ≡ limit (λ i. getD cs i 0) (k - 1) (getD ps (k - 1) 0) (slice (suc (k - 1)) n ps) → v ≡ turn src (getD ws (k - 1) 0) b (getD ps (k - 1) 0)
-    → Sweeping ws cs old (set ps (k - 1) v) n cells (k - 1)
-sweeping-again ws cs old ps n cells zero src b v h s e₁ e₂ e₃ = absurd (let z : ⊥ = omega arith in z)
-sweeping-again ws cs old ps n cells (suc j) src b v h s e₁ e₂ e₃ =
-    let one : suc j - 1 ≡ j = omega arith in
-    rw (e₃, e₁, e₂, one) (sweeping-step ws cs old ps n cells j s)
-
 -- The clock looks only at what its own filters want and at the FIFOs between them.
 pub turns-same : (w w′ c c′ : ℕ → ℕ) (n k src : ℕ) (ps : List ℕ) → k + length ps ≤ n → ((j : ℕ) → j < n → w j ≡ w′ j) → ((j : ℕ) → suc j < n → c j ≡ c′ j)
     → turns w c k src ps ≡ turns w′ c′ k src ps

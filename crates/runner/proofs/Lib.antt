@@ -4,7 +4,6 @@ pub mod GlidingLaws
 pub mod TableLaws
 pub mod PreparedLaws
 pub mod ClocksLaws
-pub mod EndedLaws
 pub mod PrepareFills
 pub mod PrepareWalks
 pub mod PrepareWants

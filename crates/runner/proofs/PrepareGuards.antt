@@ -1,13 +1,11 @@
 -- What 10 and 11 leave: a store that is long enough, and counters with the invariant of the clocks.
-use Prim.Native.Nat.{ℕ, zero, suc, _+_, _-_, _≤_, _<_}
+use Prim.Native.Nat.{ℕ, zero, suc, _-_, _≤_, _<_}
 use mathlib.Core.Bool.{Bool, false}
 use mathlib.Core.List.{List, [], _∷_}
-use mathlib.Core.Path.{_≡_, refl, sym, _∙_, ap, ap₂}
+use mathlib.Core.Path.{_≡_, refl, sym, _∙_, ap}
 use native.Mathlib.Omega.{arith}
 use lib.Dec.{ltb}
 use lib.ListN.{length, getD, take}
-use borrow.Author.Tests.{ltb-false}
-use Rattle.model.specs.Lists.{sum}
 use Rattle.model.specs.Values.{Trimmed}
 use Rattle.model.specs.Clock.{Layout, Counters}
 use Rattle.model.specs.Store.{firstPlace}
@@ -17,11 +15,10 @@ use Rattle.model.proofs.ListLaws.{length-tabulate}
 use Rattle.flow.specs.Machine.{Holds, Invariant}
 use Rattle.demands.proofs.Accepts.{Proper, Accepted}
 use Rattle.demands.proofs.Guard.{good-invariant}
-use Rattle.demands.proofs.Held.{first-place-suc}
 use Rattle.demands.proofs.Layouts.{all-places}
 use Rattle.runner.specs.Prepared.{numberAt, Filled, Shaped, Capped, counterAt, Laid, TakenUp}
 use Rattle.runner.proofs.PrepareFills.{filled-as, filled-list}
-use Rattle.runner.proofs.PreparePlaces.{same-places, places-rise}
+use Rattle.runner.proofs.PreparePlaces.{same-places}
 use Rattle.runner.proofs.PrepareWants.{few-filters}
 
 -- The capacities in an array.
@@ -36,10 +33,6 @@ module _ {t : Trimmed} {n : ℕ} {caps : List ℕ} (capped : Capped t n caps) wh
   pub bases-are : (old bases : List ℕ) → Filled old (firstPlace (numberAt caps)) (n - 1) bases → Filled old (firstPlace (layout t .capacity)) (n - 1) bases
   bases-are old bases r = filled-as refl (λ k h. places-are k (omega arith)) r
 
-  pub tops-are : (old tops : List ℕ) → Filled old (λ k. firstPlace (numberAt caps) k + numberAt caps k) (n - 1) tops
-      → Filled old (λ k. firstPlace (layout t .capacity) k + layout t .capacity k) (n - 1) tops
-  tops-are old tops r = filled-as refl (λ k h. ap₂ _+_ (places-are k (omega arith)) (sym (capacity-is k (omega arith)))) r
-
   module _ (proper : Proper t) (ok : Accepted t) (store : List ℕ) where
     -- 10, by the number of places.
     pub short-is : (places : ℕ) → places ≡ firstPlace (numberAt caps) (n - 1) → ltb (length store) places ≡ shortStore t store
@@ -47,23 +40,6 @@ module _ {t : Trimmed} {n : ℕ} {caps : List ℕ} (capped : Capped t n caps) wh
     short-is places e =
         let last : n - 1 ≡ t .count - 1 = omega arith in
         ap (ltb (length store)) (e ∙ places-are (n - 1) (omega (arith, ok .some)) ∙ ap (firstPlace (layout t .capacity)) last ∙ all-places t proper ok)
-
-    module _ (long : shortStore t store ≡ false) where
-      -- A store that 10 does not turn back has all places.
-      pub room : firstPlace (layout t .capacity) (t .count - 1) ≤ length store
-      unfolding shortStore
-      room = omega (arith, all-places t proper ok, ltb-false (length store) (sum (t .capacities)) long)
-
-      pub tops-within : (k : ℕ) → suc k < n → firstPlace (layout t .capacity) k + layout t .capacity k ≤ length store
-      tops-within k h =
-          let last : suc k + (t .count - 1 - suc k) ≡ t .count - 1 = omega arith in
-          omega (
-            arith,
-            first-place-suc (layout t .capacity) k,
-            places-rise (layout t .capacity) (suc k) (t .count - 1 - suc k),
-            ap (firstPlace (layout t .capacity)) last,
-            room,
-          )
 
 -- The layout that 11 looks at.
 pub laid : {t : Trimmed} {dims n cells iterations : ℕ} {es ss at caps : List ℕ} → Shaped t dims n cells iterations es ss at → Capped t n caps

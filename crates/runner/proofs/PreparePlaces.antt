@@ -1,5 +1,5 @@
 -- The FIFOs' places in the store, one FIFO after the other.
-use Prim.Native.Nat.{ℕ, zero, suc, _+_, _≤_, _<_}
+use Prim.Native.Nat.{ℕ, zero, suc, _+_, _<_}
 use mathlib.Core.Path.{_≡_, refl, sym, _∙_, ap, ap₂}
 use native.Mathlib.Numerals.{add-one}
 use native.Mathlib.Omega.{arith}
@@ -18,9 +18,3 @@ pub same-places : (k : ℕ) (f g : ℕ → ℕ) → ((i : ℕ) → i < k → f i
 same-places zero f g e = sym (no-place f) ∙ no-place g
 same-places (suc k) f g e =
     first-place-suc f k ∙ ap₂ _+_ (same-places k f g (λ i h. e i (omega arith))) (e k (omega arith)) ∙ sym (first-place-suc g k)
-
-pub places-rise : (capacity : ℕ → ℕ) (k m : ℕ) → firstPlace capacity k ≤ firstPlace capacity (k + m)
-places-rise capacity k zero = let e : k + 0 ≡ k = omega arith in omega (arith, ap (firstPlace capacity) e)
-places-rise capacity k (suc m) =
-    let e : k + suc m ≡ suc (k + m) = omega arith in
-    omega (arith, places-rise capacity k m, first-place-suc capacity (k + m), ap (firstPlace capacity) e)

@@ -37,7 +37,7 @@ use Rattle.runner.specs.Clocks.{Prepared, Begins, Ends}
 use Rattle.runner.specs.Prepared.{numberAt, Filled, Shaped, Capped, TakenUp}
 use Rattle.runner.specs.Runs.{ranOf, Stored, Taken}
 use Rattle.runner.proofs.PreparedLaws.{good-grid}
-use Rattle.runner.proofs.PrepareGuards.{bases-are, tops-are, counters-are, good-counters}
+use Rattle.runner.proofs.PrepareGuards.{bases-are, counters-are, good-counters}
 
 -- Where a check of the first ones holds, the others play no part.
 pub first-refused : (cs ds : List Check) (x : Refusal) → firstOf cs ≡ verdict.Refused x → firstOf (cs ++ ds) ≡ verdict.Refused x
