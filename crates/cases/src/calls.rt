@@ -8,6 +8,7 @@ use model::Outcome;
 use model::Ran;
 use model::Refusal;
 use model::State;
+use values::wide_usize;
 ghost use Prim.Native.Nat.{_≤_};
 
 // A run so far: its state, sums over its calls, how many words the last call wrote, and which outcomes were met; `broken` is a refusal or a stall.
@@ -25,14 +26,14 @@ pub struct Run {
     pub broken: bool,
 }
 
-pub fn fresh() -> State {
+pub(crate) fn fresh() -> State {
     State {
         passed: [CellsPassed(0); 32],
         fired: FiringsMade(0),
     }
 }
 
-pub fn begin() -> Run {
+pub(crate) fn begin() -> Run {
     Run {
         state: fresh(),
         calls: 0,
@@ -48,12 +49,8 @@ pub fn begin() -> Run {
     }
 }
 
-pub fn wide(x: u32) -> usize {
-    x as usize
-}
-
 // The sum of two numbers that are never large here.
-pub fn plus(a: usize, b: usize) -> usize {
+pub(crate) fn plus(a: usize, b: usize) -> usize {
     if a < 1099511627776 {
         if b < 1099511627776 {
             return a + b;
@@ -82,7 +79,7 @@ fn least(a: usize, b: usize) -> usize
 }
 
 // A call that lends at most `count` cells from number `from` on, and at most `places` output places.
-pub fn lend(
+pub(crate) fn lend(
     chain: Chain,
     state: State,
     cells: &[u32],
@@ -120,7 +117,7 @@ fn no_counts() -> Counts {
 }
 
 // The counts of a call; 0 where it was refused.
-pub fn counts(a: Answer) -> Counts {
+pub(crate) fn counts(a: Answer) -> Counts {
     match a {
         Answer::Refused(_) => no_counts(),
         Answer::Ended(o) => match o {
@@ -154,10 +151,10 @@ fn after(r: Run, state: State, a: Answer, width: usize) -> Run {
     Run {
         state,
         calls: plus(r.calls, 1),
-        cells: plus(r.cells, wide(c.cells)),
-        firings: plus(r.firings, wide(c.firings)),
-        clocks: plus(r.clocks, wide(c.clocks)),
-        words: times(wide(c.firings), width),
+        cells: plus(r.cells, wide_usize(c.cells)),
+        firings: plus(r.firings, wide_usize(c.firings)),
+        clocks: plus(r.clocks, wide_usize(c.clocks)),
+        words: times(wide_usize(c.firings), width),
         done: r.done | (end == 0),
         spent: r.spent | (end == 1),
         starved: r.starved | (end == 2),
@@ -214,7 +211,7 @@ fn call(
 }
 
 // Calls until one has written a word, or the run has ended.
-pub fn more(
+pub(crate) fn more(
     chain: Chain,
     run: Run,
     pieces: bool,

@@ -36,7 +36,7 @@ fn cell(p: u32) -> u32 {
     ordinary(p)
 }
 
-pub fn fill(cells: &mut [u32; 786432]) {
+pub(crate) fn fill(cells: &mut [u32; 786432]) {
     let mut p: u32 = 0;
     while p < 786432 {
         cells[p as usize] = cell(p);

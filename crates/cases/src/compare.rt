@@ -3,14 +3,14 @@ use crate::calls::Run;
 use crate::calls::begin;
 use crate::calls::more;
 use crate::calls::plus;
-use crate::nested::agreeing;
-use crate::nested::apply;
-use crate::nested::gather;
-use crate::nested::width;
-use crate::windows::Loops;
-use crate::windows::references;
 use model::Chain;
 use model::Kernel;
+use nested::agreeing;
+use nested::apply;
+use nested::gather;
+use nested::width;
+use nested::windows::Loops;
+use nested::windows::references;
 
 // How far a run's words were compared, and whether all of them are the nested loop's.
 pub struct Compared {
@@ -40,7 +40,7 @@ fn agreeing_at(
 }
 
 // Every word of a run, in order, beside what the nested loop reads.
-pub fn compare(
+pub(crate) fn compare(
     l: Loops,
     kernel: Kernel,
     chain: Chain,

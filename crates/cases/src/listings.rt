@@ -46,15 +46,15 @@ fn run(chain: Chain) {
 // The chain as a sheet.
 fn sheet(chain: Chain) {
     let mut text = [0u8; 256];
-    let w = reader::write_chain(chain, &mut text);
+    let w = sheet_calls::write_chain(chain, &mut text);
     let n = w.bytes;
     if n <= 256 {
         io::write_all(STDOUT_FILENO, &text[..n]);
     }
 }
 
-pub fn listings() {
-    let read = reader::read_request(b"010100000005\n020000\n020003\n0400\n");
+pub(crate) fn listings() {
+    let read = sheet_calls::read_request(b"010100000005\n020000\n020003\n0400\n");
     let request = read.request;
     let p = planner::plan(request);
     let chain = p.chain;

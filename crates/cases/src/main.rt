@@ -4,10 +4,7 @@ mod calls;
 mod cells;
 mod compare;
 mod listings;
-mod nested;
 mod report;
-mod requests;
-mod windows;
 
 fn main() {
     let mut cells = [0u32; 786432];

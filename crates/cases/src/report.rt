@@ -4,20 +4,19 @@ use crate::calls::counts;
 use crate::calls::fresh;
 use crate::calls::lend;
 use crate::calls::plus;
-use crate::calls::wide;
 use crate::compare::Compared;
 use crate::compare::compare;
-use crate::requests::request;
-use crate::windows::Loops;
-use crate::windows::flat;
-use crate::windows::solid;
 use libc::STDOUT_FILENO;
 use model::Chain;
 use model::Counts;
 use model::Factors;
 use model::Kernel;
-use model::Refusal;
 use model::Verdict;
+use nested::requests::request;
+use nested::windows::Loops;
+use nested::windows::flat;
+use nested::windows::solid;
+use values::wide_usize;
 
 fn text(s: &[u8]) {
     io::write_all(STDOUT_FILENO, s);
@@ -25,20 +24,6 @@ fn text(s: &[u8]) {
 
 fn number(n: usize) {
     io::print_decimal(STDOUT_FILENO, n as u64);
-}
-
-// The number of a refusal that a request can meet.
-fn refusal_number(r: Refusal) -> usize {
-    match r {
-        Refusal::BadGrid => 3,
-        Refusal::BadCount => 4,
-        Refusal::EqualOffsets => 5,
-        Refusal::NoIteration => 6,
-        Refusal::NoCentre => 7,
-        Refusal::BadFactor => 8,
-        Refusal::TooLarge => 9,
-        _ => 0,
-    }
 }
 
 fn capacity(c: usize) {
@@ -51,7 +36,7 @@ fn capacities(places: &[u32; 31], fifos: usize) -> usize {
     let mut sum: usize = 0;
     for k in 0..fifos {
         if k < 31 {
-            let c = wide(places[k]);
+            let c = wide_usize(places[k]);
             capacity(c);
             sum = plus(sum, c);
         }
@@ -85,7 +70,7 @@ fn first_clock(before: Counts, next: Counts) {
     if before.firings == 0 {
         if next.firings == 1 {
             text(b"first firing in clock ");
-            number(wide(before.clocks));
+            number(wide_usize(before.clocks));
             text(b"\n");
         }
     }
@@ -101,7 +86,7 @@ fn first_firing(chain: Chain, cells: &[u32], store: &mut [u32], out: &mut [u32])
         chain,
         state,
         cells,
-        wide(before.cells),
+        wide_usize(before.cells),
         1,
         store,
         out,
@@ -186,7 +171,7 @@ fn with_kernel(
         Verdict::Accepted => runs(l, kernel, chain, window, cells, store, out),
         Verdict::Refused(r) => {
             text(b"  refusal ");
-            number(refusal_number(r));
+            number(values::number_of(r) as usize);
             text(b"\n");
         }
     }
@@ -270,7 +255,7 @@ fn on_front(count: usize, cells: &[u32], store: &mut [u32], out: &mut [u32]) {
 }
 
 // Cases 1 to 5.
-pub fn cases(cells: &[u32; 786432], store: &mut [u32; 16384], out: &mut [u32; 786432]) {
+pub(crate) fn cases(cells: &[u32; 786432], store: &mut [u32; 16384], out: &mut [u32; 786432]) {
     flat_cases(cells, store, out);
     on_front(40960, cells, store, out);
 }

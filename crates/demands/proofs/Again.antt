@@ -17,14 +17,14 @@ use Rattle.model.specs.CallLists.{Lending, Between, LentEnough, lentCells, call
 use Rattle.model.specs.declared.Outcome.the-variants as outcome
 use Rattle.model.specs.declared.Answer.the-variants as answer
 use Rattle.flow.specs.Machine.{live}
-use Rattle.demands.specs.Reports.{Reports, clocksOf}
+use Rattle.model.specs.Reports.{Reports, clocksOf}
 use Rattle.demands.specs.Demand3.{ListOfCalls, handedOn, oneMore}
 use Rattle.demands.specs.Promises.{MakesClock, Again, again, againStore}
-use Rattle.demands.proofs.Looks.{Looked, is-done, is-spent, is-starved, is-stalled, is-full}
-use Rattle.demands.proofs.Traces.{still-traced}
-use Rattle.demands.proofs.Ends.{no-clock}
-use Rattle.demands.proofs.Between.{Setting, Reached, now, beginning, ending, clocks, ran, counted-call, lent-length, after-reached, now-after}
-use Rattle.demands.proofs.CallEnds.{call-clocks, why, not-short, not-short-events, enough-ends, reported, Over}
+use Rattle.run_laws.proofs.Looks.{Looked, is-done, is-spent, is-starved, is-stalled, is-full}
+use Rattle.run_laws.proofs.Traces.{still-traced}
+use Rattle.run_laws.proofs.Ends.{no-clock}
+use Rattle.run_laws.proofs.Between.{Setting, Reached, now, beginning, ending, clocks, ran, counted-call, lent-length, after-reached, now-after}
+use Rattle.run_laws.proofs.CallEnds.{call-clocks, why, not-short, not-short-events, enough-ends, reported, Over}
 use Rattle.demands.proofs.Finishing.{setting, reached}
 
 module _ (S : Setting) (l : Lending) (b : Between) {es : List Bool} (r : Reached S b es) where

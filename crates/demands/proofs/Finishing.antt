@@ -11,25 +11,20 @@ use Rattle.model.specs.Running.{layout, Run, Ending, Done, Stalled, outcomeOf, 
 use Rattle.model.specs.CallLists.{Lending, Between, LentEnough, callRun, callEvents, firingsAmong}
 use Rattle.model.specs.declared.Outcome.the-variants as outcome
 use Rattle.model.specs.declared.Answer.the-variants as answer
-use Rattle.flow.specs.Invariant.{fresh-invariant}
-use Rattle.flow.specs.Laws.{progress, no-more}
-use Rattle.demands.specs.Right.{Right}
-use Rattle.demands.specs.Reports.{Reports, firingsOf}
+use Rattle.flow.proofs.Invariant.{fresh-invariant}
+use Rattle.flow.proofs.Laws.{progress, no-more}
+use Rattle.model.specs.Right.{Right}
+use Rattle.model.specs.Reports.{Reports, firingsOf}
 use Rattle.demands.specs.Demand3.{ListOfCalls, eventsOf, handedOn, Finishes, Stalls, Numbered}
-use Rattle.demands.proofs.Accepts.{trimmed-proper, accepted-chain}
-use Rattle.demands.proofs.Layouts.{lawful, right-flows, flows-right, wrong-blocks}
-use Rattle.demands.proofs.Traces.{traced-ran, traced-join, traced-fired, fired-flows}
-use Rattle.demands.proofs.Between.{Setting, Reached, fresh-reached, now, beginning, ending, clocks, ran, sound-end, counted-call, after-reached}
-use Rattle.demands.proofs.CallEnds.{call-firings, not-short, not-short-events, stalled-why, Over, enough-ends}
-use Rattle.demands.proofs.CallSums.{firings-append, list-reached, each-run, list-clocks, list-firings}
+use Rattle.run_laws.proofs.Accepts.{trimmed-proper, accepted-chain}
+use Rattle.run_laws.proofs.Layouts.{lawful, right-flows, flows-right, wrong-blocks}
+use Rattle.run_laws.proofs.Traces.{traced-ran, traced-join, traced-fired, fired-flows}
+use Rattle.run_laws.proofs.Between.{Setting, Reached, fresh-reached, reached-fired, beginning, ending, clocks, ran, sound-end, counted-call, after-reached}
+use Rattle.run_laws.proofs.CallEnds.{call-firings, not-short, not-short-events, stalled-why, Over, enough-ends}
+use Rattle.run_laws.proofs.CallSums.{firings-append, list-reached, each-run, list-clocks, list-firings}
 
 module _ (S : Setting) where
   open Setting S using (trimmed as t, proper, accepted as ok, stream)
-
-  -- Firings made are counted by the events from the fresh state on.
-  pub reached-fired : {b : Between} {es : List Bool} → Reached S b es → now S b .fired ≡ firingsAmong es
-  unfolding fresh
-  reached-fired r = omega (arith, traced-fired (layout t) (r .traced))
 
   -- On a chain that is right no call reports Stalled.
   pub right-runs-on : Right t → (l : Lending) (b : Between) (es : List Bool) → Reached S b es → Reports outcome.Stalled (callRun t stream l b) → ⊥
@@ -41,7 +36,7 @@ module _ (S : Setting) where
   -- On any other no call makes a firing.
   pub wrong-fires-not : (Right t → ⊥) → {b : Between} {es : List Bool} → Reached S b es → firingsAmong es ≡ 0
   wrong-fires-not wrong r =
-      omega (arith, reached-fired r, no-more (layout t) (lawful t proper ok) (traced-ran (layout t) (r .traced)) (wrong-blocks t proper ok wrong))
+      omega (arith, reached-fired S r, no-more (layout t) (lawful t proper ok) (traced-ran (layout t) (r .traced)) (wrong-blocks t proper ok wrong))
 
   pub wrong-call : (Right t → ⊥) → (l : Lending) (b : Between) (es : List Bool) → Reached S b es → firingsOf (callRun t stream l b) ≡ 0
   wrong-call wrong l b es r =
@@ -69,7 +64,7 @@ module _ (S : Setting) where
             most,
             sound-end S l b r (h .store) .invariant .most,
             traced-fired (layout t) (counted-call S l b .traced),
-            reached-fired r,
+            reached-fired S r,
             call-firings S l b r,
             ap firingsAmong (not-short-events S l b r (h .store)),
           ),
@@ -92,7 +87,7 @@ module _ (S : Setting) where
               wrong-fires-not wrong r,
               wrong-call wrong l b es r,
               traced-fired (layout t) (counted-call S l b .traced),
-              reached-fired r,
+              reached-fired S r,
               call-firings S l b r,
               ap firingsAmong (not-short-events S l b r (h .store)),
             ))
@@ -108,7 +103,7 @@ module _ (S : Setting) where
           arith,
           ok .iterates,
           traced-fired (layout t) (counted-call S l b .traced),
-          reached-fired r,
+          reached-fired S r,
           call-firings S l b r,
           ap firingsAmong (not-short-events S l b r (h .store)),
         )))

@@ -1,15 +1,3 @@
-pub mod Looks
-pub mod Traces
-pub mod Guard
-pub mod Held
-pub mod Outputs
-pub mod Calls
-pub mod Accepts
-pub mod Layouts
-pub mod Ends
-pub mod Between
-pub mod CallEnds
-pub mod CallSums
 pub mod Finishing
 pub mod Timing
 pub mod Words

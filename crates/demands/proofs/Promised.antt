@@ -21,17 +21,17 @@ use Rattle.model.specs.declared.Verdict.the-variants as verdict
 use Rattle.model.specs.declared.Answer.the-variants as answer
 use Rattle.model.proofs.ListLaws.{length-tabulate}
 use Rattle.flow.specs.Machine.{live, Ran}
-use Rattle.flow.specs.Laws.{few-clocks, stopped-same}
-use Rattle.flow.specs.Tests.{by-next}
-use Rattle.demands.specs.Reports.{clocksOf}
+use Rattle.flow.proofs.Laws.{few-clocks, stopped-same}
+use Rattle.flow.proofs.Tests.{by-next}
+use Rattle.model.specs.Reports.{clocksOf}
 use Rattle.demands.specs.Demand3.{ListOfCalls, runsOf, eventsOf, handedOn, oneMore}
-use Rattle.demands.specs.Demand2.{wordsFrom}
+use Rattle.model.specs.Words.{wordsFrom}
 use Rattle.demands.specs.Promises.{FewClocks, NeverStale, SameRun, Split, RefusedKeeps, PastCount, Alike}
-use Rattle.demands.proofs.Layouts.{lawful}
-use Rattle.demands.proofs.Looks.{along-call}
-use Rattle.demands.proofs.Traces.{Traced, traced-ran, traced-same}
-use Rattle.demands.proofs.Between.{refused, ran, by-call, after-reached}
-use Rattle.demands.proofs.CallEnds.{call-clocks}
+use Rattle.run_laws.proofs.Layouts.{lawful}
+use Rattle.run_laws.proofs.Looks.{along-call}
+use Rattle.run_laws.proofs.Traces.{Traced, traced-ran, traced-same}
+use Rattle.run_laws.proofs.Between.{refused, ran, by-call, after-reached}
+use Rattle.run_laws.proofs.CallEnds.{call-clocks}
 use Rattle.demands.proofs.Finishing.{setting, reached, numbered}
 use Rattle.demands.proofs.Again.{call-stops}
 use Rattle.demands.proofs.Words.{demand-2}

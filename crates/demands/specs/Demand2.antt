@@ -1,26 +1,16 @@
 -- Demand 2, of the runs: every firing gives each reference's own cell, iterations in order, bit for bit.
-use Prim.Native.Nat.{ℕ, zero, suc, _*_}
-use mathlib.Core.List.{List, [], _∷_, _++_}
+use Prim.Native.Nat.{ℕ, _*_}
+use mathlib.Core.List.{List, [], _∷_}
 use mathlib.Core.Path.{_≡_}
 use lib.ListN.{length, drop}
-use Rattle.model.specs.Lists.{tabulate}
-use Rattle.model.specs.Geometry.{reads}
 use Rattle.model.specs.Values.{Trimmed, trimmed}
-use Rattle.model.specs.Running.{writtenBy, widthOf}
+use Rattle.model.specs.Running.{widthOf}
 use Rattle.model.specs.CallLists.{Lending, Between, callRun, after, allWords, firingsMade}
-use Rattle.demands.specs.Reports.{firingsOf}
+use Rattle.model.specs.Reports.{firingsOf}
+use Rattle.model.specs.Words.{wordsFrom}
 use Rattle.demands.specs.Demand3.{ListOfCalls, runsOf}
 
 module _ (t : Trimmed) (stream : ℕ → ℕ) where
-  -- What the kernel writes of the stream's words at the positions that the references read in iteration j, in chain order.
-  unfoldable pub wordsOf : ℕ → List ℕ
-  wordsOf j = writtenBy t (tabulate (t .count) (λ k. stream (reads (t .sizes) (t .offsets) j k)))
-
-  -- The words of n iterations from j on, in order.
-  unfoldable pub wordsFrom : (j n : ℕ) → List ℕ
-  wordsFrom j zero = []
-  wordsFrom j (suc n) = wordsOf j ++ wordsFrom (suc j) n
-
   -- Of each call: its output is as long as it was, and the places past its firings' words are as they were.
   abbrev pub Kept : List Lending → Between → Type 0
   Kept [] b = Unit {0}

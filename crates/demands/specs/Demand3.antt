@@ -5,17 +5,17 @@ use mathlib.Core.List.{List}
 use mathlib.Core.Logic.{_↔_}
 use mathlib.Core.Path.{_≡_}
 use lib.ListN.{length}
-use Rattle.model.specs.Geometry.{iterationCount, newest}
 use Rattle.model.specs.Windows.{Members}
 use Rattle.model.specs.Values.{trimmed}
+use Rattle.model.specs.Iterations.{iterationsOf, newestOf}
 use Rattle.model.specs.Judging.{judgeChain}
 use Rattle.model.specs.Running.{Run}
 use Rattle.model.specs.CallLists.{Lending, Between, Fresh, LentEnough, FiresIn, firingsAmong, callRun, afterAll, runs, allEvents, clocksMade, firingsMade}
 use Rattle.model.specs.declared.Chain.{Chain}
 use Rattle.model.specs.declared.Outcome.the-variants as outcome
 use Rattle.model.specs.declared.Verdict.the-variants as verdict
-use Rattle.demands.specs.Right.{Right, Planned}
-use Rattle.demands.specs.Reports.{Reports, firingsOf, Each}
+use Rattle.model.specs.Right.{Right, Planned}
+use Rattle.model.specs.Reports.{Reports, firingsOf, Each}
 
 -- A list of calls, perhaps empty, on one accepted chain: one that, handed over as a value, no number turns back. `stream` is the word of each position. At `start` the state is fresh,
 -- its counters past n and the store are as they may be. Each call lends what it likes; refused ones stay in the list and add 0.
@@ -28,13 +28,6 @@ pub record ListOfCalls : Type 0 where
   pub calls : List Lending
 
 module _ (q : ListOfCalls) where
-  -- How many iterations there are, and the newest cell's position of each.
-  abbrev pub iterationsOf : ℕ
-  iterationsOf = iterationCount (trimmed (q .chain) .sizes) (trimmed (q .chain) .offsets)
-
-  abbrev pub newestOf : ℕ → ℕ
-  newestOf j = newest (trimmed (q .chain) .sizes) (trimmed (q .chain) .offsets) j
-
   -- The runs of the list, the events of its clocks, what it hands on, and one more call.
   abbrev pub runsOf : List Run
   runsOf = runs (trimmed (q .chain)) (q .stream) (q .calls) (q .start)
@@ -51,7 +44,7 @@ module _ (q : ListOfCalls) where
   -- Lent enough, one more call ends Done with every firing made exactly if order and capacities are right;
   pub record Finishes : Type 0 where
     pub exactly : (l : Lending) → LentEnough (trimmed (q .chain)) l handedOn
-        → Right (trimmed (q .chain)) ↔ (Reports outcome.Done (oneMore l) × (firingsMade runsOf + firingsOf (oneMore l) ≡ iterationsOf))
+        → Right (trimmed (q .chain)) ↔ (Reports outcome.Done (oneMore l) × (firingsMade runsOf + firingsOf (oneMore l) ≡ iterationsOf (trimmed (q .chain))))
     -- in that case no call of the list and not the last, whatever it is lent, reports Stalled.
     pub no-stall : Right (trimmed (q .chain)) → Each (λ r. Reports outcome.Stalled r → ⊥) runsOf × ((l : Lending) → Reports outcome.Stalled (oneMore l) → ⊥)
 
@@ -67,8 +60,8 @@ module _ (q : ListOfCalls) where
 
   -- On a planned chain the iterations fired by the list are exactly those whose newest cell has a position below the clocks made, and each fires in the clock that equals this position.
   pub record OnTime : Type 0 where
-    pub fired : Planned (trimmed (q .chain)) → (j : ℕ) → j < iterationsOf → ((u : ℕ) × FiresIn eventsOf u j) ↔ (newestOf j < clocksMade runsOf)
-    pub clock : Planned (trimmed (q .chain)) → (j u : ℕ) → FiresIn eventsOf u j → u ≡ newestOf j
+    pub fired : Planned (trimmed (q .chain)) → (j : ℕ) → j < iterationsOf (trimmed (q .chain)) → ((u : ℕ) × FiresIn eventsOf u j) ↔ (newestOf (trimmed (q .chain)) j < clocksMade runsOf)
+    pub clock : Planned (trimmed (q .chain)) → (j u : ℕ) → FiresIn eventsOf u j → u ≡ newestOf (trimmed (q .chain)) j
 
 -- Two lists on chains of the same grid and window: the same sizes, and the same offsets in any order; capacities, kernels, streams and calls as they like.
 pub record SameWindow (p q : ListOfCalls) : Type 0 where
@@ -78,7 +71,7 @@ pub record SameWindow (p q : ListOfCalls) : Type 0 where
 
 -- No chain of the same grid and window fires an iteration earlier than the planned one: "in that clock, later or never".
 pub record NotEarlier (p q : ListOfCalls) : Type 0 where
-  pub newest-first : SameWindow p q → (j u : ℕ) → FiresIn (eventsOf q) u j → newestOf p j ≤ u
+  pub newest-first : SameWindow p q → (j u : ℕ) → FiresIn (eventsOf q) u j → newestOf (trimmed (p .chain)) j ≤ u
   pub planned-first : SameWindow p q → Planned (trimmed (p .chain)) → (j u v : ℕ) → FiresIn (eventsOf p) u j → FiresIn (eventsOf q) v j → u ≤ v
 
 -- Demand 3.

@@ -3,14 +3,14 @@ use Prim.Native.Nat.{ℕ, suc, _+_, _-_, _<_}
 use mathlib.Core.Path.{_≡_}
 use lib.ListN.{getD}
 use Rattle.model.specs.Lists.{sum}
-use Rattle.model.specs.Geometry.{iterationCount, reads}
 use Rattle.model.specs.Windows.{Members}
 use Rattle.model.specs.Values.{Trimmed, sizesOf, offsetsOf, trimmed}
+use Rattle.model.specs.Iterations.{iterationsOf, readsOf}
 use Rattle.model.specs.Judging.{judgeChain}
 use Rattle.model.specs.Planning.{judgeRequest, planOf}
 use Rattle.model.specs.declared.Request.{Request}
 use Rattle.model.specs.declared.Verdict.the-variants as verdict
-use Rattle.demands.specs.Right.{Planned}
+use Rattle.model.specs.Right.{Planned}
 
 -- t: the planned chain of the request r, trimmed.
 pub record PlanRight (r : Request) (t : Trimmed) : Type 0 where
@@ -25,11 +25,11 @@ pub record PlanRight (r : Request) (t : Trimmed) : Type 0 where
   -- They fall, and the capacities are the reuse distances of neighbours,
   pub planned : Planned t
   -- in every iteration;
-  pub every : (j k : ℕ) → j < iterationCount (t .sizes) (t .offsets) → suc k < t .count
-      → reads (t .sizes) (t .offsets) j k ≡ reads (t .sizes) (t .offsets) j (suc k) + getD (t .capacities) k 0
+  pub every : (j k : ℕ) → j < iterationsOf t → suc k < t .count
+      → readsOf t j k ≡ readsOf t j (suc k) + getD (t .capacities) k 0
   -- their sum is the reuse distance of the first and the last reference.
-  pub total : (j : ℕ) → j < iterationCount (t .sizes) (t .offsets)
-      → reads (t .sizes) (t .offsets) j 0 ≡ reads (t .sizes) (t .offsets) j (t .count - 1) + sum (t .capacities)
+  pub total : (j : ℕ) → j < iterationsOf t
+      → readsOf t j 0 ≡ readsOf t j (t .count - 1) + sum (t .capacities)
 
 -- What planning gives.
 pub record PlanGives (r : Request) : Type 0 where

@@ -15,7 +15,7 @@ use Rattle.model.specs.declared.State.{State}
 use Rattle.model.specs.declared.Refusal.{Refusal}
 use Rattle.model.specs.declared.Outcome.the-variants as outcome
 use Rattle.model.specs.declared.Answer.the-variants as answer
-use Rattle.demands.specs.Reports.{Reports, clocksOf}
+use Rattle.model.specs.Reports.{Reports, clocksOf}
 use Rattle.demands.specs.Demand3.{ListOfCalls, runsOf, handedOn, oneMore}
 
 module _ (q : ListOfCalls) where

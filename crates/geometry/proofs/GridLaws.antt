@@ -1,4 +1,4 @@
--- Laws of the check of a grid's sizes, size by size.
+-- Laws of 3, size by size, and of 4.
 use Prim.Native.Nat.{ℕ, zero, suc, _*_, _<_, _≤_}
 use mathlib.Core.Bool.{Bool, true, false, _||_}
 use mathlib.Core.List.{List, [], _∷_}
@@ -11,8 +11,9 @@ use Rattle.model.specs.Lists.{tabulate, product, any}
 use Rattle.model.specs.Geometry.{cellCount}
 use Rattle.model.specs.Values.{sizesOf}
 use Rattle.model.proofs.Tests.{neither}
-use Rattle.model.specs.Judging.{mostCells, badDims, badSizes, badGrid}
+use Rattle.model.specs.Judging.{mostCells, badDims, badSizes, badGrid, badCount}
 use Rattle.model.specs.declared.Grid.{Grid}
+use Rattle.model.specs.declared.Window.{Window}
 use Rattle.geometry.specs.Parts.{numberAt}
 
 -- Where no size is 0 the product is not.
@@ -87,3 +88,12 @@ module _ (g : Grid) (e : badGrid (g .dims) (sizesOf g) ≡ false) where
 
   pub few-cells : cellCount (sizesOf g) ≤ mostCells
   few-cells = ltb-false mostCells (cellCount (sizesOf g)) (neither (any (λ s. eqb s 0) (sizesOf g)) (ltb mostCells (cellCount (sizesOf g))) (parts .1) .1)
+
+-- What 4, where it passes, says of a window.
+pub some-references : (w : Window) → badCount (w .count) ≡ false → 0 < w .count
+unfolding badCount
+some-references w e = omega (arith, eqb-false (w .count) 0 (neither (eqb (w .count) 0) (ltb 32 (w .count)) e .0))
+
+pub few-references : (w : Window) → badCount (w .count) ≡ false → w .count ≤ 32
+unfolding badCount
+few-references w e = ltb-false 32 (w .count) (neither (eqb (w .count) 0) (ltb 32 (w .count)) e .1)

@@ -3,8 +3,3 @@ pub mod FillLaws
 pub mod EntryLaws
 pub mod OffsetLaws
 pub mod GridLaws
-pub mod SpanLaws
-pub mod PlacingLaws
-pub mod ShapeLaws
-pub mod SurveyLaws
-pub mod Answers

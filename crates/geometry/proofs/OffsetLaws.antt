@@ -16,7 +16,7 @@ use Rattle.model.specs.Kernels.{centreOf}
 use Rattle.model.specs.declared.Window.{Window}
 use Rattle.model.proofs.ListLaws.{length-tabulate}
 use Rattle.geometry.specs.Parts.{part, offsetAt}
-use Rattle.geometry.specs.Shapes.{held, repeatsIn, centreIn, hasCentre}
+use Rattle.geometry.specs.Windows.{held, repeatsIn, centreIn, hasCentre}
 use Rattle.geometry.proofs.PartLaws.{part-none, part-more}
 
 -- Two offsets: the entries from d on.

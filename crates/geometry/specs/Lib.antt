@@ -1,2 +1,2 @@
 pub mod Parts
-pub mod Shapes
+pub mod Windows

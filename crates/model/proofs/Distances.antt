@@ -34,7 +34,7 @@ use Rattle.model.specs.Sized.{Sized}
 use Rattle.model.specs.Windows.{relative, Among, Members}
 use Rattle.model.proofs.ListLaws.{length-tabulate, getD-tabulate, all-each, each-all, among-map, greatest-above, greatest-stands, greatest-same}
 use Rattle.model.proofs.IntegerLaws.{least-same}
-use Rattle.model.proofs.PlaceLaws.{place-below, place-add, place-injective, indices-below, place-indices, before-place, relative-injective}
+use Rattle.model.proofs.PlaceLaws.{place-below, place-add, place-injective, indices-below, place-indices, first-indices, before-place, relative-injective}
 use Rattle.model.proofs.WindowLaws.{product-extents, same-extent}
 use Rattle.model.proofs.IterationLaws.{
   below-inside,
@@ -122,6 +122,11 @@ module _ (sizes : List ℕ) (offsets : List (List ℤ)) where
     reads-sum j k b h =
         position-read sizes offsets sized k h j
         ∙ place-add sizes (firstCell sizes offsets k) (indicesOf sizes offsets j) (read-below sizes offsets sized k h j b)
+
+    -- In iteration j each reference reads as far behind its first position as the iteration's indices lie.
+    pub reads-from-first : (j k : ℕ) → j < iterationCount sizes offsets → k < length offsets
+        → reads sizes offsets j k ≡ reads sizes offsets 0 k + place sizes (indices (extents sizes offsets) j)
+    reads-from-first j k b h = omega (arith, reads-sum j k b h, reads-sum 0 k (omega arith) h, first-indices sizes (extents sizes offsets))
 
     -- Each reference reads later positions in later iterations.
     pub rises : (i j k : ℕ) → i < j → j < iterationCount sizes offsets → k < length offsets → reads sizes offsets i k < reads sizes offsets j k

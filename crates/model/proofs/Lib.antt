@@ -5,6 +5,9 @@ pub mod PlaceLaws
 pub mod WindowLaws
 pub mod IterationLaws
 pub mod Distances
+pub mod Iterations
+pub mod WordLaws
 pub mod OrderLaws
 pub mod SortLaws
 pub mod ChainLaws
+pub mod CheckLaws

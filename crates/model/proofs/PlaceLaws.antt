@@ -3,7 +3,7 @@ use Prim.Native.Nat.{ℕ, zero, suc, _+_, _*_, _%_, _<_}
 use mathlib.Core.Bool.{true, cond, _&&_}
 use mathlib.Core.List.{List, [], _∷_}
 use mathlib.Core.Path.{_≡_, refl, sym, ap, ap₂}
-use native.Mathlib.Nat.{div-add-mod', mod-lt, div-lt-iff-lt-mul, mul-le-mul-right}
+use native.Mathlib.Nat.{div-add-mod', mod-lt, div-lt-iff-lt-mul, mul-le-mul-right, zero-div, zero-mod, zero-mul}
 use native.Mathlib.Omega.{arith}
 use native.Mathlib.Decide.{ℕ-discrete, decLt}
 use lib.Dec.{ltb, eqb}
@@ -84,6 +84,13 @@ place-indices [] j h = omega arith
 place-indices (e ∷ es) j h =
     let z = factor-above-0 j e (product es) h in
     omega (arith, place-indices es (j % product es) (mod-lt j z), div-add-mod' j (product es))
+
+-- The indices of iteration 0 are all 0.
+pub first-indices : (ss es : List ℕ) → place ss (indices es 0) ≡ 0
+unfolding place indices
+first-indices [] es = refl
+first-indices (s ∷ ss) [] = refl
+first-indices (s ∷ ss) (e ∷ es) = rw (zero-div (product es), zero-mod (product es), zero-mul (cellCount ss)) (omega (arith, first-indices ss es))
 
 -- The entries of the second vector are at least those of the first.
 pub data AtLeast : List ℤ → List ℤ → Type 0 where

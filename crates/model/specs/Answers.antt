@@ -41,6 +41,16 @@ outcomeCase (outcome.Starved c) = 2
 outcomeCase (outcome.Stalled c) = 3
 outcomeCase (outcome.Full c) = 4
 
+-- The byte of the `11` line: "00 done, 01 stalled, 02 starved". A run of the program ends in no other outcome.
+abbrev pub doneByte : ℕ
+doneByte = 0
+
+abbrev pub stalledByte : ℕ
+stalledByte = 1
+
+abbrev pub starvedByte : ℕ
+starvedByte = 2
+
 unfoldable pub outcomeCounts : Outcome → Counts
 outcomeCounts (outcome.Done c) = c
 outcomeCounts (outcome.Spent c) = c

@@ -9,13 +9,15 @@ use Rattle.model.specs.Lists.{tabulate, sum, product, greatest, any}
 use Rattle.model.specs.Vectors.{same, above, plus, equal, before, isZero}
 use Rattle.model.specs.Geometry.{cellCount, place, natural, position, firstEntry, otherEntries, leastFrom, least, lows, extent, extents, iterationCount, indices, fromLows, iteration, reads, distance}
 use Rattle.model.specs.Values.{sizesOf, offsetOf, offsetsOf, capacitiesOf, trimmed, chainOf, requestOf}
+use Rattle.model.specs.Iterations.{cellsOf, iterationsOf, readsOf, distanceOf}
 use Rattle.model.specs.Answers.{numberOf, verdictNumber, outcomeCase, outcomeCounts, answerCounts, answerNumber, firstOf}
-use Rattle.model.specs.Judging.{badDims, badSizes, badGrid, badCount, repeats, noIteration, needsCentre, lacksCentre, notFinite, badFactor, tooLarge, valueChecks, judged}
-use Rattle.model.specs.Planning.{insert, falling, distances, trimmedRequest, judgeRequest, plannedChain, planOf}
+use Rattle.model.specs.Judging.{badDims, badSizes, badGrid, badCount, repeats, noIteration, needsCentre, lacksCentre, notFinite, badFactor, tooLarge, windowChecks, kernelChecks, capacityChecks, valueChecks, judged}
+use Rattle.model.specs.Planning.{insert, falling, distances, arranged, trimmedRequest, judgeRequest, sorted, plannedChain, planOf}
 use Rattle.model.specs.Kernels.{written, width, centreOf}
 use Rattle.model.specs.Clock.{turn, limit, turns, ready, fires, next, moves}
 use Rattle.model.specs.Store.{firstPlace, placeIn, presented, stored}
 use Rattle.model.specs.Running.{layout, countersOf, withCounters, outcomeOf, words, clocked, look, call, events, shortStore, notPast, badCounter, badFifo, badFilters, badState, judgeRun, begun, writtenBy, widthOf, ended, runTrimmed, eventsTrimmed}
+use Rattle.model.specs.declared.Chain.{Chain}
 use Rattle.model.specs.declared.State.{State}
 use Rattle.model.specs.declared.Answer.{Answer}
 use Rattle.model.specs.declared.Answer.the-variants as answer
@@ -48,9 +50,14 @@ unfoldable pub endOf : Answer → ℕ
 endOf (answer.Ended o) = outcomeCase o
 endOf (answer.Refused r) = 5
 
+-- The raw chain of these sizes, offsets and capacities.
+abbrev rawChain : List ℕ → List (List ℤ) → List ℕ → Chain
+rawChain sizes offsets capacities =
+    chainOf (record { dims = length sizes; sizes = sizes; count = length offsets; offsets = offsets; capacities = capacities; kernel = kernel.Raw })
+
 unfoldable pub planned : List ℕ → List (List ℤ) → Result
 planned sizes offsets =
-    let p = planOf (requestOf (chainOf sizes offsets [] kernel.Raw)) in
+    let p = planOf (requestOf (rawChain sizes offsets [])) in
     let t = trimmed (p .chain) in
     record { number = verdictNumber (p .verdict); offsets = t .offsets; capacities = t .capacities; outcome = 0; cells = 0; clocks = 0; firing = []; words = [] }
 
@@ -59,7 +66,7 @@ start = record { passed = replicate 32 (record { 0 = 0 }); fired = record { 0 = 
 
 unfoldable pub ran : List ℕ → List (List ℤ) → List ℕ → Result
 ran sizes offsets capacities =
-    let c = chainOf sizes offsets capacities kernel.Raw in
+    let c = rawChain sizes offsets capacities in
     let t = trimmed c in
     let cells = cellCount sizes in
     let store : List ℕ = replicate (sum capacities) 0 in
@@ -135,5 +142,5 @@ cases =
     ∷ []
 
 pub table : map answered cases ≡ map expected cases
-unfolding answered expected cases cross crossByRows planned ran start endOf firingClocks tabulate sum product greatest any same above plus equal before isZero cellCount place natural position firstEntry otherEntries leastFrom least lows extent extents iterationCount indices fromLows iteration reads distance sizesOf offsetOf offsetsOf capacitiesOf trimmed chainOf numberOf verdictNumber outcomeCase outcomeCounts answerCounts answerNumber firstOf badDims badSizes badGrid badCount repeats noIteration needsCentre lacksCentre notFinite badFactor tooLarge valueChecks judged insert falling distances trimmedRequest judgeRequest plannedChain planOf written width centreOf turn limit turns ready fires next moves firstPlace placeIn presented stored layout countersOf withCounters outcomeOf words clocked look call events shortStore notPast badCounter badFifo badFilters badState judgeRun begun writtenBy widthOf ended runTrimmed eventsTrimmed
+unfolding answered expected cases cross crossByRows planned ran start endOf firingClocks tabulate sum product greatest any same above plus equal before isZero cellCount place natural position firstEntry otherEntries leastFrom least lows extent extents iterationCount indices fromLows iteration reads distance cellsOf iterationsOf readsOf distanceOf sizesOf offsetOf offsetsOf capacitiesOf trimmed chainOf numberOf verdictNumber outcomeCase outcomeCounts answerCounts answerNumber firstOf badDims badSizes badGrid badCount repeats noIteration needsCentre lacksCentre notFinite badFactor tooLarge windowChecks kernelChecks capacityChecks valueChecks judged insert falling distances arranged trimmedRequest judgeRequest sorted plannedChain planOf written width centreOf turn limit turns ready fires next moves firstPlace placeIn presented stored layout countersOf withCounters outcomeOf words clocked look call events shortStore notPast badCounter badFifo badFilters badState judgeRun begun writtenBy widthOf ended runTrimmed eventsTrimmed
 table = refl

@@ -38,7 +38,7 @@ framed bs = digitsOf bs ++ (lineFeed ∷ [])
 
 -- How many bytes of a line are kept: no line that is accepted has as many.
 abbrev pub kept : ℕ
-kept = 24
+kept = 40
 
 -- The first bytes of a line, 0 past its end.
 unfoldable pub padded : List ℕ → List ℕ

@@ -1,7 +1,7 @@
 -- Judging a request or a chain as a value (document 01, "Turned back on account of the input", 3 to 9).
 use Prim.Native.Nat.{ℕ}
 use mathlib.Core.Bool.{Bool, true, false, not, _&&_, _||_}
-use mathlib.Core.List.{List, [], _∷_}
+use mathlib.Core.List.{List, [], _∷_, _++_}
 use lib.Dec.{eqb, ltb}
 use lib.IntN.{ℤ}
 use lib.Ieee.{Float, nan, inf, fin}
@@ -52,8 +52,12 @@ needsCentre kernel.Difference = true
 needsCentre (kernel.Scaled f) = false
 needsCentre (kernel.Blend g) = true
 
-unfoldable pub lacksCentre : Kernel → List (List ℤ) → Bool
-lacksCentre k offsets = needsCentre k && not (any isZero offsets)
+-- Whether a window has a centre.
+abbrev pub centred : List (List ℤ) → Bool
+centred offsets = any isZero offsets
+
+unfoldable pub lacksCentre : Kernel → (centred : Bool) → Bool
+lacksCentre k centred = needsCentre k && not centred
 
 -- 8: a factor that is infinite or not a number
 unfoldable pub notFinite : Float → Bool
@@ -71,17 +75,26 @@ badFactor (kernel.Blend g) = notFinite (g .a) || notFinite (g .b)
 unfoldable pub tooLarge : List ℕ → Bool
 tooLarge capacities = ltb mostPlaces (sum capacities)
 
--- The checks of a value in their order.
-unfoldable pub valueChecks : Trimmed → List Check
-valueChecks t =
+-- The checks of a value, in groups: 3 to 6, of a window on a grid,
+unfoldable pub windowChecks : Trimmed → List Check
+windowChecks t =
     check (badGrid (t .dims) (t .sizes)) refusal.BadGrid
     ∷ check (badCount (t .count)) refusal.BadCount
     ∷ check (repeats (t .offsets)) refusal.EqualOffsets
     ∷ check (noIteration (t .sizes) (t .offsets)) refusal.NoIteration
-    ∷ check (lacksCentre (t .kernel) (t .offsets)) refusal.NoCentre
-    ∷ check (badFactor (t .kernel)) refusal.BadFactor
-    ∷ check (tooLarge (t .capacities)) refusal.TooLarge
     ∷ []
+
+-- 7 and 8, of a kernel, where the window has a centre or has none,
+unfoldable pub kernelChecks : Kernel → (centred : Bool) → List Check
+kernelChecks k centred = check (lacksCentre k centred) refusal.NoCentre ∷ check (badFactor k) refusal.BadFactor ∷ []
+
+-- and 9, of capacities;
+unfoldable pub capacityChecks : List ℕ → List Check
+capacityChecks capacities = check (tooLarge capacities) refusal.TooLarge ∷ []
+
+-- all of them, in their order.
+unfoldable pub valueChecks : Trimmed → List Check
+valueChecks t = windowChecks t ++ (kernelChecks (t .kernel) (centred (t .offsets)) ++ capacityChecks (t .capacities))
 
 -- The first of 3 to 9 whose condition holds.
 unfoldable pub judged : Trimmed → Verdict

@@ -4,6 +4,7 @@ pub mod Geometry
 pub mod Sized
 pub mod Windows
 pub mod Values
+pub mod Iterations
 pub mod Answers
 pub mod Judging
 pub mod Planning
@@ -12,6 +13,9 @@ pub mod Clock
 pub mod Store
 pub mod Running
 pub mod CallLists
+pub mod Right
+pub mod Reports
+pub mod Words
 pub mod Lines
 pub mod Frames
 pub mod Numbers

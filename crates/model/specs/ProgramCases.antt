@@ -12,9 +12,10 @@ use Rattle.model.specs.Vectors.{same, above, plus, equal, before, isZero
 use Rattle.model.specs.Geometry.{cellCount, place, natural, position, firstEntry, otherEntries, leastFrom, least, lows, extent, extents, iterationCount}
 use Rattle.model.specs.Geometry.{indices, fromLows, iteration, reads, distance}
 use Rattle.model.specs.Values.{sizesOf, offsetOf, offsetsOf, capacitiesOf, trimmed, chainOf}
+use Rattle.model.specs.Iterations.{cellsOf, iterationsOf, readsOf, distanceOf}
 use Rattle.model.specs.Answers.{numberOf, verdictNumber, firstOf}
-use Rattle.model.specs.Judging.{badDims, badSizes, badGrid, badCount, repeats, noIteration, needsCentre, lacksCentre, notFinite, badFactor, tooLarge, valueChecks, judged, judgeChain}
-use Rattle.model.specs.Planning.{insert, falling, distances, trimmedRequest, judgeRequest, plannedChain}
+use Rattle.model.specs.Judging.{badDims, badSizes, badGrid, badCount, repeats, noIteration, needsCentre, lacksCentre, notFinite, badFactor, tooLarge, windowChecks, kernelChecks, capacityChecks, valueChecks, judged, judgeChain}
+use Rattle.model.specs.Planning.{insert, falling, distances, arranged, trimmedRequest, judgeRequest, sorted, plannedChain}
 use Rattle.model.specs.Kernels.{sumFrom, sumOf, centreOf, others, squared, difference, scaled, blend, written, width}
 use Rattle.model.specs.Clock.{fresh, ready, fires, turn, limit, turns, next, moves}
 use Rattle.model.specs.Store.{firstPlace, placeIn, presented, stored}
@@ -22,11 +23,11 @@ use Rattle.model.specs.Running.{layout, words, clocked, look, call, writ
 use Rattle.model.specs.Lines.{linesOf}
 use Rattle.model.specs.Frames.{isDigit, valueOf, digitOf, whole, bytesOf, digitsOf, framed, padded, seenOf}
 use Rattle.model.specs.Numbers.{halfAt, wordAt, halfBytes, wordBytes, signed, pattern}
-use Rattle.model.specs.Reading.{badKernel, badForm, malformed, misplaced, badLength, sizesIn, lineChecks, lineVerdict}
-use Rattle.model.specs.Reading.{withGrid, entriesIn, withOffset, withCapacity, kernelIn, withKernel, taken, stepOf, readLines, endVerdict}
+use Rattle.model.specs.Reading.{badKernel, badForm, malformed, nextInRequest, nextInChain, miscounted, among, misplaced, badLength, sizesIn, lineChecks, lineVerdict}
+use Rattle.model.specs.Reading.{withGrid, entriesIn, withOffset, withCapacity, kernelIn, withKernel, taken, stepOf, closes, complete, readLines, endVerdict}
 use Rattle.model.specs.Reading.{readRequest, cellVerdict}
 use Rattle.model.specs.Writing.{gridLine, offsetLine, capacityLine, kernelLine, chainLines, sheetOf}
-use Rattle.model.specs.Programs.{firingLine, endLine, refusalLine, firingsText, planText, sheetAndBehind, cellsOf, behindCells, wholeRun, runText}
+use Rattle.model.specs.Programs.{firingLine, endLine, refusalLine, firingsText, planText, sheetAndBehind, cellsIn, behindCells, wholeRun, runText}
 use Rattle.model.specs.SheetCases.{bytesIn, five, printed, sameBytes}
 
 -- What stands on standard input, and what is written.
@@ -98,16 +99,16 @@ runRight l = sameBytes (runText (bytesIn (l .input))) (bytesIn (l .output))
 pub table : (all planRight plans && all runRight runs) ≡ true
 unfolding bytesIn plans runs sameBytes planRight runRight flatMap ofBits toBits add sub mul
     tabulate sum product greatest all any same above plus equal before isZero
-    cellCount place natural position firstEntry otherEntries leastFrom least lows extent extents iterationCount indices fromLows iteration reads distance
+    cellCount place natural position firstEntry otherEntries leastFrom least lows extent extents iterationCount indices fromLows iteration reads distance cellsOf iterationsOf readsOf distanceOf
     sizesOf offsetOf offsetsOf capacitiesOf chainOf numberOf verdictNumber firstOf
-    badDims badSizes badGrid badCount repeats noIteration needsCentre lacksCentre notFinite badFactor tooLarge valueChecks judged judgeChain
-    insert falling distances trimmedRequest judgeRequest trimmed plannedChain
+    badDims badSizes badGrid badCount repeats noIteration needsCentre lacksCentre notFinite badFactor tooLarge windowChecks kernelChecks capacityChecks valueChecks judged judgeChain
+    insert falling distances arranged trimmedRequest judgeRequest sorted trimmed plannedChain
     sumFrom sumOf centreOf others squared difference scaled blend written width
     fresh ready fires turn limit turns next moves firstPlace placeIn presented stored
     layout words clocked look call writtenBy widthOf
     linesOf isDigit valueOf digitOf whole bytesOf digitsOf framed padded halfAt wordAt halfBytes wordBytes signed pattern
-    badKernel badForm malformed misplaced badLength sizesIn lineChecks lineVerdict
-    withGrid entriesIn withOffset withCapacity kernelIn withKernel taken stepOf readLines endVerdict readRequest cellVerdict
+    badKernel badForm malformed nextInRequest nextInChain miscounted among misplaced badLength sizesIn lineChecks lineVerdict
+    withGrid entriesIn withOffset withCapacity kernelIn withKernel taken stepOf closes complete readLines endVerdict readRequest cellVerdict
     gridLine offsetLine capacityLine kernelLine chainLines sheetOf
-    firingLine endLine refusalLine firingsText planText sheetAndBehind cellsOf behindCells wholeRun runText
+    firingLine endLine refusalLine firingsText planText sheetAndBehind cellsIn behindCells wholeRun runText
 table = refl

@@ -2,11 +2,10 @@
 use Prim.Native.Nat.{ℕ, zero, suc, _+_, _*_}
 use mathlib.Core.Bool.{Bool, true, false, cond}
 use mathlib.Core.List.{List, [], _∷_, _++_, flatMap}
-use lib.Dec.{eqb}
 use lib.ListN.{take, drop, replicate}
 use Rattle.model.specs.Lists.{sum}
 use Rattle.model.specs.Values.{Trimmed, trimmed}
-use Rattle.model.specs.Answers.{numberOf, byVerdict}
+use Rattle.model.specs.Answers.{numberOf, doneByte, stalledByte, starvedByte, byVerdict}
 use Rattle.model.specs.Judging.{judgeChain}
 use Rattle.model.specs.Planning.{plannedChain}
 use Rattle.model.specs.Clock.{fresh}
@@ -14,7 +13,7 @@ use Rattle.model.specs.Running.{Ending, Done, Spent, Starved, Stalled, F
 use Rattle.model.specs.Lines.{Line, linesOf}
 use Rattle.model.specs.Frames.{framed, seenOf}
 use Rattle.model.specs.Numbers.{wordBytes}
-use Rattle.model.specs.Reading.{stepOf, start, readRequest, endVerdict, cellVerdict, cellIn}
+use Rattle.model.specs.Reading.{stepOf, start, complete, readRequest, endVerdict, cellVerdict, cellIn}
 use Rattle.model.specs.Writing.{sheetOf}
 use Rattle.model.specs.declared.LineStep.{LineStep}
 use Rattle.model.specs.declared.Reading.{Reading}
@@ -26,7 +25,7 @@ use Rattle.model.specs.declared.Verdict.the-variants as verdict
 unfoldable pub firingLine : (index : ℕ) → List ℕ → List ℕ
 firingLine index words = 16 ∷ (wordBytes index ++ flatMap wordBytes words)
 
--- "then `11`, a byte (00 done, 01 stalled, 02 starved) and the clocks (4 bytes)"
+-- "then `11`, a byte (..) and the clocks (4 bytes)"
 unfoldable pub endLine : (way clocks : ℕ) → List ℕ
 endLine way clocks = 17 ∷ way ∷ wordBytes clocks
 
@@ -60,14 +59,14 @@ sheetAndBehind r (l ∷ ls) =
     let s = stepOf true r (seenOf (l .ended) (l .chars)) in
     let here : Split = record { step = s; behind = ls } in
     let further = sheetAndBehind (s .reading) ls in
-    byVerdict (s .verdict) (cond (eqb (s .reading .stage) 2) here further) (λ x. here)
+    byVerdict (s .verdict) (cond (complete (s .reading)) here further) (λ x. here)
 
 -- The cells of `05` lines, up to the first line that is turned back; and that line's verdict, or Accepted where the input ends.
-unfoldable pub cellsOf : List Line → List ℕ
-cellsOf [] = []
-cellsOf (l ∷ ls) =
+unfoldable pub cellsIn : List Line → List ℕ
+cellsIn [] = []
+cellsIn (l ∷ ls) =
     let seen = seenOf (l .ended) (l .chars) in
-    let further = cellsOf ls in
+    let further = cellsIn ls in
     byVerdict (cellVerdict seen) (cellIn seen ∷ further) (λ x. [])
 
 unfoldable pub behindCells : List Line → Verdict
@@ -79,9 +78,9 @@ behindCells (l ∷ ls) =
 -- How a run ends. "It reads a `05` line only when starved, and stops reading at done or stalled": so a line that is turned back answers only where the run
 -- took every cell before it.
 abbrev pub endText : Ending → (clocks : ℕ) → (behind : Verdict) → List ℕ
-endText Done clocks behind = framed (endLine 0 clocks)
-endText Stalled clocks behind = framed (endLine 1 clocks)
-endText Starved clocks behind = byVerdict behind (framed (endLine 2 clocks)) refusalText
+endText Done clocks behind = framed (endLine doneByte clocks)
+endText Stalled clocks behind = framed (endLine stalledByte clocks)
+endText Starved clocks behind = byVerdict behind (framed (endLine starvedByte clocks)) refusalText
 endText Spent clocks behind = []
 endText Full clocks behind = []
 
@@ -102,7 +101,33 @@ runText input =
     let p = sheetAndBehind start (linesOf input) in
     let chain = p .step .reading .chain in
     let t = trimmed chain in
-    let e = wholeRun t (cellsOf (p .behind)) in
+    let e = wholeRun t (cellsIn (p .behind)) in
     let done = e .standing .done in
     let text = firingsText (widthOf t) 0 (done .firings) (e .standing .output) ++ endText (e .ending) (done .clocks) (behindCells (p .behind)) in
     byVerdict (endVerdict (p .step) (judgeChain chain)) text refusalText
+
+-- No firing writes more words, and no `10` line has more characters.
+abbrev pub mostWords : ℕ
+mostWords = 32
+
+abbrev pub longestFiring : ℕ
+longestFiring = 267
+
+-- Places of the buffers of the programs: of each the block of input, of `plan` its text, of `run` the store, cells, output words and text.
+abbrev pub blockPlaces : ℕ
+blockPlaces = 65536
+
+abbrev pub planTextPlaces : ℕ
+planTextPlaces = 8192
+
+abbrev pub storePlaces : ℕ
+storePlaces = 16384
+
+abbrev pub cellPlaces : ℕ
+cellPlaces = 6144
+
+abbrev pub wordPlaces : ℕ
+wordPlaces = 8192
+
+abbrev pub runTextPlaces : ℕ
+runTextPlaces = 155648

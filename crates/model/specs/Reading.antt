@@ -9,6 +9,8 @@ use lib.Seq.{sets}
 use lib.Ieee.{ofBits, binary32}
 use Rattle.model.specs.declared.Kernel.{Kernel}
 use Rattle.model.specs.declared.Kernel.the-variants as kernel
+use Rattle.model.specs.declared.Last.{Last}
+use Rattle.model.specs.declared.Last.the-variants as stood
 use Rattle.model.specs.declared.Refusal.the-variants as refusal
 use Rattle.model.specs.declared.Verdict.{Verdict}
 use Rattle.model.specs.declared.Verdict.the-variants as verdict
@@ -16,7 +18,8 @@ use Rattle.model.specs.declared.Reading.{Reading}
 use Rattle.model.specs.declared.LineStep.{LineStep}
 use Rattle.model.specs.declared.ReadChain.{ReadChain}
 use Rattle.model.specs.declared.ReadRequest.{ReadRequest}
-use Rattle.model.specs.Values.{blankChain, requestOf}
+use Rattle.model.specs.Lists.{any}
+use Rattle.model.specs.Values.{blankChain, requestOf, setGrid, setWindow, setCapacities, setKernel}
 use Rattle.model.specs.Answers.{Check, check, firstOf, byVerdict}
 use Rattle.model.specs.Judging.{badDims, badSizes, judgeChain}
 use Rattle.model.specs.Planning.{judgeRequest}
@@ -53,17 +56,38 @@ badForm len kind second =
 unfoldable pub malformed : (sound : Bool) (len kind second : ℕ) → Bool
 malformed sound len kind second = cond sound (cond (eqb len 0) true (badForm len kind second)) true
 
--- 2: the line may not stand here, where `count` of the `02` lines and `given` of the `03` lines were read. "A request sheet is one `01`, one or more `02`, one
--- `04`. A chain sheet has n−1 `03` lines before the `04`".
-unfoldable pub misplaced : (chainSheet : Bool) (stage given count kind : ℕ) → Bool
-misplaced chainSheet stage given count kind =
-    cond (eqb kind 1) (not (eqb stage 0))
-    (cond (eqb stage 1)
-    (cond (eqb kind 2) (not (eqb given 0))
-    (cond (eqb kind 3) (cond chainSheet (leb count (given + 1)) true)
-    (cond (eqb kind 4) (cond chainSheet (not (eqb count (given + 1))) (eqb count 0))
-    true)))
-    true)
+-- What may come next, by what stood last: "A request sheet is one `01`, one or more `02`, one `04`."
+unfoldable pub nextInRequest : Last → List ℕ
+nextInRequest stood.Nothing = 1 ∷ []
+nextInRequest stood.Grid = 2 ∷ []
+nextInRequest stood.Offset = 2 ∷ 4 ∷ []
+nextInRequest stood.Capacity = []
+nextInRequest stood.Kernel = []
+
+-- "A chain sheet has n−1 `03` lines before the `04`": by what stood last,
+unfoldable pub nextInChain : Last → List ℕ
+nextInChain stood.Nothing = 1 ∷ []
+nextInChain stood.Grid = 2 ∷ []
+nextInChain stood.Offset = 2 ∷ 3 ∷ 4 ∷ []
+nextInChain stood.Capacity = 3 ∷ 4 ∷ []
+nextInChain stood.Kernel = []
+
+-- and by their number, where `count` of the `02` lines and `given` of the `03` lines were read.
+unfoldable pub miscounted : (given count kind : ℕ) → Bool
+miscounted given count kind =
+    cond (eqb kind 3) (leb count (given + 1))
+    (cond (eqb kind 4) (not (eqb count (given + 1)))
+    false)
+
+unfoldable pub among : ℕ → List ℕ → Bool
+among kind kinds = any (λ k. eqb kind k) kinds
+
+-- 2: the line may not stand here.
+unfoldable pub misplaced : (chainSheet : Bool) → Last → (given count kind : ℕ) → Bool
+misplaced chainSheet last given count kind =
+    cond chainSheet
+    (cond (among kind (nextInChain last)) (miscounted given count kind) true)
+    (not (among kind (nextInRequest last)))
 
 -- 1: a length other than the one that the dimension count sets, for an `02` line that of the `01` line read before.
 unfoldable pub badLength : (len kind second dims : ℕ) → Bool
@@ -84,7 +108,7 @@ lineChecks chainSheet r l =
     let second = secondOf l in
     let count = r .chain .window .count in
     check (malformed (l .sound) (l .len) kind second) refusal.Malformed
-    ∷ check (misplaced chainSheet (r .stage) (r .given) count kind) refusal.Misplaced
+    ∷ check (misplaced chainSheet (r .last) (r .given) count kind) refusal.Misplaced
     ∷ check (eqb kind 1 && badDims second) refusal.BadGrid
     ∷ check (badLength (l .len) kind second (r .chain .grid .dims)) refusal.Malformed
     ∷ check (eqb kind 1 && badSizes (take second (sizesIn (l .first)))) refusal.BadGrid
@@ -97,12 +121,7 @@ lineVerdict chainSheet r l = firstOf (lineChecks chainSheet r l)
 -- What a line with the bytes x adds. An `01` line: the grid.
 unfoldable pub withGrid : Reading → List ℕ → Reading
 withGrid r x =
-    let c = r .chain in
-    record {
-      stage = 1;
-      given = r .given;
-      chain = record { grid = record { dims = byteAt x 1; sizes = sizesIn x }; window = c .window; capacities = c .capacities; kernel = c .kernel };
-    }
+    record { last = stood.Grid; given = r .given; chain = setGrid (record { dims = byteAt x 1; sizes = sizesIn x }) (r .chain) }
 
 -- The entries on an `02` line, 0 past its end.
 unfoldable pub entriesIn : List ℕ → List ℤ
@@ -111,28 +130,18 @@ entriesIn x = signed (halfAt x 1) ∷ signed (halfAt x 3) ∷ signed (halfAt x 5
 -- An `02` line: the next reference's offset.
 unfoldable pub withOffset : Reading → List ℕ → Reading
 withOffset r x =
-    let c = r .chain in
-    let w = c .window in
+    let w = r .chain .window in
     record {
-      stage = r .stage;
+      last = stood.Offset;
       given = r .given;
-      chain = record {
-        grid = c .grid;
-        window = record { count = w .count + 1; offsets = sets (w .offsets) (4 * w .count) (entriesIn x) };
-        capacities = c .capacities;
-        kernel = c .kernel;
-      };
+      chain = setWindow (record { count = w .count + 1; offsets = sets (w .offsets) (4 * w .count) (entriesIn x) }) (r .chain);
     }
 
 -- An `03` line: the next FIFO's capacity.
 unfoldable pub withCapacity : Reading → List ℕ → Reading
 withCapacity r x =
     let c = r .chain in
-    record {
-      stage = r .stage;
-      given = r .given + 1;
-      chain = record { grid = c .grid; window = c .window; capacities = set (c .capacities) (r .given) (wordAt x 1); kernel = c .kernel };
-    }
+    record { last = stood.Capacity; given = r .given + 1; chain = setCapacities (set (c .capacities) (r .given) (wordAt x 1)) c }
 
 unfoldable pub kernelIn : List ℕ → Kernel
 kernelIn x =
@@ -145,8 +154,7 @@ kernelIn x =
 -- An `04` line: the kernel.
 unfoldable pub withKernel : Reading → List ℕ → Reading
 withKernel r x =
-    let c = r .chain in
-    record { stage = 2; given = r .given; chain = record { grid = c .grid; window = c .window; capacities = c .capacities; kernel = kernelIn x } }
+    record { last = stood.Kernel; given = r .given; chain = setKernel (kernelIn x) (r .chain) }
 
 -- Any line that is not turned back.
 unfoldable pub taken : Reading → List ℕ → Reading
@@ -162,7 +170,18 @@ stepOf chainSheet r l =
 
 -- Before the first line.
 abbrev pub start : Reading
-start = record { stage = 0; given = 0; chain = blankChain }
+start = record { last = stood.Nothing; given = 0; chain = blankChain }
+
+-- The sheet is at its end: its `04` line was read.
+unfoldable pub closes : Last → Bool
+closes stood.Nothing = false
+closes stood.Grid = false
+closes stood.Offset = false
+closes stood.Capacity = false
+closes stood.Kernel = true
+
+unfoldable pub complete : Reading → Bool
+complete r = closes (r .last)
 
 -- The lines from the top, up to the first that is turned back.
 unfoldable pub readLines : (chainSheet : Bool) → Reading → List Line → LineStep
@@ -175,7 +194,7 @@ readLines chainSheet r (l ∷ ls) =
 -- After the last line: 2 where one is "missing at the end"; then 5 to 9, by judging the value that was read, of which 3 and 4 hold no more.
 unfoldable pub endVerdict : LineStep → (judged : Verdict) → Verdict
 endVerdict s judged =
-    let atEnd = cond (eqb (s .reading .stage) 2) judged (verdict.Refused refusal.Misplaced) in
+    let atEnd = cond (complete (s .reading)) judged (verdict.Refused refusal.Misplaced) in
     byVerdict (s .verdict) atEnd verdict.Refused
 
 unfoldable pub readChain : List ℕ → ReadChain

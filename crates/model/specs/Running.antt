@@ -6,8 +6,8 @@ use lib.Dec.{eqb, ltb, leb}
 use lib.ListN.{length, getD, drop}
 use lib.Seq.{sets}
 use Rattle.model.specs.Lists.{tabulate, sum}
-use Rattle.model.specs.Geometry.{cellCount, iterationCount, reads}
 use Rattle.model.specs.Values.{Trimmed, trimmed}
+use Rattle.model.specs.Iterations.{cellsOf, iterationsOf, readsOf}
 use Rattle.model.specs.Answers.{check, firstOf, byVerdict}
 use Rattle.model.specs.Judging.{valueChecks}
 use Rattle.model.specs.Kernels.{written, width, centreOf}
@@ -27,10 +27,10 @@ use Rattle.model.specs.declared.Answer.the-variants as answer
 -- A chain as numbers. "A filter wants a cell if .. it is the cell its reference reads in the next iteration."
 unfoldable pub layout : Trimmed → Layout
 layout t =
-    let iterations = iterationCount (t .sizes) (t .offsets) in
-    let cells = cellCount (t .sizes) in
+    let iterations = iterationsOf t in
+    let cells = cellsOf t in
     record {
-      wants = λ j k. cond (ltb j iterations) (reads (t .sizes) (t .offsets) j k) cells;
+      wants = λ j k. cond (ltb j iterations) (readsOf t j k) cells;
       capacity = λ k. getD (t .capacities) k 0;
       filters = t .count;
       cells = cells;

@@ -15,14 +15,15 @@ use Rattle.model.specs.Vectors.{same, above, plus, equal, before, isZero
 use Rattle.model.specs.Geometry.{cellCount, place, natural, position, firstEntry, otherEntries, leastFrom, least, lows, extent, extents, iterationCount}
 use Rattle.model.specs.Geometry.{indices, fromLows, iteration, reads, distance}
 use Rattle.model.specs.Values.{sizesOf, offsetOf, offsetsOf, capacitiesOf, trimmed, blankChain}
+use Rattle.model.specs.Iterations.{distanceOf}
 use Rattle.model.specs.Answers.{numberOf, verdictNumber, firstOf, byVerdict}
-use Rattle.model.specs.Judging.{badDims, badSizes, badGrid, badCount, repeats, noIteration, needsCentre, lacksCentre, notFinite, badFactor, tooLarge, valueChecks, judged, judgeChain}
-use Rattle.model.specs.Planning.{insert, falling, distances, trimmedRequest, judgeRequest}
+use Rattle.model.specs.Judging.{badDims, badSizes, badGrid, badCount, repeats, noIteration, needsCentre, lacksCentre, notFinite, badFactor, tooLarge, windowChecks, kernelChecks, capacityChecks, valueChecks, judged, judgeChain}
+use Rattle.model.specs.Planning.{insert, falling, distances, arranged, trimmedRequest, judgeRequest}
 use Rattle.model.specs.Lines.{linesOf}
 use Rattle.model.specs.Frames.{isDigit, valueOf, digitOf, whole, bytesOf, digitsOf, framed, padded, seenOf}
 use Rattle.model.specs.Numbers.{halfAt, wordAt, halfBytes, wordBytes, signed, pattern}
-use Rattle.model.specs.Reading.{badKernel, badForm, malformed, misplaced, badLength, sizesIn, lineChecks, lineVerdict}
-use Rattle.model.specs.Reading.{withGrid, entriesIn, withOffset, withCapacity, kernelIn, withKernel, taken, stepOf, readLines, endVerdict}
+use Rattle.model.specs.Reading.{badKernel, badForm, malformed, nextInRequest, nextInChain, miscounted, among, misplaced, badLength, sizesIn, lineChecks, lineVerdict}
+use Rattle.model.specs.Reading.{withGrid, entriesIn, withOffset, withCapacity, kernelIn, withKernel, taken, stepOf, closes, complete, readLines, endVerdict}
 use Rattle.model.specs.Reading.{readChain, readRequest, cellVerdict}
 use Rattle.model.specs.Writing.{gridLine, offsetLine, capacityLine, kernelLine, chainLines, sheetOf, writeVerdict, writeOf}
 
@@ -204,12 +205,12 @@ blankRight =
 pub table : (all requestRight requests && (all chainRight chains && (all cellRight cells && blankRight))) ≡ true
 unfolding bytesIn times requests chains cells sameBytes requestRight writesBack chainRight cellRight blankRight flatMap ofBits toBits
     tabulate sum product greatest all any same above plus equal before isZero
-    cellCount place natural position firstEntry otherEntries leastFrom least lows extent extents iterationCount indices fromLows iteration reads distance
+    cellCount place natural position firstEntry otherEntries leastFrom least lows extent extents iterationCount indices fromLows iteration reads distance distanceOf
     sizesOf offsetOf offsetsOf capacitiesOf numberOf verdictNumber firstOf
-    badDims badSizes badGrid badCount repeats noIteration needsCentre lacksCentre notFinite badFactor tooLarge valueChecks judged judgeChain
-    insert falling distances trimmedRequest judgeRequest trimmed
+    badDims badSizes badGrid badCount repeats noIteration needsCentre lacksCentre notFinite badFactor tooLarge windowChecks kernelChecks capacityChecks valueChecks judged judgeChain
+    insert falling distances arranged trimmedRequest judgeRequest trimmed
     linesOf isDigit valueOf digitOf whole bytesOf digitsOf framed padded halfAt wordAt halfBytes wordBytes signed pattern
-    badKernel badForm malformed misplaced badLength sizesIn lineChecks lineVerdict
-    withGrid entriesIn withOffset withCapacity kernelIn withKernel taken stepOf readLines endVerdict readChain readRequest cellVerdict
+    badKernel badForm malformed nextInRequest nextInChain miscounted among misplaced badLength sizesIn lineChecks lineVerdict
+    withGrid entriesIn withOffset withCapacity kernelIn withKernel taken stepOf closes complete readLines endVerdict readChain readRequest cellVerdict
     gridLine offsetLine capacityLine kernelLine chainLines sheetOf writeVerdict writeOf
 table = refl

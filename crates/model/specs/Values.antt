@@ -3,7 +3,7 @@ use Prim.Native.Nat.{ℕ, _+_, _-_, _*_, _/_, _%_}
 use mathlib.Core.List.{List, []}
 use mathlib.Core.Path.{_≡_}
 use lib.IntN.{ℤ, pos}
-use lib.ListN.{length, getD, replicate}
+use lib.ListN.{getD, replicate}
 use Rattle.model.specs.Lists.{tabulate}
 use Rattle.model.specs.declared.Grid.{Grid}
 use Rattle.model.specs.declared.Window.{Window}
@@ -41,27 +41,31 @@ pub record Trimmed : Type 0 where
   pub capacities : List ℕ
   pub kernel : Kernel
 
-unfoldable pub trimmed : Chain → Trimmed
-trimmed c = record {
-  dims = c .grid .dims;
-  sizes = sizesOf (c .grid);
-  count = c .window .count;
-  offsets = offsetsOf (c .grid .dims) (c .window);
-  capacities = capacitiesOf c;
-  kernel = c .kernel;
+-- A grid, a window, capacities and a kernel: what of them plays a part.
+abbrev pub trimmedOf : Grid → Window → (capacities : List ℕ) → Kernel → Trimmed
+trimmedOf g w capacities k = record {
+  dims = g .dims;
+  sizes = sizesOf g;
+  count = w .count;
+  offsets = offsetsOf (g .dims) w;
+  capacities = capacities;
+  kernel = k;
 }
+
+unfoldable pub trimmed : Chain → Trimmed
+trimmed c = trimmedOf (c .grid) (c .window) (capacitiesOf c) (c .kernel)
 
 -- Two chains are the same.
 abbrev pub Same : Chain → Chain → Type 0
 Same c d = trimmed c ≡ trimmed d
 
--- The chain of these sizes, offsets, capacities and kernel, with 0 past its counts.
-unfoldable pub chainOf : List ℕ → List (List ℤ) → List ℕ → Kernel → Chain
-chainOf sizes offsets capacities kernel = record {
-  grid = record { dims = length sizes; sizes = tabulate 4 (λ d. getD sizes d 0) };
-  window = record { count = length offsets; offsets = tabulate 128 (λ i. getD (getD offsets (i / 4) []) (i % 4) (pos 0)) };
-  capacities = tabulate 31 (λ k. getD capacities k 0);
-  kernel = kernel;
+-- The chain of which this plays a part, with 0 past its counts: a chain's normal form.
+unfoldable pub chainOf : Trimmed → Chain
+chainOf t = record {
+  grid = record { dims = t .dims; sizes = tabulate 4 (λ d. getD (t .sizes) d 0) };
+  window = record { count = t .count; offsets = tabulate 128 (λ i. getD (getD (t .offsets) (i / 4) []) (i % 4) (pos 0)) };
+  capacities = tabulate 31 (λ k. getD (t .capacities) k 0);
+  kernel = t .kernel;
 }
 
 -- What a refusal hands back in place of a chain: all counts and entries 0, and raw.
@@ -76,3 +80,16 @@ blankChain = record {
 -- The request that a chain without its capacities is.
 abbrev pub requestOf : Chain → Request
 requestOf c = record { grid = c .grid; window = c .window; kernel = c .kernel }
+
+-- A chain with one field set.
+abbrev pub setGrid : Grid → Chain → Chain
+setGrid g c = record { grid = g; window = c .window; capacities = c .capacities; kernel = c .kernel }
+
+abbrev pub setWindow : Window → Chain → Chain
+setWindow w c = record { grid = c .grid; window = w; capacities = c .capacities; kernel = c .kernel }
+
+abbrev pub setCapacities : List ℕ → Chain → Chain
+setCapacities xs c = record { grid = c .grid; window = c .window; capacities = xs; kernel = c .kernel }
+
+abbrev pub setKernel : Kernel → Chain → Chain
+setKernel k c = record { grid = c .grid; window = c .window; capacities = c .capacities; kernel = k }

@@ -47,6 +47,10 @@ chainLines c =
 unfoldable pub sheetOf : Chain → List ℕ
 sheetOf c = flatMap framed (chainLines c)
 
+-- No chain sheet has more characters.
+abbrev pub longestSheet : ℕ
+longestSheet = 1007
+
 -- 3 to 9 of the chain as a value, then 12: "a sheet to be written is longer than the output lent; looked at last".
 unfoldable pub writeVerdict : Chain → (room : ℕ) → Verdict
 writeVerdict c room =

@@ -68,6 +68,13 @@ pub enum Outcome {
     Full(Counts),
 }
 
+// The byte of the `11` line, for the outcomes in which a run of the program ends.
+pub const DONE_BYTE: u8 = 0;
+
+pub const STALLED_BYTE: u8 = 1;
+
+pub const STARVED_BYTE: u8 = 2;
+
 // Why input is turned back, from number 1 to 12.
 pub enum Refusal {
     Malformed,
@@ -109,20 +116,31 @@ pub struct Ran {
 
 // The types of the sheet.
 
-// A line decoded as its characters arrive: the bytes that are kept (specs/Frames.antt), 0 past its end; how many it has, counted no further than those; whether
+// How many bytes of a line are kept: no line that is accepted has as many.
+pub const KEPT: usize = 40;
+
+// A line decoded as its characters arrive: the bytes that are kept, 0 past its end; how many it has, counted no further than those; whether
 // every character was a digit; and, where `half`, the digit `high` of a byte that is not whole yet.
 pub struct Frame {
-    pub first: [u8; 24],
+    pub first: [u8; KEPT],
     pub len: usize,
     pub sound: bool,
     pub half: bool,
     pub high: u8,
 }
 
-// Where the reading of a sheet stands. Stage 0 is before its `01` line, 1 after it, 2 after its `04` line; `given` counts its `03` lines; the chain holds
-// what was read.
+// Which of a sheet's lines stood last: none, or an `01`, `02`, `03` or `04` line.
+pub enum Last {
+    Nothing,
+    Grid,
+    Offset,
+    Capacity,
+    Kernel,
+}
+
+// Where the reading of a sheet stands: what stood last; how many `03` lines were read; and the chain that holds what was read.
 pub struct Reading {
-    pub stage: u8,
+    pub last: Last,
     pub given: u8,
     pub chain: Chain,
 }
@@ -166,3 +184,16 @@ pub struct CellLine {
     pub frame: Frame,
     pub begun: bool,
 }
+
+// Places of the buffers of the programs (specs/Programs.antt): of each the block of input, of `plan` its text, of `run` the store, cells, output words and text.
+pub const BLOCK_PLACES: usize = 65536;
+
+pub const PLAN_TEXT_PLACES: usize = 8192;
+
+pub const STORE_PLACES: usize = 16384;
+
+pub const CELL_PLACES: usize = 6144;
+
+pub const WORD_PLACES: usize = 8192;
+
+pub const RUN_TEXT_PLACES: usize = 155648;

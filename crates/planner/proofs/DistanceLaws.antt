@@ -12,17 +12,19 @@ use Rattle.model.specs.Vectors.{before}
 use Rattle.model.specs.Geometry.{iterationCount, reads, distance}
 use Rattle.model.specs.Sized.{Sized}
 use Rattle.model.specs.Values.{sizesOf, offsetOf, offsetsOf}
+use Rattle.model.specs.Iterations.{distanceOf}
 use Rattle.model.specs.Planning.{distances}
 use Rattle.model.specs.declared.Grid.{Grid}
 use Rattle.model.specs.declared.Window.{Window}
 use Rattle.model.proofs.ListLaws.{length-tabulate, getD-tabulate}
 use Rattle.model.proofs.Distances.{falls}
 use Rattle.geometry.specs.Parts.{numberAt, Filled}
-use Rattle.geometry.specs.Shapes.{shapeFor, shapeOf}
-use Rattle.geometry.specs.declared.Shape.{Shape}
+use Rattle.shape.specs.Shapes.{shapeFor, shapeOf, onGrid}
+use Rattle.shape.specs.declared.Shape.{Shape}
 use Rattle.geometry.proofs.FillLaws.{filled-all}
-use Rattle.geometry.proofs.ShapeLaws.{sized, few-references}
-use Rattle.geometry.proofs.Answers.{shape-is}
+use Rattle.geometry.proofs.GridLaws.{few-references}
+use Rattle.shape.proofs.ShapeLaws.{sized}
+use Rattle.shape.proofs.Answers.{shape-is}
 use Rattle.planner.specs.Order.{Arranged, capacityArray}
 
 -- Of two neighbours of which the first does not come before the second, the second reads no later position.
@@ -58,8 +60,8 @@ module _ (g : Grid) (w : Window) (r : Arranged g w) (s : Shape) (e : s ≡ shape
       )
 
   pub differences-are : (xs : List ℕ) → Filled 31 0 (λ k. numberAt (s .at) k - numberAt (s .at) (k + 1)) (w .count - 1) xs
-      → xs ≡ capacityArray (distances (sizesOf g) (offsetsOf (g .dims) w))
-  unfolding distances distance
+      → xs ≡ capacityArray (distances (onGrid g w))
+  unfolding distances distanceOf distance
   differences-are xs f = filled-all 31 0 (λ k. numberAt (s .at) k - numberAt (s .at) (k + 1)) capacity (w .count - 1) xs here past f
     where
       sizes : List ℕ
@@ -69,13 +71,13 @@ module _ (g : Grid) (w : Window) (r : Arranged g w) (s : Shape) (e : s ≡ shape
       offsets = offsetsOf (g .dims) w
 
       capacity : ℕ → ℕ
-      capacity k = getD (distances sizes offsets) k 0
+      capacity k = getD (distances (onGrid g w)) k 0
 
       here : (k : ℕ) → k < w .count - 1 → numberAt (s .at) k - numberAt (s .at) (k + 1) ≡ capacity k
       here k h =
           let l : k + 1 < w .count = omega arith in
           ap₂ _-_ (at-is k (omega arith)) (at-is (k + 1) l ∙ ap (reads sizes offsets 0) (add-one k))
-          ∙ sym (getD-tabulate (length offsets - 1) (distance sizes offsets) k 0 (rw count-is h))
+          ∙ sym (getD-tabulate (w .count - 1) (distance sizes offsets) k 0 h)
 
       past : (k : ℕ) → w .count - 1 ≤ k → capacity k ≡ 0
-      past k h = List·getD-eq-default (distances sizes offsets) 0 (rw (length-tabulate (length offsets - 1) (distance sizes offsets), count-is) h)
+      past k h = List·getD-eq-default (distances (onGrid g w)) 0 (rw length-tabulate h)

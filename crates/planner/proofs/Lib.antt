@@ -3,5 +3,4 @@ pub mod OrderLaws
 pub mod InsertLaws
 pub mod ArrangeLaws
 pub mod DistanceLaws
-pub mod JudgeLaws
 pub mod PlanLaws

@@ -9,9 +9,10 @@ use lib.ListN.{length, getD, List·getD-eq-default}
 use Rattle.model.specs.Lists.{tabulate}
 use Rattle.model.specs.Geometry.{distance}
 use Rattle.model.specs.Values.{sizesOf, offsetOf, offsetsOf, chainOf}
-use Rattle.model.specs.Answers.{byVerdict}
-use Rattle.model.specs.Judging.{tooLarge, valueChecks}
-use Rattle.model.specs.Planning.{falling, distances, trimmedRequest, judgeRequest, plannedChain, planOf}
+use Rattle.model.specs.Iterations.{distanceOf}
+use Rattle.model.specs.Answers.{firstOf, byVerdict}
+use Rattle.model.specs.Judging.{tooLarge, windowChecks, capacityChecks}
+use Rattle.model.specs.Planning.{falling, distances, arranged, trimmedRequest, judgeRequest, sorted, plannedChain, planOf}
 use Rattle.model.specs.declared.Grid.{Grid}
 use Rattle.model.specs.declared.Window.{Window}
 use Rattle.model.specs.declared.Kernel.{Kernel}
@@ -27,14 +28,14 @@ use Rattle.model.proofs.Distances.{same-count}
 use Rattle.geometry.specs.Parts.{numberAt, entryAt, Filled}
 use Rattle.geometry.proofs.PartLaws.{tabulate-same}
 use Rattle.geometry.proofs.FillLaws.{filled-all}
-use Rattle.geometry.proofs.GridLaws.{few-dimensions}
-use Rattle.geometry.proofs.ShapeLaws.{few-references}
-use Rattle.planner.specs.Checks.{uncapped, judgedWindow}
+use Rattle.geometry.proofs.GridLaws.{few-dimensions, few-references}
+use Rattle.shape.specs.Shapes.{onGrid}
+use Rattle.judging.specs.Checks.{judgedWindow}
 use Rattle.planner.specs.Order.{entryIn, arrangedOf, Arranged, capacityArray}
 use Rattle.planner.specs.Plans.{requestOf, refusedPlan}
 use Rattle.model.proofs.SortLaws.{length-falling, falling-each, falling-no-other}
 use Rattle.planner.proofs.FallingLaws.{none-before-next}
-use Rattle.planner.proofs.JudgeLaws.{judged-refused, judged-capacities, accepted-grid, accepted-count, accepted-iterations}
+use Rattle.judging.proofs.JudgeLaws.{judged-refused, judged-capacities, accepted-grid, accepted-count, accepted-iterations}
 
 -- A list is its entries.
 entries-of : {A : Type 0} (d : A) (xs : List A) → tabulate (length xs) (λ i. getD xs i d) ≡ xs
@@ -86,7 +87,7 @@ module _ (g : Grid) (w : Window) (k : Kernel) (e : judgedWindow g w k ≡ verdic
   planning = requestOf g w k
 
   abbrev planned-distances : List ℕ
-  planned-distances = distances (sizesOf g) (falling (offsetsOf (g .dims) w))
+  planned-distances = distances (arranged planning)
 
   pub is-arranged : Arranged g (arrangedOf (g .dims) w)
   unfolding arrangedOf
@@ -102,39 +103,36 @@ module _ (g : Grid) (w : Window) (k : Kernel) (e : judgedWindow g w k ≡ verdic
       os = offsetsOf (g .dims) w
 
   -- The capacities in an array, of which as many count as there are distances.
-  module _ (xs : List ℕ) (c : xs ≡ capacityArray (distances (sizesOf g) (offsetsOf (g .dims) (arrangedOf (g .dims) w)))) where
+  module _ (xs : List ℕ) (c : xs ≡ capacityArray (distances (onGrid g (arrangedOf (g .dims) w)))) where
     capacities-are : xs ≡ capacityArray planned-distances
-    capacities-are = c ∙ ap (λ (os : List (List ℤ)). capacityArray (distances (sizesOf g) os)) (arranged-offsets (g .dims) w few held)
+    unfolding distances distanceOf arranged arrangedOf
+    capacities-are = c ∙ ap (λ (os : List (List ℤ)). capacityArray (tabulate (w .count - 1) (λ i. distance (sizesOf g) os i))) (arranged-offsets (g .dims) w few held)
 
     counted : tabulate (w .count - 1) (numberAt xs) ≡ planned-distances
-    unfolding distances
+    unfolding distances arranged
     counted =
         tabulate-same (w .count - 1) (numberAt xs) (λ i. getD planned-distances i 0)
         (λ i h. ap (λ (ys : List ℕ). getD ys i 0) capacities-are ∙ getD-tabulate 31 (λ j. getD planned-distances j 0) i 0 (omega (arith, held)))
         ∙ ap (λ (n : ℕ). tabulate n (λ i. getD planned-distances i 0)) (sym count) ∙ entries-of 0 planned-distances
       where
         count : length planned-distances ≡ w .count - 1
-        count =
-            length-tabulate (length (falling (offsetsOf (g .dims) w)) - 1) (distance (sizesOf g) (falling (offsetsOf (g .dims) w)))
-            ∙ ap (λ (n : ℕ). n - 1) (count-of (g .dims) w few held)
+        count = length-tabulate (w .count - 1) _
 
     verdict-is : (b : Bool) → tooLarge (tabulate (w .count - 1) (numberAt xs)) ≡ b → cond b (verdict.Refused refusal.TooLarge) verdict.Accepted ≡ judgeRequest planning
-    unfolding judgeRequest trimmedRequest judgedWindow uncapped valueChecks
-    verdict-is b f = judged-capacities (trimmedRequest planning) b e (ap tooLarge (sym counted) ∙ f)
+    unfolding judgeRequest trimmedRequest judgedWindow windowChecks capacityChecks firstOf
+    verdict-is b f = ap (λ (t : Bool). cond t (verdict.Refused refusal.TooLarge) verdict.Accepted) (sym f ∙ ap tooLarge counted)
+        ∙ judged-capacities (trimmedRequest planning) e
 
     chain-is : (ys : List ℕ) → Filled 4 0 (numberAt (g .sizes)) (g .dims) ys
         → _≡_ {A = Chain} (record { grid = record { dims = g .dims; sizes = ys }; window = arrangedOf (g .dims) w; capacities = xs; kernel = k }) (plannedChain planning)
-    unfolding plannedChain trimmedRequest chainOf arrangedOf sizesOf
+    unfolding plannedChain sorted trimmedRequest chainOf arrangedOf sizesOf
     chain-is ys r = λ i. record {
-      grid = record { dims = dims i; sizes = sizes i };
-      window = record { count = sym (count-of (g .dims) w few held) i; offsets = tabulate 128 (entryIn (falling (offsetsOf (g .dims) w))) };
+      grid = record { dims = g .dims; sizes = sizes i };
+      window = arrangedOf (g .dims) w;
       capacities = capacities-are i;
       kernel = k;
     }
       where
-        dims : g .dims ≡ length (sizesOf g)
-        dims = sym (length-tabulate (g .dims) (numberAt (g .sizes)))
-
         sizes : ys ≡ tabulate 4 (λ d. getD (sizesOf g) d 0)
         sizes =
             filled-all 4 0 (numberAt (g .sizes)) (λ d. getD (sizesOf g) d 0) (g .dims) ys (λ d h. sym (getD-tabulate (g .dims) (numberAt (g .sizes)) d 0 h))
@@ -158,7 +156,7 @@ module _ (g : Grid) (w : Window) (k : Kernel) (e : judgedWindow g w k ≡ verdic
 
 -- A request that one of 3 to 8 turns back.
 pub refused-window : (r : Request) (x : Refusal) → judgedWindow (r .grid) (r .window) (r .kernel) ≡ verdict.Refused x → refusedPlan x ≡ planOf r
-unfolding planOf judgeRequest trimmedRequest judgedWindow uncapped valueChecks
+unfolding planOf judgeRequest trimmedRequest judgedWindow windowChecks
 refused-window r x e =
     ap (λ (v : Verdict). byVerdict v (record { verdict = verdict.Accepted; chain = plannedChain r }) (λ y. refusedPlan y)) (judged-refused (trimmedRequest r) x e)
 

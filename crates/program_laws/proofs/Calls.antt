@@ -9,15 +9,15 @@ use lib.ListN.{length, take}
 use Rattle.model.specs.Clock.{Layout, first, next}
 use Rattle.model.specs.Running.{layout, Standing, Run, call, clocked, shortStore, begun, writtenBy, widthOf}
 use Rattle.model.specs.CallLists.{Lending, Between, lentCells, callRun, firingsAmong}
-use Rattle.demands.specs.Demand2.{wordsFrom}
-use Rattle.demands.specs.Reports.{firingsOf}
-use Rattle.demands.proofs.Layouts.{lawful}
-use Rattle.demands.proofs.Looks.{along-call}
-use Rattle.demands.proofs.Traces.{traced-fired}
-use Rattle.demands.proofs.Held.{stored-length}
-use Rattle.demands.proofs.Between.{Setting, Reached, now, beginning, ending, clocks, ran, sound-start, sound-end, counted-call, lent-words, lent-length, width-right}
-use Rattle.demands.proofs.CallEnds.{call-firings, not-short, not-short-events}
-use Rattle.demands.proofs.Words.{call-written, call-kept}
+use Rattle.model.specs.Words.{wordsFrom}
+use Rattle.model.specs.Reports.{firingsOf}
+use Rattle.run_laws.proofs.Layouts.{lawful}
+use Rattle.run_laws.proofs.Looks.{along-call}
+use Rattle.run_laws.proofs.Traces.{traced-fired}
+use Rattle.run_laws.proofs.Held.{stored-length}
+use Rattle.run_laws.proofs.Between.{Setting, Reached, now, beginning, ending, clocks, ran, sound-start, sound-end, counted-call, lent-words, lent-length, width-right}
+use Rattle.run_laws.proofs.CallEnds.{call-firings, not-short, not-short-events}
+use Rattle.run_laws.proofs.Words.{call-written, call-kept}
 use Rattle.program_laws.proofs.Going.{Gone, call-gone, call-taken, call-fits}
 
 -- A call keeps the length of the store.

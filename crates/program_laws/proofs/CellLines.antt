@@ -15,11 +15,11 @@ use Rattle.model.specs.Lines.{Line, lineFeed, linesOf}
 use Rattle.model.specs.Frames.{Seen, emptyFrame, feeds, shown, seenOf}
 use Rattle.model.specs.Reading.{cellVerdict, cellIn}
 use Rattle.model.specs.Arriving.{newLine, CellsRead, none, oneMore, withCell, readCells}
-use Rattle.model.specs.Programs.{cellsOf, behindCells}
+use Rattle.model.specs.Programs.{cellsIn, behindCells}
 use Rattle.sheet_laws.proofs.Cases.{by-bool, by-eq}
 use Rattle.sheet_laws.proofs.FrameLaws.{seen-alike}
 use Rattle.sheet_laws.proofs.FixedMemory.{unsound-cell, fixed-memory-cell}
-use Rattle.round.proofs.AsItArrives.{infront, whole-line, last-line, one-more, some, some-more, feeds-more, lines-feed, lines-other}
+use Rattle.sheet_trips.proofs.AsItArrives.{infront, whole-line, last-line, one-more, some, some-more, feeds-more, lines-feed, lines-other}
 
 -- A line of which these characters have arrived.
 abbrev pub openLine : List ℕ → CellLine
@@ -27,7 +27,7 @@ openLine p = record { verdict = verdict.Accepted; frame = feeds emptyFrame p; be
 
 -- The cells that a line, open or turned back, and the rest of the input give; and the verdict behind them.
 pub data Gives (l : CellLine) (rest : List ℕ) (cells : List ℕ) (v : Verdict) : Type 0 where
-  is-open : (p : List ℕ) → l ≡ openLine p → cells ≡ cellsOf (infront p (linesOf rest)) → v ≡ behindCells (infront p (linesOf rest)) → Gives l rest cells v
+  is-open : (p : List ℕ) → l ≡ openLine p → cells ≡ cellsIn (infront p (linesOf rest)) → v ≡ behindCells (infront p (linesOf rest)) → Gives l rest cells v
   is-back : (x : Refusal) → l .verdict ≡ verdict.Refused x → cells ≡ [] → v ≡ verdict.Refused x → Gives l rest cells v
 
 -- A line with its LF, as it arrived.
@@ -50,16 +50,16 @@ same-cell p e =
 
 -- The first line, taken and turned back.
 module _ (l : Line) (ls : List Line) where
-  cells-take : cellVerdict (seenOf (l .ended) (l .chars)) ≡ verdict.Accepted → cellsOf (l ∷ ls) ≡ cellIn (seenOf (l .ended) (l .chars)) ∷ cellsOf ls
-  unfolding cellsOf
+  cells-take : cellVerdict (seenOf (l .ended) (l .chars)) ≡ verdict.Accepted → cellsIn (l ∷ ls) ≡ cellIn (seenOf (l .ended) (l .chars)) ∷ cellsIn ls
+  unfolding cellsIn
   cells-take e = rw e
 
   behind-take : cellVerdict (seenOf (l .ended) (l .chars)) ≡ verdict.Accepted → behindCells (l ∷ ls) ≡ behindCells ls
   unfolding behindCells
   behind-take e = rw e
 
-  cells-back : (x : Refusal) → cellVerdict (seenOf (l .ended) (l .chars)) ≡ verdict.Refused x → cellsOf (l ∷ ls) ≡ []
-  unfolding cellsOf
+  cells-back : (x : Refusal) → cellVerdict (seenOf (l .ended) (l .chars)) ≡ verdict.Refused x → cellsIn (l ∷ ls) ≡ []
+  unfolding cellsIn
   cells-back x e = rw e
 
   behind-back : (x : Refusal) → cellVerdict (seenOf (l .ended) (l .chars)) ≡ verdict.Refused x → behindCells (l ∷ ls) ≡ verdict.Refused x
@@ -111,7 +111,7 @@ module _ (p : List ℕ) (c : ℕ) (cs : List ℕ) where
 
 -- At the LF, given what holds from the next line on.
 at-feed : (room : ℕ) (p : List ℕ) (c : ℕ) (cs more cells : List ℕ) (v : Verdict) → c ≡ lineFeed
-    → cells ≡ cellsOf (infront p (linesOf (c ∷ cs ++ more))) → v ≡ behindCells (infront p (linesOf (c ∷ cs ++ more)))
+    → cells ≡ cellsIn (infront p (linesOf (c ∷ cs ++ more))) → v ≡ behindCells (infront p (linesOf (c ∷ cs ++ more)))
     → ((ds : List ℕ) → Gives newLine (cs ++ more) ds v → Left (readCells room newLine cs) cs more ds v)
     → Left (readCells (suc room) (openLine p) (c ∷ cs)) (c ∷ cs) more cells v
 unfolding feeds some infront
@@ -128,14 +128,14 @@ at-feed room p c cs more cells v e d w ih = go (cellVerdict (seenOf true p)) ref
         rw (read-ended room p c cs x e u)
         (one-looked _ c cs more cells v
         (nothing _ cs more cells v
-        (is-back x refl (d ∙ ap cellsOf front ∙ cells-back l (linesOf (cs ++ more)) x u) (w ∙ ap behindCells front ∙ behind-back l (linesOf (cs ++ more)) x u))))
+        (is-back x refl (d ∙ ap cellsIn front ∙ cells-back l (linesOf (cs ++ more)) x u) (w ∙ ap behindCells front ∙ behind-back l (linesOf (cs ++ more)) x u))))
     go verdict.Accepted u =
-        let t = ih (cellsOf (linesOf (cs ++ more)))
+        let t = ih (cellsIn (linesOf (cs ++ more)))
         (is-open [] refl refl (w ∙ ap behindCells front ∙ behind-take l (linesOf (cs ++ more)) u)) in
         rw (read-cell room p c cs e u)
         (record {
           later = t .later;
-          split = d ∙ ap cellsOf front ∙ cells-take l (linesOf (cs ++ more)) u ∙ ap (λ (ds : List ℕ). cellIn (seenOf true p) ∷ ds) (t .split);
+          split = d ∙ ap cellsIn front ∙ cells-take l (linesOf (cs ++ more)) u ∙ ap (λ (ds : List ℕ). cellIn (seenOf true p) ∷ ds) (t .split);
           gives = t .gives;
           within = omega (arith, t .within);
         })
@@ -161,7 +161,7 @@ cells-read (c ∷ cs) more (suc room) l cells v (is-open p q d w) =
     (λ n. rw (read-other room p c cs n)
     (one-looked _ c cs more cells v
     (cells-read cs more (suc room) (openLine (p ++ (c ∷ []))) cells v
-    (is-open (p ++ (c ∷ [])) refl (d ∙ ap cellsOf (front-other p c (cs ++ more) n)) (w ∙ ap behindCells (front-other p c (cs ++ more) n)))))))
+    (is-open (p ++ (c ∷ [])) refl (d ∙ ap cellsIn (front-other p c (cs ++ more) n)) (w ∙ ap behindCells (front-other p c (cs ++ more) n)))))))
 
 -- Where there is room, a line that is open and a character, a character is looked at.
 pub one-at-least : (cs : List ℕ) (room : ℕ) (l : CellLine) → l .verdict ≡ verdict.Accepted → 0 < room → 0 < length cs → 0 < readCells room l cs .looked
@@ -182,9 +182,9 @@ unended-back p = unsound-cell (seenOf false p) refl
 
 pub input-ends : (l : CellLine) (cells : List ℕ) (v : Verdict) → l .verdict ≡ verdict.Accepted → Gives l [] cells v
     → (cells ≡ []) × (v ≡ cond (l .begun) (verdict.Refused refusal.Malformed) verdict.Accepted)
-unfolding linesOf infront some cellsOf behindCells
+unfolding linesOf infront some cellsIn behindCells
 input-ends l cells v e (is-back x d _ _) = absurd (let z : _≡_ {A = ℕ} 0 1 = cc in omega arith)
 input-ends l cells v e (is-open [] q d w) = rw q (d, w)
 input-ends l cells v e (is-open (c ∷ p) q d w) =
     let ln : Line = record { chars = c ∷ p; ended = false } in
-    rw q (d ∙ ap cellsOf (last-line c p) ∙ cells-back ln [] refusal.Malformed (unended-back (c ∷ p)), w ∙ ap behindCells (last-line c p) ∙ behind-back ln [] refusal.Malformed (unended-back (c ∷ p)))
+    rw q (d ∙ ap cellsIn (last-line c p) ∙ cells-back ln [] refusal.Malformed (unended-back (c ∷ p)), w ∙ ap behindCells (last-line c p) ∙ behind-back ln [] refusal.Malformed (unended-back (c ∷ p)))

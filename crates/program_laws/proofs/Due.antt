@@ -4,7 +4,6 @@ use mathlib.Core.Bool.{true, false}
 use mathlib.Core.List.{List, [], _∷_, _++_, append-nil}
 use mathlib.Core.Path.{_≡_, refl, sym, _∙_, ap, subst}
 use native.Mathlib.Omega.{arith}
-use lib.Dec.{eqb}
 use lib.ListN.{length, take, drop, length-append}
 use lib.Seq.{take-append-seam}
 use borrow.Author.Tests.{lt-ltb}
@@ -17,21 +16,22 @@ use Rattle.model.specs.declared.Verdict.{Verdict}
 use Rattle.model.specs.declared.Verdict.the-variants as verdict
 use Rattle.model.specs.Answers.{byVerdict}
 use Rattle.model.specs.Values.{trimmed}
-use Rattle.model.specs.Judging.{judgeChain}
+use Rattle.model.specs.Judging.{mostPlaces, judgeChain}
 use Rattle.model.specs.Lines.{linesOf}
 use Rattle.model.specs.Frames.{framed, feeds}
 use Rattle.model.specs.Clock.{Counters, first}
 use Rattle.model.specs.Clock as clock
 use Rattle.model.specs.Running.{layout, countersOf, Starved, Ending, widthOf}
+use Rattle.model.specs.Reading.{complete}
 use Rattle.model.specs.Arriving.{newLine}
-use Rattle.model.specs.Programs.{endLine, refusalText, firingsText, endText, cellsOf, behindCells, wholeRun, runText}
-use Rattle.demands.proofs.Accepts.{accepted-chain}
-use Rattle.demands.proofs.Between.{fresh-reached}
-use Rattle.round.proofs.AsItArrives.{infront, some}
-use Rattle.stages.specs.declared.Job.{Job}
-use Rattle.stages.specs.declared.Stage.{Stage}
-use Rattle.stages.specs.declared.Stage.the-variants as stage
-use Rattle.stages.specs.Stages.{fresh, sheetStage, cellsStage}
+use Rattle.model.specs.Programs.{endLine, refusalText, firingsText, endText, cellsIn, behindCells, wholeRun, runText}
+use Rattle.run_laws.proofs.Accepts.{accepted-chain}
+use Rattle.run_laws.proofs.Between.{fresh-reached}
+use Rattle.sheet_trips.proofs.AsItArrives.{infront, some}
+use Rattle.program_stages.specs.declared.Job.{Job}
+use Rattle.program_stages.specs.declared.Stage.{Stage}
+use Rattle.program_stages.specs.declared.Stage.the-variants as stage
+use Rattle.program_stages.specs.Stages.{fresh, sheetStage, cellsStage}
 use Rattle.program_laws.proofs.Sheets.{textBehind, Midway, Read, further, back, whole, chain-back, chain-runs}
 use Rattle.program_laws.proofs.CellLines.{Gives, is-open, is-back}
 use Rattle.program_laws.proofs.Going.{Gone, still, goesOn, endingAt, starved-stops}
@@ -88,7 +88,7 @@ module _ (input : List ℕ) where
       ∙ sym (r .due)
 
 -- Before the first call.
-stands-fresh : (c : Chain) (ok : judgeChain c ≡ verdict.Accepted) (all store : List ℕ) → 16384 ≤ length store → Stands c ok all fresh store 0 [] [] all
+stands-fresh : (c : Chain) (ok : judgeChain c ≡ verdict.Accepted) (all store : List ℕ) → mostPlaces ≤ length store → Stands c ok all fresh store 0 [] [] all
 unfolding countersOf firingsText
 stands-fresh c ok all store long = record {
   es = [];
@@ -120,31 +120,31 @@ stands-regrouped e a = record {
 -- After a line of the sheet.
 stage-further : (input : List ℕ) (a : Arriving) (rest : List ℕ) → Midway input a rest → sheetStage a ≡ stage.Sheet
 unfolding sheetStage
-stage-further input a rest m = rw (m .arriving, m .stage)
+stage-further input a rest m = rw (m .arriving, m .unended)
 
 stage-back : (a : Arriving) (x : Refusal) → a .verdict ≡ verdict.Refused x → sheetStage a ≡ stage.Refusing x
 unfolding sheetStage
 stage-back a x e = rw e
 
-stage-whole : (a : Arriving) → a .verdict ≡ verdict.Accepted → eqb (a .reading .stage) 2 ≡ true
+stage-whole : (a : Arriving) → a .verdict ≡ verdict.Accepted → complete (a .reading) ≡ true
     → sheetStage a ≡ byVerdict (judgeChain (a .reading .chain)) stage.Cells stage.Refusing
 unfolding sheetStage
 stage-whole a e s = rw (e, s)
 
-module _ (input : List ℕ) (j : Job) (rest store cells written : List ℕ) (long : 16384 ≤ length store)
+module _ (input : List ℕ) (j : Job) (rest store cells written : List ℕ) (long : mostPlaces ≤ length store)
     (state : j .state ≡ fresh) (clocks : j .clocks ≡ 0) (line : j .line ≡ newLine) (nothing : written ≡ []) where
-  run-begins : (ok : judgeChain (chainOf j) ≡ verdict.Accepted) → eqb (j .arriving .reading .stage) 2 ≡ true
+  run-begins : (ok : judgeChain (chainOf j) ≡ verdict.Accepted) → complete (j .arriving .reading) ≡ true
       → runText input ≡ textBehind (record { step = record { verdict = verdict.Accepted; reading = j .arriving .reading }; behind = linesOf rest })
       → InCells input j rest store written
   unfolding feeds some infront layout countersOf
   run-begins ok s due = record {
     run = record {
       ok = ok;
-      all = cellsOf (linesOf rest);
+      all = cellsIn (linesOf rest);
       behind = behindCells (linesOf rest);
-      later = cellsOf (linesOf rest);
+      later = cellsIn (linesOf rest);
       gives = is-open [] line refl refl;
-      stands = rw (state, clocks, nothing) (stands-fresh (chainOf j) ok (cellsOf (linesOf rest)) store long);
+      stands = rw (state, clocks, nothing) (stands-fresh (chainOf j) ok (cellsIn (linesOf rest)) store long);
       due = due ∙ chain-runs (j .arriving .reading) (linesOf rest) s ok;
     };
     left = rw state (accepted-chain (chainOf j) ok .iterates);

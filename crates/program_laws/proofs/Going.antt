@@ -12,9 +12,9 @@ use borrow.Author.Tests.{lt-ltb, le-ltb, le-leb, lt-leb}
 use Rattle.model.specs.Clock.{Layout, Counters, first, fires, next, moves}
 use Rattle.model.specs.Running.{Standing, Ending, Done, Starved, Stalled, goes, Ended, words, clocked, call, events}
 use Rattle.flow.specs.Machine.{Lawful}
-use Rattle.demands.proofs.Looks.{Looked, is-going, along-call}
-use Rattle.demands.proofs.Held.{Steps, next-steps}
-use Rattle.demands.proofs.Calls.{Sound, clocked-sound}
+use Rattle.run_laws.proofs.Looks.{Looked, is-going, along-call}
+use Rattle.run_laws.proofs.Held.{Steps, next-steps}
+use Rattle.run_laws.proofs.Calls.{Sound, clocked-sound}
 
 module _ (L : Layout) (most : ℕ) where
   -- A firing and a cell are left, and something would move.

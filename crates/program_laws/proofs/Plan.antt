@@ -17,18 +17,19 @@ use Rattle.model.specs.declared.Verdict.the-variants as verdict
 use Rattle.model.specs.Answers.{byVerdict}
 use Rattle.model.specs.Values.{trimmed, blankChain, requestOf}
 use Rattle.model.specs.Lines.{linesOf}
-use Rattle.model.specs.Judging.{badDims, badSizes, badGrid, valueChecks, judgeChain}
+use Rattle.model.specs.Judging.{badDims, badSizes, badGrid, judgeChain}
 use Rattle.model.specs.Planning.{judgeRequest, plannedChain, planOf}
-use Rattle.model.specs.Reading.{start, readLines, endVerdict, readRequest}
-use Rattle.model.specs.Writing.{sheetOf}
+use Rattle.model.specs.Reading.{start, complete, readLines, endVerdict, readRequest}
+use Rattle.model.specs.Writing.{sheetOf, longestSheet}
 use Rattle.model.specs.Arriving.{opened, arrive, finished}
 use Rattle.model.specs.Programs.{refusalText, planText}
 use Rattle.model.proofs.Tests.{neither}
+use Rattle.model.proofs.CheckLaws.{value-passes}
 use Rattle.sheet_laws.proofs.SheetLength.{sheet-length}
-use Rattle.demands.proofs.Accepts.{accepted-chain, passes}
-use Rattle.demands.proofs.Plans.{plan-demand}
-use Rattle.round.proofs.AsItArrives.{as-it-arrives, in-pieces, stays}
-use Rattle.answer.specs.Answer.{planAnswer}
+use Rattle.run_laws.proofs.Accepts.{accepted-chain}
+use Rattle.run_laws.proofs.Plans.{plan-accepted}
+use Rattle.sheet_trips.proofs.AsItArrives.{as-it-arrives, in-pieces, stays}
+use Rattle.program_answer.specs.Answer.{planAnswer}
 use Rattle.program_laws.specs.Whole.{planTaken, PlanWrites}
 use Rattle.program_laws.proofs.Texts.{laid-fitting, refusal-length}
 
@@ -60,30 +61,30 @@ answered input =
     go (verdict.Refused x) = refl
 
 -- It fits.
-chain-fits : (c : Chain) → judgeChain c ≡ verdict.Accepted → length (sheetOf c) ≤ 1007
-unfolding judgeChain valueChecks badGrid badDims trimmed
+chain-fits : (c : Chain) → judgeChain c ≡ verdict.Accepted → length (sheetOf c) ≤ longestSheet
+unfolding judgeChain badGrid badDims trimmed
 chain-fits c e =
     let a = accepted-chain c e in
-    let grid = passes _ _ _ (a .checks) .0 in
+    let grid = value-passes (trimmed c) (a .checks) .window .grid in
     let dims = neither (badDims (c .grid .dims)) (badSizes (trimmed c .sizes)) grid .0 in
     sheet-length c (ltb-false 4 (c .grid .dims) (neither (eqb (c .grid .dims) 0) (ltb 4 (c .grid .dims)) dims .1)) (a .few)
 
-planned-fits : (r : Request) → judgeRequest r ≡ verdict.Accepted → length (sheetOf (plannedChain r)) ≤ 1007
+planned-fits : (r : Request) → judgeRequest r ≡ verdict.Accepted → length (sheetOf (plannedChain r)) ≤ longestSheet
 unfolding planOf
-planned-fits r e = chain-fits (plannedChain r) (rw e at (plan-demand r e .accepted))
+planned-fits r e = chain-fits (plannedChain r) (rw e at (plan-accepted r e))
 
-text-fits : (s : LineStep) (r : Request) → length (byVerdict (endVerdict s (judgeRequest r)) (sheetOf (plannedChain r)) refusalText) ≤ 1007
+text-fits : (s : LineStep) (r : Request) → length (byVerdict (endVerdict s (judgeRequest r)) (sheetOf (plannedChain r)) refusalText) ≤ longestSheet
 unfolding endVerdict
-text-fits s r = go (s .verdict) (eqb (s .reading .stage) 2) (judgeRequest r) refl
+text-fits s r = go (s .verdict) (complete (s .reading)) (judgeRequest r) refl
   where
     go : (v : Verdict) (b : Bool) (w : Verdict) → judgeRequest r ≡ w
-        → length (byVerdict (byVerdict v (cond b w (verdict.Refused refusal.Misplaced)) verdict.Refused) (sheetOf (plannedChain r)) refusalText) ≤ 1007
+        → length (byVerdict (byVerdict v (cond b w (verdict.Refused refusal.Misplaced)) verdict.Refused) (sheetOf (plannedChain r)) refusalText) ≤ longestSheet
     go (verdict.Refused x) b w e = omega (arith, refusal-length x)
     go verdict.Accepted false w e = omega (arith, refusal-length refusal.Misplaced)
     go verdict.Accepted true (verdict.Refused x) e = omega (arith, refusal-length x)
     go verdict.Accepted true verdict.Accepted e = planned-fits r e
 
-answer-fits : (a : Arriving) → length (planAnswer a) ≤ 1007
+answer-fits : (a : Arriving) → length (planAnswer a) ≤ longestSheet
 unfolding planAnswer
 answer-fits a = text-fits (finished a) (requestOf (finished a .reading .chain))
 

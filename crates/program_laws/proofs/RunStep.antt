@@ -11,19 +11,20 @@ use Rattle.model.specs.declared.Answer.the-variants as answer
 use Rattle.model.specs.declared.Counts.{Counts}
 use Rattle.model.specs.declared.Kernel.{Kernel}
 use Rattle.model.specs.declared.Kernel.the-variants as kernel
-use Rattle.model.specs.Answers.{answerCounts}
+use Rattle.model.specs.Answers.{doneByte, stalledByte, answerCounts}
 use Rattle.model.specs.Values.{Trimmed, trimmed}
 use Rattle.model.specs.Kernels.{width}
 use Rattle.model.specs.Running.{countersOf, Ending, Done, Spent, Starved, Stalled, Full, outcomeOf, Run, widthOf, runOf}
 use Rattle.model.specs.Programs.{firingsText, endText}
-use Rattle.demands.proofs.Accepts.{Accepted, accepted-chain}
-use Rattle.demands.proofs.CallEnds.{outcome-counts}
-use Rattle.report.specs.Texts.{roomFor, firingsLaid}
-use Rattle.stages.specs.declared.Job.{Job}
-use Rattle.stages.specs.declared.Stage.{Stage}
-use Rattle.stages.specs.declared.Stage.the-variants as stage
-use Rattle.stages.specs.Stages.{outcomeStage, answerStage}
-use Rattle.driver.specs.Steps.{Left, left, ranOn}
+use Rattle.run_laws.specs.Accepted.{Accepted}
+use Rattle.run_laws.proofs.Accepts.{accepted-chain}
+use Rattle.run_laws.proofs.CallEnds.{outcome-counts}
+use Rattle.program_lines.specs.Texts.{roomFor, firingsLaid}
+use Rattle.program_stages.specs.declared.Job.{Job}
+use Rattle.program_stages.specs.declared.Stage.{Stage}
+use Rattle.program_stages.specs.declared.Stage.the-variants as stage
+use Rattle.program_stages.specs.Stages.{outcomeStage, answerStage}
+use Rattle.program_driver.specs.Steps.{Left, left, ranOn}
 use Rattle.program_laws.specs.Whole.{Loop}
 use Rattle.program_laws.proofs.Texts.{words-only, firings-laid, room-enough}
 use Rattle.program_laws.proofs.Runs.{Stands, Stopped, at-done, at-stalled, at-starved, at-spent, at-full, Went, went, clocks-few, fired-few}
@@ -32,10 +33,10 @@ use Rattle.program_laws.proofs.Steps.{restOf, Holds, rank, Advances, du
 
 -- What a call's answer says, by its ending.
 stageOf : Ending → Stage
-stageOf Done = stage.Ending 0
+stageOf Done = stage.Ending doneByte
 stageOf Spent = stage.Clocks
 stageOf Starved = stage.Cells
-stageOf Stalled = stage.Ending 1
+stageOf Stalled = stage.Ending stalledByte
 stageOf Full = stage.Clocks
 
 stage-of : (e : Ending) (c : Counts) → answerStage (answer.Ended (outcomeOf e c)) ≡ stageOf e
@@ -156,9 +157,9 @@ module _ (input : List ℕ) (l : Loop) (h : Holds input l) (i : InClocks input (
       → DueAfter e
   unfolding stageOf runs-on
   due-after Done (at-done stop x) =
-      ap (λ (e : Ending). written ++ endText e (j .clocks + w .counts .clocks) (i .run .behind)) (sym x) ∙ run-stops input _ (restOf l) (r .store) written _ (runs-on (stage.Ending 0)) stop
+      ap (λ (e : Ending). written ++ endText e (j .clocks + w .counts .clocks) (i .run .behind)) (sym x) ∙ run-stops input _ (restOf l) (r .store) written _ (runs-on (stage.Ending doneByte)) stop
   due-after Stalled (at-stalled stop x) =
-      ap (λ (e : Ending). written ++ endText e (j .clocks + w .counts .clocks) (i .run .behind)) (sym x) ∙ run-stops input _ (restOf l) (r .store) written _ (runs-on (stage.Ending 1)) stop
+      ap (λ (e : Ending). written ++ endText e (j .clocks + w .counts .clocks) (i .run .behind)) (sym x) ∙ run-stops input _ (restOf l) (r .store) written _ (runs-on (stage.Ending stalledByte)) stop
   due-after Starved (at-starved more none) = record { run = rw (← none) (runs-on stage.Cells); left = more }
   due-after Spent (at-spent made) = on-clocks
   due-after Full (at-full made) = on-clocks

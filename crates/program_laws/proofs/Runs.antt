@@ -5,14 +5,11 @@ use mathlib.Core.List.{List, [], _∷_, _++_, append-nil, append-assoc}
 use mathlib.Core.Path.{_≡_, refl, sym, _∙_, ap, ap₂, subst}
 use native.Mathlib.Nat.{zero-add, zero-mul, suc-mul, mul-le-mul}
 use native.Mathlib.Omega.{arith}
-use lib.Dec.{eqb, ltb}
 use lib.ListN.{length, getD, take, drop, length-append, take-append-drop, drop-of-length-le}
 use lib.Seq.{take-length, drop-length, length-take-le}
-use borrow.Author.Tests.{ltb-false, le-ltb}
-use Rattle.model.specs.Lists.{any}
-use Rattle.model.specs.Geometry.{cellCount}
+use borrow.Author.Tests.{le-ltb}
 use Rattle.model.specs.Values.{Trimmed, trimmed}
-use Rattle.model.specs.Judging.{badDims, badSizes, badGrid, valueChecks, judgeChain}
+use Rattle.model.specs.Judging.{mostPlaces, judgeChain}
 use Rattle.model.specs.Clock.{Counters, first}
 use Rattle.model.specs.Clock as clock
 use Rattle.model.specs.Running.{layout, countersOf, withCounters, Ending, Done, Spent, Starved, Stalled, Full, Ended, ends, outcomeOf, Run, shortStore, writtenBy, widthOf, runTrimmed, runOf}
@@ -24,33 +21,27 @@ use Rattle.model.specs.declared.State.{State}
 use Rattle.model.specs.declared.Answer.the-variants as answer
 use Rattle.model.specs.declared.Verdict.the-variants as verdict
 use Rattle.model.proofs.ListLaws.{length-tabulate}
-use Rattle.model.proofs.Tests.{neither}
-use Rattle.flow.specs.Laws.{few-clocks}
-use Rattle.demands.specs.Demand2.{wordsOf, wordsFrom}
-use Rattle.demands.proofs.Accepts.{Accepted, trimmed-proper, accepted-chain, passes}
-use Rattle.demands.proofs.Layouts.{lawful}
-use Rattle.demands.proofs.Looks.{Looked, is-done, is-spent, is-starved, is-stalled, is-full}
-use Rattle.demands.proofs.Traces.{traced-ran}
-use Rattle.demands.proofs.Between.{Setting, Reached, ending, ran, lent-length, width-right, now-after, after-reached}
-use Rattle.demands.proofs.Between as between
-use Rattle.demands.proofs.CallEnds.{why, not-short, not-short-events}
-use Rattle.demands.proofs.Finishing.{reached-fired}
-use Rattle.demands.proofs.Words.{words-append}
+use Rattle.flow.proofs.Laws.{few-clocks}
+use Rattle.model.specs.Words.{wordsOf, wordsFrom}
+use Rattle.run_laws.specs.Accepted.{Accepted}
+use Rattle.run_laws.proofs.Accepts.{trimmed-proper, accepted-chain}
+use Rattle.run_laws.proofs.Layouts.{lawful}
+use Rattle.run_laws.proofs.Looks.{Looked, is-done, is-spent, is-starved, is-stalled, is-full}
+use Rattle.run_laws.proofs.Traces.{traced-ran}
+use Rattle.run_laws.proofs.Between.{Setting, Reached, ending, ran, lent-length, width-right, now-after, after-reached}
+use Rattle.run_laws.proofs.Between as between
+use Rattle.run_laws.proofs.CallEnds.{why, not-short, not-short-events}
+use Rattle.run_laws.proofs.Between.{reached-fired}
+use Rattle.model.proofs.WordLaws.{words-append}
 use Rattle.program_laws.proofs.Going.{Gone, goesOn, endingAt, gone-join, done-stops, stalled-stops}
 use Rattle.program_laws.proofs.Texts.{words-only, text-joined}
 use Rattle.program_laws.proofs.Calls.{end-clocks, end-firings, end-gone, end-taken, end-within, end-fired, end-words, end-length, end-fits, end-store}
 use Rattle.program_laws.proofs.WholeRun.{settingOf, lent-hand}
 
--- An accepted grid has at most 1048576 cells.
-few-cells : (t : Trimmed) → Accepted t → layout t .cells ≤ 1048576
-unfolding layout valueChecks badGrid badSizes
-few-cells t a =
-    let grid = passes _ _ _ (a .checks) .0 in
-    let sizes = neither (badDims (t .dims)) (badSizes (t .sizes)) grid .1 in
-    ltb-false 1048576 (cellCount (t .sizes)) (neither (any (λ s. eqb s 0) (t .sizes)) (ltb 1048576 (cellCount (t .sizes))) sizes .1)
-
+-- How many clocks an accepted chain can make.
 pub most-clocks : (t : Trimmed) → Accepted t → t .count * layout t .cells ≤ 33554432
-most-clocks t a = mul-le-mul (a .few) (few-cells t a)
+unfolding layout
+most-clocks t a = mul-le-mul (a .few) (a .cells)
 
 -- As many words as firings.
 module _ (S : Setting) where
@@ -74,7 +65,7 @@ module _ (S : Setting) where
       (sym (words-only (widthOf t) n m out)
       ∙ ap₂ (λ (i : ℕ) (ws : List ℕ). firingsText (widthOf t) i m ws) (sym (zero-add n)) (e ∙ ap (λ (j : ℕ). wordsFrom t stream j m) (sym (zero-add n))))
       ∙ text-joined (widthOf t) 0 n m (wordsFrom t stream 0 n) (wordsFrom t stream (0 + n) m) (length-words 0 n)
-      ∙ ap (λ (ws : List ℕ). firingsText (widthOf t) 0 (n + m) ws) (words-append S 0 n m)
+      ∙ ap (λ (ws : List ℕ). firingsText (widthOf t) 0 (n + m) ws) (words-append t stream 0 n m)
 
 fired-most : (es : List Bool) → firingsAmong es ≤ length es
 unfolding firingsAmong
@@ -102,7 +93,7 @@ module _ (c : Chain) (ok : judgeChain c ≡ verdict.Accepted) (all : List ℕ) w
     pub gone : Gone (layout (trimmed c)) (length all) (clock.fresh (layout (trimmed c))) clocks (counters state)
     pub count : clocks ≡ length es
     pub text : written ≡ firingsText (widthOf (trimmed c)) 0 (counters state .fired) (wordsFrom (trimmed c) (λ i. getD all i 0) 0 (counters state .fired))
-    pub long : 16384 ≤ length store
+    pub long : mostPlaces ≤ length store
     pub taken : List ℕ
     pub split : all ≡ taken ++ (hand ++ later)
     pub position : length taken ≡ first (counters state .passed)
@@ -160,7 +151,7 @@ module _ (c : Chain) (ok : judgeChain c ≡ verdict.Accepted) (all : List ℕ) w
     unfolding shortStore
     long-store = rw (take-length store) (le-ltb _ _ (enough (accepted-chain c ok .places) (a .long)))
       where
-        enough : {m n : ℕ} → m ≤ 16384 → 16384 ≤ n → m ≤ n
+        enough : {m n : ℕ} → m ≤ mostPlaces → mostPlaces ≤ n → m ≤ n
         enough p q = omega arith
 
     lent : lentCells t (λ i. getD all i 0) l b ≡ hand

@@ -19,20 +19,20 @@ use Rattle.model.specs.Values.{trimmed}
 use Rattle.model.specs.Judging.{judgeChain}
 use Rattle.model.specs.Lines.{Line, lineFeed, linesOf}
 use Rattle.model.specs.Frames.{emptyFrame, feeds, seenOf}
-use Rattle.model.specs.Reading.{stepOf, start, endVerdict}
+use Rattle.model.specs.Reading.{stepOf, start, closes, complete, endVerdict}
 use Rattle.model.specs.Running.{widthOf}
 use Rattle.model.specs.Arriving.{opened, closed, arrive, throughFeed}
-use Rattle.model.specs.Programs.{Split, sheetAndBehind, cellsOf, behindCells, wholeRun, firingsText, endText, refusalText, runText}
+use Rattle.model.specs.Programs.{Split, sheetAndBehind, cellsIn, behindCells, wholeRun, firingsText, endText, refusalText, runText}
 use Rattle.sheet_laws.proofs.Cases.{by-bool, by-eq}
-use Rattle.sheet_laws.proofs.FixedMemory.{fixed-memory, no-line-feed, keeps-dims}
-use Rattle.round.proofs.AsItArrives.{infront, whole-line, last-line, one-more, some, midway, arrives-feed, arrives-other, lines-feed, lines-other}
+use Rattle.sheet_laws.proofs.FixedMemory.{Bounded, start-bounded, fixed-memory, no-line-feed, keeps-bounded}
+use Rattle.sheet_trips.proofs.AsItArrives.{infront, whole-line, last-line, one-more, some, midway, arrives-feed, arrives-other, lines-feed, lines-other}
 
 -- What is written, given the sheet's last step and the lines behind it.
 unfoldable pub textBehind : Split → List ℕ
 textBehind p =
     let chain = p .step .reading .chain in
     let t = trimmed chain in
-    let e = wholeRun t (cellsOf (p .behind)) in
+    let e = wholeRun t (cellsIn (p .behind)) in
     let done = e .standing .done in
     let text = firingsText (widthOf t) 0 (done .firings) (e .standing .output) ++ endText (e .ending) (done .clocks) (behindCells (p .behind)) in
     byVerdict (endVerdict (p .step) (judgeChain chain)) text refusalText
@@ -50,11 +50,11 @@ module _ (r : Reading) (l : Line) (ls : List Line) where
   unfolding sheetAndBehind
   line-back x e = rw e
 
-  line-last : stepAt .verdict ≡ verdict.Accepted → eqb (stepAt .reading .stage) 2 ≡ true → sheetAndBehind r (l ∷ ls) ≡ record { step = stepAt; behind = ls }
+  line-last : stepAt .verdict ≡ verdict.Accepted → complete (stepAt .reading) ≡ true → sheetAndBehind r (l ∷ ls) ≡ record { step = stepAt; behind = ls }
   unfolding sheetAndBehind
   line-last e s = rw (e, s)
 
-  line-more : stepAt .verdict ≡ verdict.Accepted → eqb (stepAt .reading .stage) 2 ≡ false → sheetAndBehind r (l ∷ ls) ≡ sheetAndBehind (stepAt .reading) ls
+  line-more : stepAt .verdict ≡ verdict.Accepted → complete (stepAt .reading) ≡ false → sheetAndBehind r (l ∷ ls) ≡ sheetAndBehind (stepAt .reading) ls
   unfolding sheetAndBehind
   line-more e s = rw (e, s)
 
@@ -67,23 +67,23 @@ pub record Midway (input : List ℕ) (a : Arriving) (rest : List ℕ) : Type 0 w
   pub reading : Reading
   pub chars : List ℕ
   pub arriving : a ≡ midway reading chars
-  pub dims : reading .chain .grid .dims ≤ 4
-  pub stage : eqb (reading .stage) 2 ≡ false
+  pub bounded : Bounded reading
+  pub unended : complete reading ≡ false
   pub due : runText input ≡ textBehind (sheetAndBehind reading (infront chars (linesOf rest)))
 
 -- After a line or a part of one: still there, turned back, or behind the `04`.
 pub data Read (input : List ℕ) (a : Arriving) (rest : List ℕ) : Type 0 where
   further : Midway input a rest → Read input a rest
   back : (x : Refusal) → a .verdict ≡ verdict.Refused x → runText input ≡ refusalText x → Read input a rest
-  whole : a .verdict ≡ verdict.Accepted → eqb (a .reading .stage) 2 ≡ true
+  whole : a .verdict ≡ verdict.Accepted → complete (a .reading) ≡ true
       → runText input ≡ textBehind (record { step = record { verdict = verdict.Accepted; reading = a .reading }; behind = linesOf rest }) → Read input a rest
 
 pub opened-midway : (input : List ℕ) → Midway input opened input
-unfolding feeds some infront
-opened-midway input = record { reading = start; chars = []; arriving = refl; dims = omega arith; stage = refl; due = run-text input }
+unfolding feeds some infront complete closes
+opened-midway input = record { reading = start; chars = []; arriving = refl; bounded = start-bounded; unended = refl; due = run-text input }
 
 -- At the LF.
-at-feed : (input : List ℕ) (r : Reading) (p rest : List ℕ) → r .chain .grid .dims ≤ 4
+at-feed : (input : List ℕ) (r : Reading) (p rest : List ℕ) → Bounded r
     → runText input ≡ textBehind (sheetAndBehind r (record { chars = p; ended = true } ∷ linesOf rest)) → Read input (closed (stepOf true r (seenOf true p))) rest
 unfolding feeds some infront
 at-feed input r p rest few due = go (stepOf true r (seenOf true p) .verdict) refl
@@ -97,15 +97,15 @@ at-feed input r p rest few due = go (stepOf true r (seenOf true p) .verdict) ref
     go : (v : Verdict) → s .verdict ≡ v → Read input (closed s) rest
     go (verdict.Refused x) e = back x e (due ∙ ap textBehind (line-back r l (linesOf rest) x e) ∙ text-refused _ x e)
     go verdict.Accepted e =
-        by-bool (eqb (s .reading .stage) 2)
+        by-bool (complete (s .reading))
         (λ t. whole e t (due ∙ ap textBehind (line-last r l (linesOf rest) e t)
         ∙ ap (λ v. textBehind (record { step = record { verdict = v; reading = s .reading }; behind = linesOf rest })) e))
         (λ t. further (record {
           reading = s .reading;
           chars = [];
           arriving = ap (λ v. let a : Arriving = record { verdict = v; reading = s .reading; frame = emptyFrame; begun = false } in a) e;
-          dims = keeps-dims true r (seenOf true p) few;
-          stage = t;
+          bounded = keeps-bounded true r (seenOf true p) few;
+          unended = t;
           due = due ∙ ap textBehind (line-more r l (linesOf rest) e t);
         }))
 
@@ -121,11 +121,11 @@ arrive-other : (r : Reading) (p : List ℕ) (c : ℕ) (cs : List ℕ) → (c ≡
 unfolding arrive
 arrive-other r p c cs n = ap (λ a. arrive true a cs) (arrives-other true r p c n)
 
-line-from : (input cs more : List ℕ) (r : Reading) (p : List ℕ) → r .chain .grid .dims ≤ 4 → eqb (r .stage) 2 ≡ false
+line-from : (input cs more : List ℕ) (r : Reading) (p : List ℕ) → Bounded r → complete r ≡ false
     → runText input ≡ textBehind (sheetAndBehind r (infront p (linesOf (cs ++ more))))
     → Read input (arrive true (midway r p) (throughFeed cs)) (drop (length (throughFeed cs)) cs ++ more)
 unfolding arrive throughFeed
-line-from input [] more r p few st due = further (record { reading = r; chars = p; arriving = refl; dims = few; stage = st; due = due })
+line-from input [] more r p few st due = further (record { reading = r; chars = p; arriving = refl; bounded = few; unended = st; due = due })
 line-from input (c ∷ cs) more r p few st due =
     by-eq c lineFeed
     (λ e. rw (through-feed c cs e, arrives-feed true r p c e, fixed-memory true r p few)
@@ -140,7 +140,7 @@ line-from input (c ∷ cs) more r p few st due =
 
 pub line-read : (input cs more : List ℕ) (a : Arriving) → Midway input a (cs ++ more)
     → Read input (arrive true a (throughFeed cs)) (drop (length (throughFeed cs)) cs ++ more)
-line-read input cs more a m = rw (m .arriving) (line-from input cs more (m .reading) (m .chars) (m .dims) (m .stage) (m .due))
+line-read input cs more a m = rw (m .arriving) (line-from input cs more (m .reading) (m .chars) (m .bounded) (m .unended) (m .due))
 
 -- At the end of the input, in the middle of a line or between two.
 cut-line : (r : Reading) (c : ℕ) (p : List ℕ) → textBehind (sheetAndBehind r (infront (c ∷ p) (linesOf []))) ≡ refusalText refusal.Malformed
@@ -150,7 +150,7 @@ cut-line r c p =
     let e = ap (λ s. s .verdict) (no-line-feed true r (c ∷ p)) in
     ap (λ ls. textBehind (sheetAndBehind r ls)) (last-line c p) ∙ ap textBehind (line-back r l [] refusal.Malformed e) ∙ text-refused _ refusal.Malformed e
 
-no-line : (r : Reading) → eqb (r .stage) 2 ≡ false → textBehind (sheetAndBehind r (linesOf [])) ≡ refusalText refusal.Misplaced
+no-line : (r : Reading) → complete r ≡ false → textBehind (sheetAndBehind r (linesOf [])) ≡ refusalText refusal.Misplaced
 unfolding linesOf sheetAndBehind textBehind endVerdict
 no-line r s = rw s
 
@@ -161,19 +161,19 @@ sheet-cut input a m = go (m .chars) (ap (λ b. b .begun) (m .arriving)) (m .due)
   where
     go : (p : List ℕ) → a .begun ≡ some p → runText input ≡ textBehind (sheetAndBehind (m .reading) (infront p (linesOf [])))
         → (a .begun ≡ true → runText input ≡ refusalText refusal.Malformed) × (a .begun ≡ false → runText input ≡ refusalText refusal.Misplaced)
-    go [] e due = (λ t. absurd (let z : true ≡ false = sym t ∙ e in let y : _≡_ {A = ℕ} 0 1 = cc in omega arith), λ _. due ∙ no-line (m .reading) (m .stage))
+    go [] e due = (λ t. absurd (let z : true ≡ false = sym t ∙ e in let y : _≡_ {A = ℕ} 0 1 = cc in omega arith), λ _. due ∙ no-line (m .reading) (m .unended))
     go (c ∷ p) e due = (λ _. due ∙ cut-line (m .reading) c p, λ t. absurd (let z : false ≡ true = sym t ∙ e in let y : _≡_ {A = ℕ} 0 1 = cc in omega arith))
 
 -- Behind the `04`: the chain is judged, and an accepted one is run.
-pub chain-back : (r : Reading) (ls : List Line) (x : Refusal) → eqb (r .stage) 2 ≡ true → judgeChain (r .chain) ≡ verdict.Refused x
+pub chain-back : (r : Reading) (ls : List Line) (x : Refusal) → complete r ≡ true → judgeChain (r .chain) ≡ verdict.Refused x
     → textBehind (record { step = record { verdict = verdict.Accepted; reading = r }; behind = ls }) ≡ refusalText x
 unfolding textBehind endVerdict
 chain-back r ls x s e = rw (s, e)
 
-pub chain-runs : (r : Reading) (ls : List Line) → eqb (r .stage) 2 ≡ true → judgeChain (r .chain) ≡ verdict.Accepted
+pub chain-runs : (r : Reading) (ls : List Line) → complete r ≡ true → judgeChain (r .chain) ≡ verdict.Accepted
     → textBehind (record { step = record { verdict = verdict.Accepted; reading = r }; behind = ls })
-    ≡ firingsText (widthOf (trimmed (r .chain))) 0 (wholeRun (trimmed (r .chain)) (cellsOf ls) .standing .done .firings) (wholeRun (trimmed (r .chain)) (cellsOf ls) .standing .output)
-    ++ endText (wholeRun (trimmed (r .chain)) (cellsOf ls) .ending) (wholeRun (trimmed (r .chain)) (cellsOf ls) .standing .done .clocks) (behindCells ls)
+    ≡ firingsText (widthOf (trimmed (r .chain))) 0 (wholeRun (trimmed (r .chain)) (cellsIn ls) .standing .done .firings) (wholeRun (trimmed (r .chain)) (cellsIn ls) .standing .output)
+    ++ endText (wholeRun (trimmed (r .chain)) (cellsIn ls) .ending) (wholeRun (trimmed (r .chain)) (cellsIn ls) .standing .done .clocks) (behindCells ls)
 unfolding textBehind endVerdict
 chain-runs r ls s e = rw (s, e)
 

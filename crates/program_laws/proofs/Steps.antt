@@ -4,7 +4,7 @@ use mathlib.Core.Bool.{Bool, true, false, cond}
 use mathlib.Core.List.{List, _++_, append-nil, flatten}
 use mathlib.Core.Path.{_≡_, refl, sym, _∙_, ap, subst}
 use native.Mathlib.Omega.{arith}
-use lib.Dec.{eqb, ltb}
+use lib.Dec.{ltb}
 use lib.ListN.{length, take, drop, length-append, length-drop}
 use lib.Seq.{drop-drop}
 use Rattle.model.specs.declared.Arriving.{Arriving}
@@ -12,16 +12,17 @@ use Rattle.model.specs.declared.Refusal.{Refusal}
 use Rattle.model.specs.declared.Verdict.{Verdict}
 use Rattle.model.specs.declared.Verdict.the-variants as verdict
 use Rattle.model.specs.Answers.{byVerdict}
-use Rattle.model.specs.Judging.{judgeChain}
+use Rattle.model.specs.Judging.{mostPlaces, judgeChain}
 use Rattle.model.specs.Running.{Ending}
+use Rattle.model.specs.Reading.{complete}
 use Rattle.model.specs.Arriving.{arrive, throughFeed, CellsRead, readCells}
-use Rattle.model.specs.Programs.{runText}
-use Rattle.intake.specs.Taken.{lineTaken, cellsTaken}
-use Rattle.stages.specs.declared.Job.{Job}
-use Rattle.stages.specs.declared.Stage.{Stage}
-use Rattle.stages.specs.declared.Stage.the-variants as stage
-use Rattle.stages.specs.Stages.{sheetStage, cellsStage}
-use Rattle.driver.specs.Steps.{Left, left, sheetRead, cellsRead, lastLine}
+use Rattle.model.specs.Programs.{runText, mostWords, longestFiring}
+use Rattle.program_intake.specs.Taken.{lineTaken, cellsTaken}
+use Rattle.program_stages.specs.declared.Job.{Job}
+use Rattle.program_stages.specs.declared.Stage.{Stage}
+use Rattle.program_stages.specs.declared.Stage.the-variants as stage
+use Rattle.program_stages.specs.Stages.{sheetStage, cellsStage}
+use Rattle.program_driver.specs.Steps.{Left, left, sheetRead, cellsRead, lastLine}
 use Rattle.program_laws.specs.Whole.{Loop, NonEmpty}
 use Rattle.program_laws.proofs.Sheets.{line-read, piece-within, piece-some}
 use Rattle.program_laws.proofs.CellLines.{cells-read, one-at-least, none-behind}
@@ -37,10 +38,10 @@ pub record Holds (input : List ℕ) (l : Loop) : Type 0 where
   pub due : Due input (l .job .stage) (l .job) (restOf l) (l .store) (l .cells) (l .written)
   pub at : l .at ≤ length (l .block)
   pub blocks : NonEmpty (l .blocks)
-  pub store : 16384 ≤ length (l .store)
+  pub store : mostPlaces ≤ length (l .store)
   pub cells : 1 ≤ length (l .cells)
-  pub words : 32 ≤ length (l .words)
-  pub text : 267 ≤ length (l .text)
+  pub words : mostWords ≤ length (l .words)
+  pub text : longestFiring ≤ length (l .text)
 
 -- How far the end is at most.
 abbrev pub rank : Stage → ℕ
@@ -98,7 +99,7 @@ module _ (input : List ℕ) (l : Loop) (h : Holds input l) where
 
   rank-sheet : (a : Arriving) → rank (sheetStage a) ≤ 2
   unfolding sheetStage
-  rank-sheet a = go (a .verdict) (eqb (a .reading .stage) 2) (judgeChain (a .reading .chain))
+  rank-sheet a = go (a .verdict) (complete (a .reading)) (judgeChain (a .reading .chain))
     where
       go : (v : Verdict) (b : Bool) (w : Verdict) → rank (byVerdict v (cond b (byVerdict w stage.Cells stage.Refusing) stage.Sheet) stage.Refusing) ≤ 2
       go (verdict.Refused x) b w = omega arith

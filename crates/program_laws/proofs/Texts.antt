@@ -10,8 +10,8 @@ use borrow.Author.Tests.{ne-eqb, le-ltb}
 use Rattle.model.specs.declared.Refusal.{Refusal}
 use Rattle.model.specs.Frames.{framed, digitsOf}
 use Rattle.model.specs.Numbers.{wordBytes}
-use Rattle.model.specs.Programs.{firingLine, endLine, refusalLine, refusalText, firingsText}
-use Rattle.report.specs.Texts.{laidOver, laidIfFits, firingChars, roomFor, fitting, firingsLaid}
+use Rattle.model.specs.Programs.{firingLine, endLine, refusalLine, refusalText, firingsText, mostWords, longestFiring}
+use Rattle.program_lines.specs.Texts.{laidOver, laidIfFits, firingChars, roomFor, fitting, firingsLaid}
 
 pub drop-take : (n m : ℕ) (xs : List ℕ) → drop n (take (n + m) xs) ≡ take m (drop n xs)
 drop-take zero m xs = ap (λ (k : ℕ). take k xs) (zero-add m)
@@ -88,7 +88,7 @@ firings-laid size index n words text some few fits lines small =
     rw (all-fit size index n (length words) (length text) some few fits lines small) (laid-over (firingsText size index n words) text)
 
 -- Room for the line of a firing is room for its words.
-pub room-enough : (size room : ℕ) → size ≤ 32 → 267 ≤ room → size ≤ roomFor size room
+pub room-enough : (size room : ℕ) → size ≤ mostWords → longestFiring ≤ room → size ≤ roomFor size room
 unfolding roomFor
 room-enough size room few h =
     let f : 0 < firingChars size = omega arith in

@@ -11,16 +11,16 @@ use borrow.Author.Tests.{eqb-true, eqb-false}
 use Rattle.model.specs.declared.Refusal.the-variants as refusal
 use Rattle.model.specs.declared.Verdict.{Verdict}
 use Rattle.model.specs.declared.Verdict.the-variants as verdict
-use Rattle.model.specs.Answers.{byVerdict}
+use Rattle.model.specs.Answers.{starvedByte, byVerdict}
 use Rattle.model.specs.Frames.{framed}
 use Rattle.model.specs.Running.{Starved}
 use Rattle.model.specs.Programs.{endLine, refusalText, endText, runText}
 use Rattle.sheet_laws.proofs.Cases.{by-bool, by-lt, never}
-use Rattle.stages.specs.declared.Job.{Job}
-use Rattle.stages.specs.declared.Stage.{Stage}
-use Rattle.stages.specs.declared.Stage.the-variants as stage
-use Rattle.stages.specs.Stages.{staged, closedBy, closed, wantsBy, wantsInput, over}
-use Rattle.driver.specs.Steps.{Left, advancedBy, advanced}
+use Rattle.program_stages.specs.declared.Job.{Job}
+use Rattle.program_stages.specs.declared.Stage.{Stage}
+use Rattle.program_stages.specs.declared.Stage.the-variants as stage
+use Rattle.program_stages.specs.Stages.{staged, closedBy, closed, wantsBy, wantsInput, over}
+use Rattle.program_driver.specs.Steps.{Left, advancedBy, advanced}
 use Rattle.program_laws.specs.Whole.{FirstPart, Loop, withBlock, received, supplied, stepped, turn, turns, Lent, NonEmpty, startOf}
 use Rattle.program_laws.proofs.Sheets.{opened-midway, sheet-cut}
 use Rattle.program_laws.proofs.CellLines.{input-ends}
@@ -53,7 +53,7 @@ module _ (input : List ℕ) (j : Job) (store cells written : List ℕ) where
       due = starved-due input j [] store written i (ends .0)
 
       go : (b : Bool) → i .run .behind ≡ cond b (verdict.Refused refusal.Malformed) verdict.Accepted
-          → Due input (cond b (stage.Refusing refusal.Malformed) (stage.Ending 2)) (staged j (cond b (stage.Refusing refusal.Malformed) (stage.Ending 2))) [] store cells written
+          → Due input (cond b (stage.Refusing refusal.Malformed) (stage.Ending starvedByte)) (staged j (cond b (stage.Refusing refusal.Malformed) (stage.Ending starvedByte))) [] store cells written
       go true e = ap (λ (u : Verdict). written ++ endText Starved (j .clocks) u) (sym e) ∙ due
       go false e = ap (λ (u : Verdict). written ++ endText Starved (j .clocks) u) (sym e) ∙ due
 
@@ -116,10 +116,10 @@ module _ (input : List ℕ) (l : Loop) (h : Holds input l) (on : over (l .job .s
           by (l .job .line .begun) due
         where
           by : (b : Bool)
-              → Due input (cond b (stage.Refusing refusal.Malformed) (stage.Ending 2)) (staged (l .job) (cond b (stage.Refusing refusal.Malformed) (stage.Ending 2))) [] (l .store) (l .cells) (l .written)
-              → Supplied input l (withBlock l (staged (l .job) (cond b (stage.Refusing refusal.Malformed) (stage.Ending 2))) [] [])
+              → Due input (cond b (stage.Refusing refusal.Malformed) (stage.Ending starvedByte)) (staged (l .job) (cond b (stage.Refusing refusal.Malformed) (stage.Ending starvedByte))) [] (l .store) (l .cells) (l .written)
+              → Supplied input l (withBlock l (staged (l .job) (cond b (stage.Refusing refusal.Malformed) (stage.Ending starvedByte))) [] [])
           by true due = no-block (staged (l .job) (stage.Refusing refusal.Malformed)) due refl refl (omega (arith, ap rank e)) refl refl
-          by false due = no-block (staged (l .job) (stage.Ending 2)) due refl refl (omega (arith, ap rank e)) refl refl
+          by false due = no-block (staged (l .job) (stage.Ending starvedByte)) due refl refl (omega (arith, ap rank e)) refl refl
   at-end stage.Clocks e w at none = absurd (never (sym w))
   at-end (stage.Ending way) e w at none = absurd (never (sym w))
   at-end (stage.Refusing x) e w at none = absurd (never (sym w))

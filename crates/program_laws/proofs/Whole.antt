@@ -2,7 +2,7 @@
 use mathlib.Core.List.{flatten}
 use mathlib.Core.Path.{_∙_}
 use native.Mathlib.Omega.{arith}
-use Rattle.program_laws.specs.Whole.{turns, startOf, Writes, Ends, NothingElse, ProgramLaws}
+use Rattle.program_laws.specs.Whole.{turns, startOf, Writes, Ends, NothingElse, Buffers, ProgramLaws}
 use Rattle.program_laws.proofs.Steps.{weight}
 use Rattle.program_laws.proofs.Plan.{plan-writes}
 use Rattle.program_laws.proofs.Turns.{turns-hold, turns-end, start-holds, over-written, turns-write}
@@ -25,5 +25,8 @@ nothing-else blocks some lent n =
       joined = more .joined ∙ over-written input (turns (weight l) l) (turns-hold input (weight l) l h) (turns-end input (weight l) l h (omega arith));
     }
 
+pub buffers : Buffers
+buffers = record { store = omega arith; cells = omega arith; words = omega arith; text = omega arith; plan-text = omega arith }
+
 pub program-laws : ProgramLaws
-program-laws = record { writes = writes; ends = ends; nothing-else = nothing-else; plan-writes = plan-writes }
+program-laws = record { writes = writes; ends = ends; nothing-else = nothing-else; plan-writes = plan-writes; buffers = buffers }

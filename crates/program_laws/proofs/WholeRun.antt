@@ -21,16 +21,16 @@ use Rattle.model.specs.declared.Chain.{Chain}
 use Rattle.model.specs.declared.Verdict.{Verdict}
 use Rattle.model.specs.declared.Verdict.the-variants as verdict
 use Rattle.model.proofs.ListLaws.{tabulate-back}
-use Rattle.flow.specs.Laws.{fewer-clocks}
-use Rattle.flow.specs.Timing.{fresh-first}
-use Rattle.demands.specs.Demand2.{wordsFrom}
-use Rattle.demands.proofs.Accepts.{trimmed-proper, accepted-chain}
-use Rattle.demands.proofs.Layouts.{lawful}
-use Rattle.demands.proofs.Looks.{Looked, is-done, is-spent, is-starved, is-stalled, is-full}
-use Rattle.demands.proofs.Traces.{Traced, traced-ran}
-use Rattle.demands.proofs.Between.{Setting, Reached, fresh-reached, now, beginning, ending, clocks, counted-call, lent-length}
-use Rattle.demands.proofs.CallEnds.{why}
-use Rattle.stages.specs.Stages.{fresh}
+use Rattle.flow.proofs.Laws.{fewer-clocks}
+use Rattle.flow.proofs.Timing.{fresh-first}
+use Rattle.model.specs.Words.{wordsFrom}
+use Rattle.run_laws.proofs.Accepts.{trimmed-proper, accepted-chain}
+use Rattle.run_laws.proofs.Layouts.{lawful}
+use Rattle.run_laws.proofs.Looks.{Looked, is-done, is-spent, is-starved, is-stalled, is-full}
+use Rattle.run_laws.proofs.Traces.{Traced, traced-ran}
+use Rattle.run_laws.proofs.Between.{Setting, Reached, fresh-reached, now, beginning, ending, clocks, counted-call, lent-length}
+use Rattle.run_laws.proofs.CallEnds.{why}
+use Rattle.program_stages.specs.Stages.{fresh}
 use Rattle.program_laws.proofs.Going.{Gone, goesOn, endingAt, gone-same, done-stops, starved-stops, stalled-stops}
 use Rattle.program_laws.proofs.Texts.{words-only}
 use Rattle.program_laws.proofs.Calls.{end-gone, end-taken, end-fired, end-words, end-length}

@@ -8,12 +8,14 @@ use lib.ListN.{length, take}
 use Rattle.model.specs.declared.Arriving.{Arriving}
 use Rattle.model.specs.Answers.{byVerdict}
 use Rattle.model.specs.Arriving.{opened, arrive}
-use Rattle.model.specs.Programs.{planText, runText}
-use Rattle.report.specs.Texts.{laidIfFits}
-use Rattle.stages.specs.declared.Job.{Job}
-use Rattle.stages.specs.Stages.{begun, closed, wantsInput, over}
-use Rattle.answer.specs.Answer.{planAnswer}
-use Rattle.driver.specs.Steps.{advanced}
+use Rattle.model.specs.Judging.{mostPlaces}
+use Rattle.model.specs.Writing.{longestSheet}
+use Rattle.model.specs.Programs.{planText, runText, mostWords, longestFiring, planTextPlaces, storePlaces, cellPlaces, wordPlaces, runTextPlaces}
+use Rattle.program_lines.specs.Texts.{laidIfFits}
+use Rattle.program_stages.specs.declared.Job.{Job}
+use Rattle.program_stages.specs.Stages.{begun, closed, wantsInput, over}
+use Rattle.program_answer.specs.Answer.{planAnswer}
+use Rattle.program_driver.specs.Steps.{advanced}
 
 -- The loop of `run` before a turn: the block at hand, of which the characters before `at` were looked at; the blocks that further reads give; what was lent; and all
 -- that was written so far.
@@ -80,10 +82,10 @@ pub record Lent : Type 0 where
   pub cells : List ℕ
   pub words : List ℕ
   pub text : List ℕ
-  pub places : 16384 ≤ length store
+  pub places : mostPlaces ≤ length store
   pub some-cells : 1 ≤ length cells
-  pub some-words : 32 ≤ length words
-  pub some-text : 267 ≤ length text
+  pub some-words : mostWords ≤ length words
+  pub some-text : longestFiring ≤ length text
 
 -- No block is empty: a read that gives no character is the end of the input.
 abbrev pub NonEmpty : List (List ℕ) → Type 0
@@ -137,10 +139,18 @@ planTaken a (b ∷ bs) =
     let further = planTaken next bs in
     byVerdict (next .verdict) further (λ x. next)
 
--- What it lays into its text at the end is what document 01 says of the whole input. No chain sheet has more characters than 1007.
+-- What it lays into its text at the end is what document 01 says of the whole input.
 abbrev pub PlanWrites : Type 0
-PlanWrites = (blocks : List (List ℕ)) (text : List ℕ) → 1007 ≤ length text
+PlanWrites = (blocks : List (List ℕ)) (text : List ℕ) → longestSheet ≤ length text
     → take (laidIfFits (planAnswer (planTaken opened blocks)) text .chars) (laidIfFits (planAnswer (planTaken opened blocks)) text .output) ≡ planText (flatten blocks)
+
+-- The buffers of the programs have places enough.
+pub record Buffers : Type 0 where
+  pub store : mostPlaces ≤ storePlaces
+  pub cells : 1 ≤ cellPlaces
+  pub words : mostWords ≤ wordPlaces
+  pub text : longestFiring ≤ runTextPlaces
+  pub plan-text : longestSheet ≤ planTextPlaces
 
 -- All of them.
 pub record ProgramLaws : Type 0 where
@@ -148,3 +158,4 @@ pub record ProgramLaws : Type 0 where
   pub ends : Ends
   pub nothing-else : NothingElse
   pub plan-writes : PlanWrites
+  pub buffers : Buffers

@@ -1,10 +1,15 @@
 // Runs the chain sheet on standard input over the cells behind it: writes a `10` line for each firing, then `11`, or `1F` and the number of the refusal.
 use libc::STDIN_FILENO;
 use libc::STDOUT_FILENO;
-use stages::Job;
+use model::BLOCK_PLACES;
+use model::CELL_PLACES;
+use model::RUN_TEXT_PLACES;
+use model::STORE_PLACES;
+use model::WORD_PLACES;
+use program_stages::Job;
 ghost use Prim.Native.Nat.{_≤_};
 ghost use lib.ListN.{length};
-ghost use Rattle.report.specs.Texts.{Within};
+ghost use Rattle.program_lines.specs.Texts.{Within};
 
 // The job, and of the block at hand the first `len` bytes, from `at` on.
 struct Ready {
@@ -21,14 +26,14 @@ fn supply(job: Job, at: usize, len: usize, block: &mut [u8]) -> Ready
     if at != len {
         return Ready { job, at, len };
     }
-    if !stages::wants_input(job) {
+    if !program_stages::wants_input(job) {
         return Ready { job, at, len };
     }
     let got = libc::read(STDIN_FILENO, block);
     let n = io::count(got, block);
     if n == 0 {
         return Ready {
-            job: stages::close(job),
+            job: program_stages::close(job),
             at: 0,
             len: 0,
         };
@@ -37,25 +42,25 @@ fn supply(job: Job, at: usize, len: usize, block: &mut [u8]) -> Ready
 }
 
 fn main() {
-    let mut block = [0u8; 65536];
-    let mut store = [0u32; 16384];
-    let mut cells = [0u32; 6144];
-    let mut words = [0u32; 8192];
-    let mut text = [0u8; 155648];
-    let mut job = stages::begin();
+    let mut block = [0u8; BLOCK_PLACES];
+    let mut store = [0u32; STORE_PLACES];
+    let mut cells = [0u32; CELL_PLACES];
+    let mut words = [0u32; WORD_PLACES];
+    let mut text = [0u8; RUN_TEXT_PLACES];
+    let mut job = program_stages::begin();
     let mut at: usize = 0;
     let mut len: usize = 0;
     // A loop has to end, and nothing says that the input does: no run has so many turns.
     let mut turns = u64::MAX;
     while 0 < turns {
         turns -= 1;
-        if stages::is_over(job) {
+        if program_stages::is_over(job) {
             return;
         }
         let s = supply(job, at, len, &mut block);
         len = s.len;
         let ready = s.job;
-        let t = driver::advance(
+        let t = program_driver::advance(
             ready,
             &block[..len],
             s.at,

@@ -16,24 +16,28 @@ use Rattle.model.specs.Running.{Ending, Done, Spent, Starved, Stalled, Ended, o
 use Rattle.model.specs.declared.Chain.{Chain}
 use Rattle.model.specs.declared.Counts.{Counts}
 use Rattle.model.specs.declared.Outcome.{Outcome}
-use Rattle.model.proofs.Distances.{at-most-cells}
+use Rattle.model.proofs.Iterations.{at-most-cells}
 use Rattle.flow.specs.Machine.{Holds, Invariant}
-use Rattle.demands.proofs.Accepts.{trimmed-proper}
-use Rattle.alignment.specs.Passes.{of, Aligned}
-use Rattle.alignment.specs.Standings.{counting, stand, endedAt}
-use Rattle.alignment.specs.Tables.{walked, Tables, Stands, Fills}
-use Rattle.alignment.specs.Sweeps.{Ringed}
-use Rattle.alignment.proofs.StoredLaws.{holds-below, holds-apart}
-use Rattle.alignment.proofs.CallLaws.{call-done, endedLater, call-later}
-use Rattle.runner.specs.Loops.{Glides, GlidesTo, FillsTo, calls, wayOf, Placing, Advanced}
-use Rattle.runner.specs.Clocks.{Prepared, Begins, Ends}
-use Rattle.runner.specs.declared.Stop.the-variants as stop
-use Rattle.runner.specs.declared.Filled.{Filled}
-use Rattle.runner.specs.declared.Slid.{Slid}
+use Rattle.run_laws.proofs.Accepts.{trimmed-proper}
+use Rattle.loop_laws.specs.Passes.{of, Aligned}
+use Rattle.loop_laws.specs.Standings.{counting, stand, endedAt}
+use Rattle.loop_laws.specs.Tables.{walked, Tables, Stands}
+use Rattle.loop_laws.proofs.StoredLaws.{holds-below, holds-apart}
+use Rattle.loop_laws.proofs.CallLaws.{call-done, call-spent, endedLater, call-later}
+use Rattle.run_fill.specs.Fills.{Handed, FillsTo}
+use Rattle.run_fill.specs.declared.Stop.the-variants as stop
+use Rattle.run_fill.specs.declared.Filled.{Filled}
+use Rattle.run_glide.specs.Glides.{Glides, GlidesTo, calls, wayOf}
+use Rattle.run_glide.specs.declared.Slid.{Slid}
+use Rattle.runner.specs.Loops.{Advanced}
+use Rattle.run_prepare.specs.Ready.{Prepared, Begins}
+use Rattle.run_prepare.proofs.GridLaws.{good-grid}
+use Rattle.runner.specs.Clocks.{Ends}
 use Rattle.runner.proofs.FitLaws.{small-fits, small-fits-32}
-use Rattle.runner.proofs.FireLaws.{part-all}
-use Rattle.runner.proofs.TableLaws.{advanced-ahead, advanced-rest, ringed-puts, ringed-gets}
-use Rattle.runner.proofs.PreparedLaws.{good-grid, sizes-count, walks, rows, tops-low, tables, stands, writes-are}
+use Rattle.run_glide.proofs.FireLaws.{part-all}
+use Rattle.run_glide.proofs.RingLaws.{caps-at, ringed-puts, ringed-gets}
+use Rattle.runner.proofs.TableLaws.{advanced-ahead, advanced-rest}
+use Rattle.runner.proofs.PreparedLaws.{sizes-count, walks, rows, tops-low, tables, stands, writes-are}
 
 -- No filter is before filter 0.
 holds-first : (L : Layout) (f k source i : ℕ) (ps : List ℕ) → Holds L f k source ps → getD ps i 0 ≤ getD ps 0 0
@@ -56,12 +60,6 @@ aligned-from L cap at f k source n (p ∷ q ∷ qs) l e g h =
       aligned-from L cap at f (suc k) p n (q ∷ qs) (omega arith) e (λ j b. let y : k + suc j ≡ suc k + j = omega arith in rw y at (g (suc j) (omega arith))) (h .1),
     )
 
-caps-at : (w cap : ℕ → ℕ) (k i : ℕ) (ps : List ℕ) → suc i < length ps → Aligned w cap k ps → 0 < cap (k + i)
-caps-at w cap k i [] h a = absurd (omega arith)
-caps-at w cap k i (p ∷ []) h a = absurd (omega arith)
-caps-at w cap k zero (p ∷ q ∷ qs) h a = let z : k + 0 ≡ k = omega arith in rw z (omega arith)
-caps-at w cap k (suc i) (p ∷ q ∷ qs) h a = let z : k + suc i ≡ suc k + i = omega arith in rw z (caps-at w cap (suc k) i (q ∷ qs) (omega arith) (a .3))
-
 -- A call that ended there.
 ends-there : (o : Outcome) (f : ℕ) (e : Ended) (x : Ending) (n taken made firings : ℕ) (passed passed′ store out : List ℕ)
     → endedAt x (stand f (take n passed′) store out taken made firings) ≡ e → o ≡ outcomeOf x (record { cells = taken; firings = firings; clocks = made })
@@ -78,40 +76,25 @@ ends-there o f e x n taken made firings passed passed′ store out h eo er et es
   small = es;
 }
 
-module _ (c : Chain) (row iterations cells centre : ℕ) (at caps bases tops boxes strides : List ℕ)
-    (P : Prepared (trimmed c) row iterations cells centre at caps bases tops boxes strides) (fired : ℕ) (wants passed store : List ℕ) (B : Begins (trimmed c) fired wants passed store) where
+module _ (c : Chain) (row iterations cells centre : ℕ) (at caps bases tops spans strides : List ℕ)
+    (P : Prepared (trimmed c) row iterations cells centre at caps bases tops spans strides) (fired : ℕ) (wants passed store : List ℕ) (B : Begins (trimmed c) fired wants passed store) where
   abbrev n : ℕ
   n = c .window .count
 
-  T : Tables (layout (trimmed c)) (walked boxes strides (c .grid .dims) 0) n cells iterations at caps bases
+  T : Tables (layout (trimmed c)) (walked spans strides (c .grid .dims) 0) n cells iterations at caps bases
   unfolding trimmed
-  T = tables (trimmed c) (sizes-count c) (trimmed-proper c) row iterations cells centre at caps bases tops boxes strides P
+  T = tables (trimmed c) (sizes-count c) (trimmed-proper c) row iterations cells centre at caps bases tops spans strides P
 
   S : Stands (layout (trimmed c)) n fired caps bases passed store
   unfolding trimmed
-  S = stands (trimmed c) (sizes-count c) (trimmed-proper c) row iterations cells centre at caps bases tops boxes strides P fired wants passed store B
+  S = stands (trimmed c) (sizes-count c) (trimmed-proper c) row iterations cells centre at caps bases tops spans strides P fired wants passed store B
 
   pub few : n ≤ 32
   few = T .few
 
-  -- The counters are in order, and each FIFO within its capacity.
-  pub may-place : (us gs : List ℕ) → length us ≡ 32 → length gs ≡ 32 → Placing n bases tops caps passed us gs
-  unfolding trimmed
-  may-place us gs lu lg = record {
-    few = T .few;
-    puts-there = lu;
-    gets-there = lg;
-    fits = λ k h.
-        let x = holds-apart (layout (trimmed c)) fired 0 (layout (trimmed c) .cells) k (take n passed) (omega (arith, length-take-le n passed (omega (arith, B .there, T .few)))) (B .holds .all) in
-        let y = rw (zero-add, getD-take n passed k 0 (omega arith), getD-take n passed (suc k) 0 h) at x in
-        (y .0, omega (arith, y .1, T .places .caps-are k h));
-    tops-are = P .tops-are;
-    small = λ k h. omega (arith, tops-low (trimmed c) (sizes-count c) (trimmed-proper c) row iterations cells centre at caps bases tops boxes strides P k h, T .small k h);
-  }
-
   iterations-small : layout (trimmed c) .iterations ≤ 1048576
   unfolding layout
-  iterations-small = omega (arith, at-most-cells (trimmed c .sizes) (trimmed c .offsets), good-grid (trimmed c) (P .accepted) .cells)
+  iterations-small = omega (arith, at-most-cells (trimmed c), good-grid (trimmed c) (P .accepted) .cells)
 
   pub fired-fits : Fits w32 fired
   fired-fits = small-fits-32 fired (omega (arith, B .holds .most, iterations-small))
@@ -128,22 +111,21 @@ module _ (c : Chain) (row iterations cells centre : ℕ) (at caps bases tops box
       (sym (call-done (layout (trimmed c)) (writtenBy (trimmed c)) (widthOf (trimmed c)) lent allowance (stand fired (take n passed) store out 0 0 0) (omega (arith, T .iterations-are))))
       (rw ed at eo) refl (B .there) (λ k g. omega (arith, counters-small fired passed (B .holds) k g, T .most))
 
-  module _ (more : fired < iterations) where
-    pub may-fill : (us gs : List ℕ) → length us ≡ 32 → length gs ≡ 32 → Ringed n bases caps passed us gs
-        → Fills (layout (trimmed c)) (walked boxes strides (c .grid .dims) 0) n cells iterations fired at wants caps bases tops passed us gs store
-    unfolding trimmed
-    may-fill us gs lu lg r = record {
-      tables = T;
-      stands = S;
-      more = more;
-      wants-are = B .wants-are;
-      tops-are = P .tops-are;
-      puts-there = lu;
-      gets-there = lg;
-      rings = r;
-    }
+  -- No clock is allowed.
+  pub ends-none : (lent out : List ℕ) (allowance : ℕ) (o : Outcome) (d : Counts) → fired < iterations → allowance ≡ 0 → d ≡ record { cells = 0; firings = 0; clocks = 0 }
+      → o ≡ outcomeOf Spent d → Ends (record { outcome = o; fired = record { 0 = fired } }) (calls (trimmed c) n fired passed store lent out allowance) n passed passed store out
+  unfolding trimmed
+  ends-none lent out allowance o d h e ed eo =
+      ends-there o fired _ Spent n 0 0 0 passed passed store out
+      (sym (call-spent (layout (trimmed c)) (writtenBy (trimmed c)) (widthOf (trimmed c)) lent allowance (stand fired (take n passed) store out 0 0 0) e (omega (arith, T .iterations-are))))
+      (rw ed at eo) refl (B .there) (λ k g. omega (arith, counters-small fired passed (B .holds) k g, T .most))
 
-    module _ (lent out : List ℕ) (allowance : ℕ) (r : Filled) (passed′ us gs store′ : List ℕ) (F : FillsTo r (trimmed c) n fired at caps bases passed passed′ us gs store store′ lent allowance) where
+  module _ (more : fired < iterations) where
+    pub may-fill : Handed (layout (trimmed c)) (walked spans strides (c .grid .dims) 0) n cells iterations fired at wants caps bases tops passed store
+    unfolding trimmed
+    may-fill = record { tables = T; stands = S; more = more; wants-are = B .wants-are; tops-are = P .tops-are }
+
+    module _ (lent out : List ℕ) (allowance : ℕ) (r : Filled) (passed′ us gs store′ : List ℕ) (F : FillsTo (r .how) (r .taken) (r .clocks) (layout (trimmed c)) n fired at caps bases passed passed′ us gs store store′ lent allowance) where
       pub filled-small : (k : ℕ) → k < n → getD passed′ k 0 ≤ 1048576
       filled-small k h = omega (arith, counters-small fired passed′ (F .holds) k h, T .most)
 
@@ -155,17 +137,17 @@ module _ (c : Chain) (row iterations cells centre : ℕ) (at caps bases tops box
         pub ends-spent : r .how ≡ stop.Spent → o ≡ outcomeOf Spent d
             → Ends (record { outcome = o; fired = record { 0 = fired } }) (calls (trimmed c) n fired passed store lent out allowance) n passed passed′ store′ out
         ends-spent e eo =
-            ends-there o fired _ Spent n (r .taken) (r .clocks) 0 passed passed′ store′ out (rw e at (F .resumes out)) (rw ed at eo) (F .rest) (F .there) filled-small
+            ends-there o fired _ Spent n (r .taken) (r .clocks) 0 passed passed′ store′ out (rw e at (F .resumes (writtenBy (trimmed c)) (widthOf (trimmed c)) out)) (rw ed at eo) (F .rest) (F .there) filled-small
 
         pub ends-starved : r .how ≡ stop.Starved → o ≡ outcomeOf Starved d
             → Ends (record { outcome = o; fired = record { 0 = fired } }) (calls (trimmed c) n fired passed store lent out allowance) n passed passed′ store′ out
         ends-starved e eo =
-            ends-there o fired _ Starved n (r .taken) (r .clocks) 0 passed passed′ store′ out (rw e at (F .resumes out)) (rw ed at eo) (F .rest) (F .there) filled-small
+            ends-there o fired _ Starved n (r .taken) (r .clocks) 0 passed passed′ store′ out (rw e at (F .resumes (writtenBy (trimmed c)) (widthOf (trimmed c)) out)) (rw ed at eo) (F .rest) (F .there) filled-small
 
         pub ends-stalled : r .how ≡ stop.Stalled → o ≡ outcomeOf Stalled d
             → Ends (record { outcome = o; fired = record { 0 = fired } }) (calls (trimmed c) n fired passed store lent out allowance) n passed passed′ store′ out
         ends-stalled e eo =
-            ends-there o fired _ Stalled n (r .taken) (r .clocks) 0 passed passed′ store′ out (rw e at (F .resumes out)) (rw ed at eo) (F .rest) (F .there) filled-small
+            ends-there o fired _ Stalled n (r .taken) (r .clocks) 0 passed passed′ store′ out (rw e at (F .resumes (writtenBy (trimmed c)) (widthOf (trimmed c)) out)) (rw ed at eo) (F .rest) (F .there) filled-small
 
       -- The filters are aligned.
       module _ (e : r .how ≡ stop.Aligned) where
@@ -182,13 +164,14 @@ module _ (c : Chain) (row iterations cells centre : ℕ) (at caps bases tops box
         caps-there : (k : ℕ) → suc k < n → 0 < getD caps k 0
         caps-there k h = rw zero-add at (caps-at (of at) (of caps) 0 k (take n passed′) (omega (arith, long)) aligned-there)
 
-        pub may-glide : (size : ℕ) → size ≡ width (c .kernel) n → length store′ ≡ length store
-            → Glides (trimmed c) (c .kernel) n row iterations cells centre size fired (c .grid .dims) at wants caps bases tops boxes strides passed′ us gs store′
+        pub may-glide : length store′ ≡ length store
+            → Glides (trimmed c) (c .kernel) n row iterations cells centre (width (c .kernel) n) fired (c .grid .dims) at wants caps bases tops spans strides passed′ us gs store′
         unfolding trimmed widthOf
-        may-glide size ew l = record {
+        may-glide l = record {
           tables = T;
           stands = record { there = F .there; within = λ k h. omega (arith, S .within k h); holds = F .holds };
           more = more;
+          most = omega (arith, T .iterations-are, iterations-small);
           wanted = B .wants-are 0 (T .some) ∙ T .reads fired 0 more (T .some);
           rings = record {
             tops-are = P .tops-are;
@@ -198,11 +181,10 @@ module _ (c : Chain) (row iterations cells centre : ℕ) (at caps bases tops box
             at-puts = ringed-puts n bases caps passed′ us gs (T .some) (T .few) (omega (arith, F .there, T .few)) (F .puts-there) caps-there (F .rings);
             at-gets = ringed-gets n bases caps passed′ us gs (T .some) (T .few) (omega (arith, F .there, T .few)) (F .gets-there) caps-there (F .rings);
           };
-          rows = rows (trimmed c) (sizes-count c) (trimmed-proper c) row iterations cells centre at caps bases tops boxes strides P;
-          walks = walks (trimmed c) (sizes-count c) (trimmed-proper c) row iterations cells centre at caps bases tops boxes strides P;
-          writes-are = writes-are (trimmed c) (sizes-count c) (trimmed-proper c) row iterations cells centre at caps bases tops boxes strides P;
-          size-is = sym ew;
-          width-is = ew;
+          rows = rows (trimmed c) (sizes-count c) (trimmed-proper c) row iterations cells centre at caps bases tops spans strides P;
+          walks = walks (trimmed c) (sizes-count c) (trimmed-proper c) row iterations cells centre at caps bases tops spans strides P;
+          writes-are = writes-are (trimmed c) (sizes-count c) (trimmed-proper c) row iterations cells centre at caps bases tops spans strides P;
+          size-is = refl;
         }
 
         module _ (s : Slid) (store″ out″ : List ℕ)
@@ -249,7 +231,7 @@ module _ (c : Chain) (row iterations cells centre : ℕ) (at caps bases tops box
               let cl = rw (add-zero, add-zero) at
               (call-later (layout (trimmed c)) (writtenBy (trimmed c)) (widthOf (trimmed c)) lent (r .taken) (r .clocks) (F .had) (allowance - r .clocks)
               (stand fired (take n passed′) store′ out 0 0 0)) in
-              let re = rw e at (F .resumes out) in
+              let re = rw e at (F .resumes (writtenBy (trimmed c)) (widthOf (trimmed c)) out) in
               let whole = ap (λ (x : Ended). endedLater (r .taken) (r .clocks) x) es ∙ sym cl ∙ re in
               ends-there o (fired + s .firings) _ (wayOf (s .how)) n (r .taken + s .clocks) (r .clocks + s .clocks) (s .firings) passed passed″ store″ out″
               (rw (advanced-ahead n (s .clocks) passed′ passed″ (T .few) (F .there) a) whole) (rw ed at eo)

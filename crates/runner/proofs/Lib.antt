@@ -1,15 +1,6 @@
 pub mod FitLaws
-pub mod FireLaws
-pub mod GlidingLaws
 pub mod TableLaws
 pub mod PreparedLaws
 pub mod ClocksLaws
-pub mod PrepareFills
-pub mod PrepareWalks
-pub mod PrepareWants
-pub mod PreparePlaces
 pub mod PrepareCounters
-pub mod PrepareStates
-pub mod PrepareGuards
-pub mod PrepareChains
 pub mod RunLaws

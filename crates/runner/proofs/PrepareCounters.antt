@@ -9,7 +9,7 @@ use lib.Seq.{length-take-le}
 use Rattle.model.specs.Running.{withCounters}
 use Rattle.model.specs.declared.CellsPassed.{CellsPassed}
 use Rattle.model.specs.declared.State.{State}
-use Rattle.runner.specs.Prepared.{numberAt}
+use Rattle.run_prepare.specs.Prepared.{numberAt}
 
 abbrev pub counter : ℕ → CellsPassed
 counter p = record { 0 = p }

@@ -1,4 +1,3 @@
 pub mod Loops
 pub mod Clocks
-pub mod Prepared
 pub mod Runs

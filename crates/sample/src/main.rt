@@ -24,7 +24,7 @@ fn last_line(text: &[u8]) -> usize {
 // The last line, without its LF.
 fn show_last(text: &[u8]) {
     let from = last_line(text);
-    let line = frames::line(text, from);
+    let line = sheet_frames::line(text, from);
     io::write_all(STDOUT_FILENO, line);
 }
 

@@ -1,17 +1,9 @@
 // What the programs write of an input that is at hand whole, cut into pieces.
-use stages::Job;
+use program_stages::Job;
+use values::lesser;
 ghost use Prim.Native.Nat.{_≤_};
 ghost use lib.ListN.{length};
-ghost use Rattle.report.specs.Texts.{Within};
-
-fn lesser(a: usize, b: usize) -> usize
-    ensures { λ r. ⌜ (r ≤ a) × (r ≤ b) ⌝ }
-{
-    if a < b {
-        return a;
-    }
-    b
-}
+ghost use Rattle.program_lines.specs.Texts.{Within};
 
 // Where the piece ends that starts at `at`.
 fn piece_end(at: usize, piece: usize, len: usize) -> usize
@@ -27,16 +19,16 @@ fn piece_end(at: usize, piece: usize, len: usize) -> usize
 fn plan_text(input: &[u8], piece: usize, text: &mut [u8]) -> usize
     ensures { λ r. ⌜ Within r (now (text .exit)) ⌝ }
 {
-    let mut arriving = intake::open();
+    let mut arriving = program_intake::open();
     let mut at: usize = 0;
     let mut turns = input.len();
     while 0 < turns {
         turns -= 1;
         let end = piece_end(at, piece, input.len());
-        arriving = intake::take_block(false, arriving, &input[at..end]);
+        arriving = program_intake::take_block(false, arriving, &input[at..end]);
         at = end;
     }
-    answer::plan_answer(arriving, text)
+    program_answer::plan_answer(arriving, text)
 }
 
 // Lays `part` behind the first `done` characters of the text; as much of it as has places.
@@ -62,10 +54,10 @@ fn supply(job: Job, at: usize, len: usize) -> Job {
     if at != len {
         return job;
     }
-    if !stages::wants_input(job) {
+    if !program_stages::wants_input(job) {
         return job;
     }
-    stages::close(job)
+    program_stages::close(job)
 }
 
 fn run_text(input: &[u8], piece: usize, text: &mut [u8]) -> usize
@@ -75,18 +67,18 @@ fn run_text(input: &[u8], piece: usize, text: &mut [u8]) -> usize
     let mut cells = [0u32; 5];
     let mut words = [0u32; 40];
     let mut part = [0u8; 300];
-    let mut job = stages::begin();
+    let mut job = program_stages::begin();
     let mut at: usize = 0;
     let mut done: usize = 0;
     let mut turns: u32 = 100000;
     while 0 < turns {
         turns -= 1;
-        if stages::is_over(job) {
+        if program_stages::is_over(job) {
             return done;
         }
         let ready = supply(job, at, input.len());
         let end = piece_end(at, piece, input.len());
-        let s = driver::advance(
+        let s = program_driver::advance(
             ready,
             &input[..end],
             at,

@@ -1,20 +1,25 @@
 -- What is known of a line that is not turned back.
 use Prim.Native.Nat.{ℕ, _+_, _*_, _≤_, _<_}
-use mathlib.Core.Bool.{Bool, true, false, cond, not, _&&_}
+use mathlib.Core.Bool.{Bool, true, false, _&&_}
 use mathlib.Core.List.{List, _∷_}
-use mathlib.Core.Path.{_≡_, refl, ap}
+use mathlib.Core.Logic.{_⊎_, inl, inr}
+use mathlib.Core.Path.{_≡_, refl, sym, ap}
 use native.Mathlib.Omega.{arith}
 use lib.Dec.{eqb, leb, ltb}
 use lib.ListN.{take}
 use borrow.Author.Tests.{ne-eqb, eqb-true, eqb-false, leb-false, ltb-false, not-false}
+use Rattle.model.specs.declared.Last.{Last}
+use Rattle.model.specs.declared.Last.the-variants as stood
 use Rattle.model.specs.declared.Reading.{Reading}
 use Rattle.model.specs.declared.Refusal.{Refusal}
 use Rattle.model.specs.declared.Verdict.the-variants as verdict
+use Rattle.model.specs.Lists.{any}
 use Rattle.model.specs.Answers.{Check, check, firstOf, byVerdict}
 use Rattle.model.specs.Judging.{badDims, badSizes}
 use Rattle.model.specs.Frames.{Seen}
 use Rattle.model.specs.Numbers.{byteAt}
-use Rattle.model.specs.Reading.{kindOf, secondOf, badKernel, badForm, malformed, misplaced, badLength, sizesIn, lineChecks, lineVerdict}
+use Rattle.model.specs.Reading.{kindOf, secondOf, badKernel, badForm, malformed, badLength, sizesIn, lineChecks, lineVerdict}
+use Rattle.model.specs.Reading.{nextInRequest, nextInChain, miscounted, among, misplaced, closes, complete}
 use Rattle.model.specs.Reading.{taken, withGrid, withOffset, withCapacity, withKernel}
 use Rattle.sheet_laws.proofs.Cases.{by-eq, never, of-kind, both, neither, or-false}
 
@@ -30,12 +35,11 @@ clear false r cs h = (refl, h)
 
 -- A line that is not turned back: one case for each kind, with what was checked of it.
 pub data Admitted (chainSheet : Bool) (r : Reading) (l : Seen) : Type 0 where
-  grid : kindOf l ≡ 1 → r .stage ≡ 0 → 0 < secondOf l → secondOf l ≤ 4 → l .len ≡ 2 + 4 * secondOf l
+  grid : kindOf l ≡ 1 → r .last ≡ stood.Nothing → 0 < secondOf l → secondOf l ≤ 4 → l .len ≡ 2 + 4 * secondOf l
       → badSizes (take (secondOf l) (sizesIn (l .first))) ≡ false → Admitted chainSheet r l
-  offset : kindOf l ≡ 2 → r .stage ≡ 1 → r .given ≡ 0 → l .len ≡ 1 + 2 * r .chain .grid .dims → r .chain .window .count < 32 → Admitted chainSheet r l
-  capacity : kindOf l ≡ 3 → r .stage ≡ 1 → chainSheet ≡ true → r .given + 1 < r .chain .window .count → l .len ≡ 5 → Admitted chainSheet r l
-  kernel : kindOf l ≡ 4 → r .stage ≡ 1
-      → cond chainSheet (not (eqb (r .chain .window .count) (r .given + 1))) (eqb (r .chain .window .count) 0) ≡ false
+  offset : kindOf l ≡ 2 → (r .last ≡ stood.Grid) ⊎ (r .last ≡ stood.Offset) → l .len ≡ 1 + 2 * r .chain .grid .dims → r .chain .window .count < 32 → Admitted chainSheet r l
+  capacity : kindOf l ≡ 3 → (r .last ≡ stood.Offset) ⊎ (r .last ≡ stood.Capacity) → chainSheet ≡ true → r .given + 1 < r .chain .window .count → l .len ≡ 5 → Admitted chainSheet r l
+  kernel : kindOf l ≡ 4 → (r .last ≡ stood.Offset) ⊎ (r .last ≡ stood.Capacity) → (chainSheet ≡ true → r .chain .window .count ≡ r .given + 1)
       → badKernel (l .len) (secondOf l) ≡ false → Admitted chainSheet r l
 
 -- The tests that came out false, on plain numbers.
@@ -59,19 +63,71 @@ module _ (sound : Bool) (len kind second : ℕ) (h : malformed sound len kind se
       (λ e. e)
       (λ e. absurd (never (simp (ne-eqb _ _ a, ne-eqb _ _ b, ne-eqb _ _ c, ne-eqb _ _ d, ne-eqb _ _ e) at (well-formed .1))))
 
-module _ (chainSheet : Bool) (stage given count kind : ℕ) (h : misplaced chainSheet stage given count kind ≡ false) where
-  placed-grid : kind ≡ 1 → stage ≡ 0
-  unfolding misplaced
-  placed-grid e = eqb-true stage 0 (not-false _ (rw e at h))
+-- What stood last, where a line of each kind is in its place.
+module _ (given count : ℕ) where
+  placed-grid : (chainSheet : Bool) (last : Last) → misplaced chainSheet last given count 1 ≡ false → last ≡ stood.Nothing
+  unfolding misplaced among any nextInRequest nextInChain
+  placed-grid chainSheet stood.Nothing h = refl
+  placed-grid true stood.Grid h = absurd (never h)
+  placed-grid false stood.Grid h = absurd (never h)
+  placed-grid true stood.Offset h = absurd (never h)
+  placed-grid false stood.Offset h = absurd (never h)
+  placed-grid true stood.Capacity h = absurd (never h)
+  placed-grid false stood.Capacity h = absurd (never h)
+  placed-grid true stood.Kernel h = absurd (never h)
+  placed-grid false stood.Kernel h = absurd (never h)
 
-  placed-behind : (kind ≡ 1 → ⊥)
-      → (stage ≡ 1)
-      × (cond (eqb kind 2) (not (eqb given 0))
-      (cond (eqb kind 3) (cond chainSheet (leb count (given + 1)) true)
-      (cond (eqb kind 4) (cond chainSheet (not (eqb count (given + 1))) (eqb count 0)) true))
-      ≡ false)
-  unfolding misplaced
-  placed-behind e = let b = both (eqb stage 1) _ (rw (ne-eqb _ _ e) at h) in (eqb-true stage 1 (b .0), b .1)
+  placed-offset : (chainSheet : Bool) (last : Last) → misplaced chainSheet last given count 2 ≡ false → (last ≡ stood.Grid) ⊎ (last ≡ stood.Offset)
+  unfolding misplaced among any nextInRequest nextInChain
+  placed-offset true stood.Nothing h = absurd (never h)
+  placed-offset false stood.Nothing h = absurd (never h)
+  placed-offset chainSheet stood.Grid h = inl refl
+  placed-offset chainSheet stood.Offset h = inr refl
+  placed-offset true stood.Capacity h = absurd (never h)
+  placed-offset false stood.Capacity h = absurd (never h)
+  placed-offset true stood.Kernel h = absurd (never h)
+  placed-offset false stood.Kernel h = absurd (never h)
+
+  placed-capacity : (chainSheet : Bool) (last : Last) → misplaced chainSheet last given count 3 ≡ false
+      → ((last ≡ stood.Offset) ⊎ (last ≡ stood.Capacity)) × (chainSheet ≡ true) × (given + 1 < count)
+  unfolding misplaced among any nextInRequest nextInChain miscounted
+  placed-capacity true stood.Nothing h = absurd (never h)
+  placed-capacity true stood.Grid h = absurd (never h)
+  placed-capacity true stood.Offset h = (inl refl, refl, leb-false _ _ h)
+  placed-capacity true stood.Capacity h = (inr refl, refl, leb-false _ _ h)
+  placed-capacity true stood.Kernel h = absurd (never h)
+  placed-capacity false stood.Nothing h = absurd (never h)
+  placed-capacity false stood.Grid h = absurd (never h)
+  placed-capacity false stood.Offset h = absurd (never h)
+  placed-capacity false stood.Capacity h = absurd (never h)
+  placed-capacity false stood.Kernel h = absurd (never h)
+
+  placed-kernel : (chainSheet : Bool) (last : Last) → misplaced chainSheet last given count 4 ≡ false
+      → ((last ≡ stood.Offset) ⊎ (last ≡ stood.Capacity)) × (chainSheet ≡ true → count ≡ given + 1)
+  unfolding misplaced among any nextInRequest nextInChain miscounted
+  placed-kernel true stood.Nothing h = absurd (never h)
+  placed-kernel true stood.Grid h = absurd (never h)
+  placed-kernel true stood.Offset h = (inl refl, λ z. eqb-true _ _ (not-false _ h))
+  placed-kernel true stood.Capacity h = (inr refl, λ z. eqb-true _ _ (not-false _ h))
+  placed-kernel true stood.Kernel h = absurd (never h)
+  placed-kernel false stood.Nothing h = absurd (never h)
+  placed-kernel false stood.Grid h = absurd (never h)
+  placed-kernel false stood.Offset h = (inl refl, λ z. absurd (never (sym z)))
+  placed-kernel false stood.Capacity h = absurd (never h)
+  placed-kernel false stood.Kernel h = absurd (never h)
+
+  never-cell : (chainSheet : Bool) (last : Last) → misplaced chainSheet last given count 5 ≡ false → ⊥
+  unfolding misplaced among any nextInRequest nextInChain
+  never-cell true stood.Nothing h = never h
+  never-cell true stood.Grid h = never h
+  never-cell true stood.Offset h = never h
+  never-cell true stood.Capacity h = never h
+  never-cell true stood.Kernel h = never h
+  never-cell false stood.Nothing h = never h
+  never-cell false stood.Grid h = never h
+  never-cell false stood.Offset h = never h
+  never-cell false stood.Capacity h = never h
+  never-cell false stood.Kernel h = never h
 
 pub dims-in-order : (dims : ℕ) → badDims dims ≡ false → (0 < dims) × (dims ≤ 4)
 unfolding badDims
@@ -100,29 +156,39 @@ admitted chainSheet r l h =
     go (form .0) (order .0) (dims .0) (size .0) (sizes .0) (many .0)
   where
     go : malformed (l .sound) (l .len) (kindOf l) (secondOf l) ≡ false
-        → misplaced chainSheet (r .stage) (r .given) (r .chain .window .count) (kindOf l) ≡ false
+        → misplaced chainSheet (r .last) (r .given) (r .chain .window .count) (kindOf l) ≡ false
         → (eqb (kindOf l) 1 && badDims (secondOf l)) ≡ false
         → badLength (l .len) (kindOf l) (secondOf l) (r .chain .grid .dims) ≡ false
         → (eqb (kindOf l) 1 && badSizes (take (secondOf l) (sizesIn (l .first)))) ≡ false
         → (eqb (kindOf l) 2 && leb 32 (r .chain .window .count)) ≡ false
         → (l .sound ≡ true) × Admitted chainSheet r l
     go form order dims size sizes many =
-        let behind = placed-behind _ _ _ _ _ order in (
+        let given = r .given in
+        let count = r .chain .window .count in (
           well-formed _ _ _ _ form .0,
           by-eq (kindOf l) 1
               (λ e. let d = dims-in-order _ (of-kind _ 1 _ dims e) in
-              grid e (placed-grid _ _ _ _ _ order e) (d .0) (d .1) (grid-length _ _ _ _ size e) (of-kind _ 1 _ sizes e))
+              grid e (placed-grid given count chainSheet (r .last) (rw e at order)) (d .0) (d .1) (grid-length _ _ _ _ size e) (of-kind _ 1 _ sizes e))
               (λ n1. by-eq (kindOf l) 2
-              (λ e. let p = behind n1 in
-              offset e (p .0) (eqb-true _ _ (not-false _ (rw e at (p .1)))) (offset-length _ _ _ _ size e) (leb-false _ _ (of-kind _ 2 _ many e)))
+              (λ e. offset e (placed-offset given count chainSheet (r .last) (rw e at order)) (offset-length _ _ _ _ size e) (leb-false _ _ (of-kind _ 2 _ many e)))
               (λ n2. by-eq (kindOf l) 3
-              (λ e. let p = behind n1 in
-              let b = both chainSheet _ (rw e at (p .1)) in
-              capacity e (p .0) (b .0) (leb-false _ _ (b .1)) (formed-capacity _ _ _ _ form e))
+              (λ e. let p = placed-capacity given count chainSheet (r .last) (rw e at order) in
+              capacity e (p .0) (p .1) (p .2) (formed-capacity _ _ _ _ form e))
               (λ n3. by-eq (kindOf l) 4
-              (λ e. let p = behind n1 in kernel e (p .0) (rw e at (p .1)) (formed-kernel _ _ _ _ form e))
-              (λ n4. let e = formed-cell _ _ _ _ form n1 n2 n3 n4 in absurd (never (rw e at (behind n1 .1))))))),
+              (λ e. let p = placed-kernel given count chainSheet (r .last) (rw e at order) in kernel e (p .0) (p .1) (formed-kernel _ _ _ _ form e))
+              (λ n4. let e = formed-cell _ _ _ _ form n1 n2 n3 n4 in absurd (never-cell given count chainSheet (r .last) (rw e at order)))))),
         )
+
+-- No line comes behind the `04` line.
+pub not-complete : (chainSheet : Bool) (r : Reading) (l : Seen) → Admitted chainSheet r l → complete r ≡ false
+unfolding complete closes
+not-complete chainSheet r l (grid e last some few len sizes) = ap closes last
+not-complete chainSheet r l (offset e (inl last) len count) = ap closes last
+not-complete chainSheet r l (offset e (inr last) len count) = ap closes last
+not-complete chainSheet r l (capacity e (inl last) chain given len) = ap closes last
+not-complete chainSheet r l (capacity e (inr last) chain given len) = ap closes last
+not-complete chainSheet r l (kernel e (inl last) given form) = ap closes last
+not-complete chainSheet r l (kernel e (inr last) given form) = ap closes last
 
 -- What a line of each kind adds.
 module _ (r : Reading) (x : List ℕ) where

@@ -16,11 +16,19 @@ use Rattle.model.specs.Judging.{badDims}
 use Rattle.model.specs.Frames.{kept, Seen, seenOf, emptyFrame, feeds, shown}
 use Rattle.model.specs.Numbers.{byteAt}
 use Rattle.model.specs.Reading.{badKernel, badForm, malformed, badLength, lineChecks, lineVerdict}
-use Rattle.model.specs.Reading.{taken, withGrid, withOffset, withCapacity, withKernel, stepOf, cellVerdict}
+use Rattle.model.specs.Reading.{taken, withGrid, withOffset, withCapacity, withKernel, stepOf, start, cellVerdict}
 use Rattle.sheet_laws.proofs.Cases.{by-bool, by-eq, by-lt, of-kind}
 use Rattle.sheet_laws.proofs.FrameLaws.{capped, capped-few, capped-many, seen-alike}
 use Rattle.sheet_laws.proofs.AcceptedLines.{Admitted, admitted, dims-in-order, taken-grid, taken-offset, taken-capacity, taken-kernel}
 use Rattle.sheet_laws.proofs.AcceptedLines.Admitted.{grid, offset, capacity, kernel}
+
+-- What the lengths of lines hang on is small.
+pub record Bounded (r : Reading) : Type 0 where
+  pub dims : r .chain .grid .dims ≤ 4
+  pub count : r .chain .window .count ≤ 32
+
+pub start-bounded : Bounded start
+start-bounded = record { dims = omega arith; count = omega arith }
 
 -- A comparison with a number below those that are kept does not see the cap.
 cap-eqb : (n m : ℕ) → m < kept → eqb (capped n) m ≡ eqb n m
@@ -58,7 +66,7 @@ behind-third : (a b : Check) (m : Refusal) (xs ys : List Check) → firstOf (a �
 unfolding firstOf
 behind-third a b m xs ys = refl
 
-cap-verdict : (chainSheet : Bool) (r : Reading) (n : ℕ) (x : List ℕ) → r .chain .grid .dims ≤ 4
+cap-verdict : (chainSheet : Bool) (r : Reading) (n : ℕ) (x : List ℕ) → Bounded r
     → lineVerdict chainSheet r (record { sound = true; len = capped n; first = x }) ≡ lineVerdict chainSheet r (record { sound = true; len = n; first = x })
 unfolding lineVerdict lineChecks
 cap-verdict chainSheet r n x h =
@@ -66,7 +74,7 @@ cap-verdict chainSheet r n x h =
     let second = byteAt x 1 in
     by-bool (eqb kind 1 && badDims second)
     (λ b. rw (cap-malformed true n kind second, b) (behind-third _ _ refusal.BadGrid _ _))
-    (λ b. rw (cap-malformed true n kind second, cap-length n kind second (r .chain .grid .dims) h b))
+    (λ b. rw (cap-malformed true n kind second, cap-length n kind second (r .chain .grid .dims) (h .dims) b))
 
 unsound-verdict : (chainSheet : Bool) (r : Reading) (l : Seen) → l .sound ≡ false → lineVerdict chainSheet r l ≡ verdict.Refused refusal.Malformed
 unfolding lineVerdict lineChecks malformed firstOf
@@ -77,7 +85,7 @@ unfolding cellVerdict malformed firstOf
 unsound-cell l h = rw h
 
 -- A line of a sheet.
-pub fixed-memory : (chainSheet : Bool) (r : Reading) (ds : List ℕ) → r .chain .grid .dims ≤ 4
+pub fixed-memory : (chainSheet : Bool) (r : Reading) (ds : List ℕ) → Bounded r
     → stepOf chainSheet r (shown (feeds emptyFrame ds)) ≡ stepOf chainSheet r (seenOf true ds)
 unfolding stepOf
 fixed-memory chainSheet r ds h =
@@ -99,17 +107,17 @@ pub no-line-feed : (chainSheet : Bool) (r : Reading) (ds : List ℕ)
 unfolding stepOf
 no-line-feed chainSheet r ds = rw (unsound-verdict chainSheet r (seenOf false ds) refl)
 
--- The dimension count that was read stays at most 4.
-pub keeps-dims : (chainSheet : Bool) (r : Reading) (l : Seen) → r .chain .grid .dims ≤ 4 → stepOf chainSheet r l .reading .chain .grid .dims ≤ 4
+-- What was read stays small.
+pub keeps-bounded : (chainSheet : Bool) (r : Reading) (l : Seen) → Bounded r → Bounded (stepOf chainSheet r l .reading)
 unfolding stepOf withGrid withOffset withCapacity withKernel
-keeps-dims chainSheet r l h = go (lineVerdict chainSheet r l) refl
+keeps-bounded chainSheet r l h = go (lineVerdict chainSheet r l) refl
   where
-    by : Admitted chainSheet r l → taken r (l .first) .chain .grid .dims ≤ 4
-    by (grid e stage some few len sizes) = rw (taken-grid _ _ e) few
-    by (offset e stage given len count) = rw (taken-offset _ _ e) h
-    by (capacity e stage chain given len) = rw (taken-capacity _ _ e) h
-    by (kernel e stage given form) = rw (taken-kernel _ _ e) h
+    by : Admitted chainSheet r l → Bounded (taken r (l .first))
+    by (grid e last some few len sizes) = rw (taken-grid _ _ e) (record { dims = few; count = h .count })
+    by (offset e last len count) = rw (taken-offset _ _ e) (record { dims = h .dims; count = omega arith })
+    by (capacity e last chain given len) = rw (taken-capacity _ _ e) (record { dims = h .dims; count = h .count })
+    by (kernel e last given form) = rw (taken-kernel _ _ e) (record { dims = h .dims; count = h .count })
 
-    go : (v : Verdict) → lineVerdict chainSheet r l ≡ v → byVerdict v (taken r (l .first)) (λ x. r) .chain .grid .dims ≤ 4
+    go : (v : Verdict) → lineVerdict chainSheet r l ≡ v → Bounded (byVerdict v (taken r (l .first)) (λ x. r))
     go verdict.Accepted e = by (admitted chainSheet r l e .1)
     go (verdict.Refused x) e = h

@@ -36,17 +36,21 @@ none-taken = refl
 zeros : ℕ → List ℕ
 zeros n = replicate n 0
 
+-- Places behind the first.
+abbrev behind : ℕ
+behind = kept - 1
+
 -- One byte more: in its place, or past those that are kept.
 pad-push : (bs : List ℕ) (b : ℕ) → length bs < kept → set (padded bs) (length bs) b ≡ padded (bs ++ (b ∷ []))
 unfolding padded zeros
 pad-push bs b h =
-    let m : kept ≡ length bs + suc (23 - length bs) = omega arith in
+    let m : kept ≡ length bs + suc (behind - length bs) = omega arith in
     sym (take-set-lt kept (bs ++ zeros kept) (length bs) b h)
-    ∙ ap (take kept) (set-at bs 0 (zeros 23) b (length bs) refl)
-    ∙ ap (λ k. take k (bs ++ b ∷ zeros 23)) m
-    ∙ take-append-add bs (b ∷ zeros 23) (suc (23 - length bs))
-    ∙ ap (λ t. bs ++ b ∷ t) (sym (take-append-le (23 - length bs) (zeros 23) (0 ∷ []) (omega arith)))
-    ∙ sym (take-append-add bs (b ∷ zeros kept) (suc (23 - length bs)))
+    ∙ ap (take kept) (set-at bs 0 (zeros behind) b (length bs) refl)
+    ∙ ap (λ k. take k (bs ++ b ∷ zeros behind)) m
+    ∙ take-append-add bs (b ∷ zeros behind) (suc (behind - length bs))
+    ∙ ap (λ t. bs ++ b ∷ t) (sym (take-append-le (behind - length bs) (zeros behind) (0 ∷ []) (omega arith)))
+    ∙ sym (take-append-add bs (b ∷ zeros kept) (suc (behind - length bs)))
     ∙ ap (λ k. take k (bs ++ b ∷ zeros kept)) (sym m)
     ∙ ap (take kept) (sym (append-assoc bs (b ∷ []) (zeros kept)))
 

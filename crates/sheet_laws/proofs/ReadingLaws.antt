@@ -17,7 +17,7 @@ use Rattle.model.specs.Lines.{Line, lineOf, linesOf}
 use Rattle.model.specs.Frames.{seenOf, emptyFrame, feeds, shown}
 use Rattle.model.specs.Reading.{stepOf, readLines}
 use Rattle.sheet_laws.proofs.LineLaws.{firstLine, first-line}
-use Rattle.sheet_laws.proofs.FixedMemory.{fixed-memory, no-line-feed}
+use Rattle.sheet_laws.proofs.FixedMemory.{Bounded, fixed-memory, no-line-feed}
 
 -- A line as a step reads it.
 abbrev pub stepAt : Bool → Reading → Line → LineStep
@@ -66,7 +66,7 @@ module _ (chainSheet : Bool) (s : List ℕ) (r : Reading) (at : ℕ) where
         ∙ ap (readLines chainSheet r) (sym split)
 
     -- The line has its LF, and was decoded in fixed memory.
-    module _ (ended : at + length (lineOf rest) < length s) (few : r .chain .grid .dims ≤ 4)
+    module _ (ended : at + length (lineOf rest) < length s) (few : Bounded r)
         (st : LineStep) (is : st ≡ stepOf chainSheet r (shown (feeds emptyFrame (lineOf rest)))) where
       same : st ≡ stepAt chainSheet r (firstLine rest)
       same =

@@ -14,7 +14,7 @@ use Rattle.model.specs.Values.{sizesOf, entryOf, offsetOf, offsetsOf, capacityO
 use Rattle.model.specs.Lines.{lineFeed}
 use Rattle.model.specs.Frames.{digitsOf, framed}
 use Rattle.model.specs.Numbers.{halfBytes, wordBytes, pattern}
-use Rattle.model.specs.Writing.{gridLine, offsetLine, capacityLine, kernelLine, chainLines, sheetOf}
+use Rattle.model.specs.Writing.{gridLine, offsetLine, capacityLine, kernelLine, chainLines, sheetOf, longestSheet}
 use Rattle.model.proofs.ListLaws.{length-tabulate}
 
 pub digits-length : (bs : List ℕ) → length (digitsOf bs) ≡ 2 * length bs
@@ -76,7 +76,7 @@ kernel-length (kernel.Scaled f) = omega arith
 kernel-length (kernel.Blend g) = omega arith
 
 -- An `01` line of 37 characters, 32 `02` lines of 19, 31 `03` lines of 11 and an `04` line of 21.
-pub sheet-length : (c : Chain) → c .grid .dims ≤ 4 → c .window .count ≤ 32 → length (sheetOf c) ≤ 1007
+pub sheet-length : (c : Chain) → c .grid .dims ≤ 4 → c .window .count ≤ 32 → length (sheetOf c) ≤ longestSheet
 unfolding sheetOf chainLines flatMap gridLine sizesOf offsetsOf offsetOf capacitiesOf
 sheet-length c dims count =
     let offsets = map offsetLine (offsetsOf (c .grid .dims) (c .window)) in

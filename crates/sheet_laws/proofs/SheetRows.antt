@@ -6,7 +6,7 @@ use native.Mathlib.Omega.{arith}
 use lib.IntN.{ℤ}
 use lib.ListN.{take, getD}
 use lib.Seq.{take-length}
-use borrow.Author.Tests.{ne-eqb, le-leb, lt-leb, lt-ltb, le-ltb}
+use borrow.Author.Tests.{lt-ltb, le-ltb}
 use Rattle.model.specs.declared.Chain.{Chain}
 use Rattle.model.specs.declared.Grid.{Grid}
 use Rattle.model.specs.declared.Window.{Window}
@@ -15,7 +15,7 @@ use Rattle.model.specs.Values.{sizesOf, entryOf, offsetOf, offsetsOf, capacityO
 use Rattle.model.specs.Frames.{framed}
 use Rattle.model.specs.Numbers.{halfBytes, wordBytes, pattern}
 use Rattle.model.specs.Writing.{gridLine, offsetLine, capacityLine, kernelLine, chainLines, sheetOf}
-use Rattle.sheet_laws.specs.Rows.{gridRow, offsetRow, rowAt, lenAt, lineAt, linesFrom}
+use Rattle.sheet_laws.specs.Rows.{gridRow, offsetRow, rowOf, lenOf, partAt, lineAt, linesFrom}
 
 -- Up to four words and halves are the front of four.
 four-words : (d : ℕ) (f : ℕ → ℕ) → d ≤ 4
@@ -40,7 +40,7 @@ four-halves (suc (suc (suc (suc zero)))) f h = refl
 four-halves (suc (suc (suc (suc (suc d))))) f h = absurd (omega arith)
 
 -- A line is the front of its row.
-grid-front : (g : Grid) → g .dims ≤ 4 → gridLine g ≡ take (2 + 4 * g .dims) (gridRow g)
+pub grid-front : (g : Grid) → g .dims ≤ 4 → gridLine g ≡ take (2 + 4 * g .dims) (gridRow g)
 unfolding gridLine gridRow sizesOf
 grid-front g h =
     let e : 2 + 4 * g .dims ≡ suc (suc (4 * g .dims)) = omega arith in
@@ -54,36 +54,33 @@ offset-front d w k h =
 
 -- Line m by its place.
 module _ (c : Chain) where
-  pub line-grid : lineAt c 0 ≡ take (2 + 4 * c .grid .dims) (gridRow (c .grid))
-  unfolding lineAt lenAt rowAt
-  line-grid = refl
+  pub line-grid : c .grid .dims ≤ 4 → lineAt c 0 ≡ take (2 + 4 * c .grid .dims) (gridRow (c .grid))
+  unfolding lineAt
+  line-grid few = grid-front (c .grid) few
 
   pub line-offset : (j : ℕ) → j < c .window .count → lineAt c (1 + j) ≡ take (1 + 2 * c .grid .dims) (offsetRow (c .window) j)
-  unfolding lineAt lenAt rowAt
+  unfolding lineAt lenOf rowOf partAt
   line-offset j h =
-      let z : 1 + j ≡ 0 → ⊥ = λ e. omega arith in
-      let l : 1 + j ≤ c .window .count = omega arith in
-      let e : 1 + j - 1 ≡ j = omega arith in
-      rw (ne-eqb _ _ z, le-leb _ _ l, e)
+      let e : 1 + j ≡ suc j = omega arith in
+      rw (e, lt-ltb _ _ h)
 
   pub line-capacity : (j : ℕ) → j + 1 < c .window .count → lineAt c (1 + c .window .count + j) ≡ capacityLine (capacityOf c j)
-  unfolding lineAt lenAt rowAt capacityLine wordBytes
+  unfolding lineAt lenOf rowOf partAt capacityLine wordBytes
   line-capacity j h =
       let n = c .window .count in
-      let z : 1 + n + j ≡ 0 → ⊥ = λ e. omega arith in
-      let l : n < 1 + n + j = omega arith in
-      let q : 1 + n + j < 2 * n = omega arith in
-      let e : 1 + n + j - 1 - n ≡ j = omega arith in
-      rw (ne-eqb _ _ z, lt-leb _ _ l, lt-ltb _ _ q, e)
+      let e : 1 + n + j ≡ suc (n + j) = omega arith in
+      let l : n ≤ n + j = omega arith in
+      let f : n + j - n ≡ j = omega arith in
+      rw (e, le-ltb _ _ l, f, lt-ltb _ _ h)
 
   pub line-kernel : 0 < c .window .count → lineAt c (2 * c .window .count) ≡ kernelLine (c .kernel)
-  unfolding lineAt lenAt rowAt
+  unfolding lineAt lenOf rowOf partAt
   line-kernel h =
       let n = c .window .count in
-      let z : 2 * n ≡ 0 → ⊥ = λ e. omega arith in
-      let l : n < 2 * n = omega arith in
-      let q : 2 * n ≤ 2 * n = omega arith in
-      rw (ne-eqb _ _ z, lt-leb _ _ l, le-ltb _ _ q) (take-length (kernelLine (c .kernel)))
+      let e : 2 * n ≡ suc (2 * n - 1) = omega arith in
+      let l : n ≤ 2 * n - 1 = omega arith in
+      let q : n ≤ 2 * n - 1 - n + 1 = omega arith in
+      rw (e, le-ltb _ _ l, le-ltb _ _ q) (take-length (kernelLine (c .kernel)))
 
 -- Lines one after the other.
 pub lines-join : (c : Chain) (m a b : ℕ) → linesFrom c m a ++ linesFrom c (m + a) b ≡ linesFrom c m (a + b)
@@ -161,8 +158,8 @@ module _ (c : Chain) (few : c .grid .dims ≤ 4) where
     last-line = ap (λ l. framed l ++ []) (sym (line-kernel c some))
 
     first-line : (ls : List (List ℕ)) (k : ℕ) → flatMap framed ls ≡ linesFrom c 1 k → flatMap framed (gridLine (c .grid) ∷ ls) ≡ linesFrom c 0 (suc k)
-    unfolding flatMap linesFrom
-    first-line ls k e = rw (grid-front (c .grid) few, ← line-grid c) (ap (λ t. framed (lineAt c 0) ++ t) e)
+    unfolding flatMap linesFrom lineAt
+    first-line ls k e = ap (λ t. framed (gridLine (c .grid)) ++ t) e
 
     pub sheet-rows : sheetOf c ≡ linesFrom c 0 (2 * n + 1)
     unfolding sheetOf chainLines

@@ -1,8 +1,8 @@
--- A chain sheet by the numbers of its lines: line 0 is the grid's; then come the offsets', the capacities', and last the kernel's.
+-- A chain sheet by the numbers of its lines: line 0 is the grid's; behind it come sections of lines, the offsets', the capacities', and last the kernel's.
 use Prim.Native.Nat.{ℕ, zero, suc, _+_, _-_, _*_}
 use mathlib.Core.Bool.{cond}
 use mathlib.Core.List.{List, [], _∷_, _++_}
-use lib.Dec.{eqb, leb, ltb}
+use lib.Dec.{ltb}
 use lib.ListN.{length, take, getD}
 use Rattle.model.specs.declared.Chain.{Chain}
 use Rattle.model.specs.declared.Grid.{Grid}
@@ -10,7 +10,9 @@ use Rattle.model.specs.declared.Window.{Window}
 use Rattle.model.specs.Values.{entryOf, capacityOf}
 use Rattle.model.specs.Frames.{framed}
 use Rattle.model.specs.Numbers.{halfBytes, wordBytes, pattern}
-use Rattle.model.specs.Writing.{capacityLine, kernelLine}
+use Rattle.model.specs.Writing.{gridLine, capacityLine, kernelLine}
+use Rattle.sheet_laws.specs.declared.Part.{Part}
+use Rattle.sheet_laws.specs.declared.Part.the-variants as part
 
 -- Rows: lines with all four sizes or entries, whatever the dimension count.
 unfoldable pub gridRow : Grid → List ℕ
@@ -24,25 +26,28 @@ offsetRow w k =
     ∷ (halfBytes (pattern (entryOf w k 0))
     ++ (halfBytes (pattern (entryOf w k 1)) ++ (halfBytes (pattern (entryOf w k 2)) ++ halfBytes (pattern (entryOf w k 3)))))
 
-unfoldable pub rowAt : Chain → ℕ → List ℕ
-rowAt c m =
-    let n = c .window .count in
-    cond (eqb m 0) (gridRow (c .grid))
-    (cond (leb m n) (offsetRow (c .window) (m - 1))
-    (cond (ltb m (2 * n)) (capacityLine (capacityOf c (m - 1 - n)))
-    (kernelLine (c .kernel))))
+unfoldable pub rowOf : Chain → Part → List ℕ
+rowOf c (part.Offset k) = offsetRow (c .window) k
+rowOf c (part.Capacity k) = capacityLine (capacityOf c k)
+rowOf c part.Kernel = kernelLine (c .kernel)
 
 -- How much of its row a line is.
-unfoldable pub lenAt : Chain → ℕ → ℕ
-lenAt c m =
-    let n = c .window .count in
-    cond (eqb m 0) (2 + 4 * c .grid .dims)
-    (cond (leb m n) (1 + 2 * c .grid .dims)
-    (cond (ltb m (2 * n)) 5
-    (length (kernelLine (c .kernel)))))
+unfoldable pub lenOf : Chain → Part → ℕ
+lenOf c (part.Offset k) = 1 + 2 * c .grid .dims
+lenOf c (part.Capacity k) = 5
+lenOf c part.Kernel = length (kernelLine (c .kernel))
+
+-- Line m behind the grid's, of a sheet with n offsets: the sections have n, n - 1 and 1 lines.
+unfoldable pub partAt : (n m : ℕ) → Part
+partAt n m =
+    let behind = m - n in
+    cond (ltb m n) (part.Offset m)
+    (cond (ltb (behind + 1) n) (part.Capacity behind)
+    part.Kernel)
 
 unfoldable pub lineAt : Chain → ℕ → List ℕ
-lineAt c m = take (lenAt c m) (rowAt c m)
+lineAt c zero = gridLine (c .grid)
+lineAt c (suc m) = let p = partAt (c .window .count) m in take (lenOf c p) (rowOf c p)
 
 -- So many lines from line m on.
 unfoldable pub linesFrom : Chain → ℕ → ℕ → List ℕ

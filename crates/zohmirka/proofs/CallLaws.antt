@@ -4,32 +4,28 @@ use mathlib.Core.List.{List}
 use mathlib.Core.Path.{_≡_}
 use lib.ListN.{length}
 use borrow.Author.Tests.{lt-ltb, le-ltb}
-use Rattle.model.specs.Answers.{numberOf, verdictNumber, firstOf}
+use Rattle.model.specs.Answers.{verdictNumber, firstOf}
 use Rattle.model.specs.Planning.{planOf}
 use Rattle.model.specs.Reading.{readRequest, readChain}
 use Rattle.model.specs.Writing.{Written, writeOf}
-use Rattle.model.specs.Running.{runOf}
 use Rattle.model.specs.declared.Answer.the-variants as answer
-use Rattle.model.specs.declared.Chain.{Chain}
-use Rattle.model.specs.declared.Outcome.{Outcome}
 use Rattle.model.specs.declared.Planned.{Planned}
-use Rattle.model.specs.declared.Ran.{Ran}
 use Rattle.model.specs.declared.ReadChain.{ReadChain}
 use Rattle.model.specs.declared.ReadRequest.{ReadRequest}
 use Rattle.model.specs.declared.Refusal.{Refusal}
 use Rattle.model.specs.declared.Refusal.the-variants as refusal
-use Rattle.model.specs.declared.State.{State}
 use Rattle.model.specs.declared.Verdict.the-variants as verdict
 use Rattle.model.specs.declared.Wrote.{Wrote}
-use Rattle.runner.specs.Runs.{ranOf}
-use Rattle.zohmirka.specs.declared.Report.{Report}
-use Rattle.zohmirka.specs.Words.{stateIn, stateInto, chainWords, laid}
-use Rattle.zohmirka.specs.Calls.{planCall, Runs, reportOf, stateLeft, runValue, runSheet, readVerdict, readCall}
+use Rattle.zohmirka_words.specs.Words.{chainInto}
+use Rattle.zohmirka_reports.specs.declared.Report.{Report}
+use Rattle.zohmirka_reports.specs.Reports.{reportOf}
+use Rattle.zohmirka_runs.specs.Runs.{Runs, runValue}
+use Rattle.zohmirka.specs.Calls.{planCall, runSheet, readVerdict, readCall}
 
 module _ (request sheet : List ℕ) (r : ReadRequest) (e : r ≡ readRequest request) where
-  pub plan-refused : (n : ℕ) (x : Refusal) → r .verdict ≡ verdict.Refused x → n ≡ numberOf x
+  pub plan-refused : (n : ℕ) (x : Refusal) → r .verdict ≡ verdict.Refused x → n ≡ verdictNumber (verdict.Refused x)
       → record { answer = record { refusal = n; bytes = 0 }; sheet = sheet } ≡ planCall request sheet
-  unfolding planCall
+  unfolding planCall verdictNumber
   plan-refused n x q d = rw (← e, q, d)
 
   pub plan-written : (n : ℕ) (p : Planned) (w : Wrote) (left : List ℕ) → r .verdict ≡ verdict.Accepted → p ≡ planOf (r .request)
@@ -39,17 +35,6 @@ module _ (request sheet : List ℕ) (r : ReadRequest) (e : r ≡ readRequest req
   plan-written n p w left q d f g = rw (← e, q, ← d, ← f, g)
 
 module _ (state store cells out : List ℕ) (allowance : ℕ) where
-  module _ (c : Chain) (s : State) (ran : Ran) (store′ out′ : List ℕ) (e : s ≡ stateIn state) (d : ranOf ran store′ out′ ≡ runOf c s store cells out allowance) where
-    pub run-refused : (x : Refusal) (r : Report) → ran .answer ≡ answer.Refused x → r ≡ reportOf (answer.Refused x)
-        → record { report = r; state = state; store = store′; out = out′ } ≡ runValue state store cells out allowance c
-    unfolding runValue stateLeft
-    run-refused x r q f = rw (← e, ← d, q, f)
-
-    pub run-ended : (o : Outcome) (r : Report) (state′ : List ℕ) → ran .answer ≡ answer.Ended o → state′ ≡ stateInto (ran .state) state → r ≡ reportOf (answer.Ended o)
-        → record { report = r; state = state′; store = store′; out = out′ } ≡ runValue state store cells out allowance c
-    unfolding runValue stateLeft
-    run-ended o r state′ q g f = rw (← e, ← d, q, g, f)
-
   module _ (sheet : List ℕ) (read : ReadChain) (e : read ≡ readChain sheet) where
     pub sheet-refused : (x : Refusal) (r : Report) → read .verdict ≡ verdict.Refused x → r ≡ reportOf (answer.Refused x)
         → record { report = r; state = state; store = store; out = out } ≡ runSheet state store cells out allowance sheet
@@ -62,15 +47,15 @@ module _ (state store cells out : List ℕ) (allowance : ℕ) where
     sheet-run ran q f = rw (← e, q, f)
 
 module _ (sheet chain : List ℕ) (read : ReadChain) (e : read ≡ readChain sheet) where
-  pub read-refused : (n : ℕ) (x : Refusal) → read .verdict ≡ verdict.Refused x → n ≡ numberOf x → record { refusal = n; chain = chain } ≡ readCall sheet chain
+  pub read-refused : (n : ℕ) (x : Refusal) → read .verdict ≡ verdict.Refused x → n ≡ verdictNumber (verdict.Refused x) → record { refusal = n; chain = chain } ≡ readCall sheet chain
   unfolding readCall readVerdict verdictNumber
   read-refused n x q f = rw (← e, q, f)
 
   module _ (q : read .verdict ≡ verdict.Accepted) where
-    pub read-short : (n : ℕ) → length chain < 168 → n ≡ numberOf refusal.ShortOutput → record { refusal = n; chain = chain } ≡ readCall sheet chain
+    pub read-short : (n : ℕ) → length chain < 168 → n ≡ verdictNumber (verdict.Refused refusal.ShortOutput) → record { refusal = n; chain = chain } ≡ readCall sheet chain
     unfolding readCall readVerdict verdictNumber firstOf
     read-short n h f = rw (← e, q, lt-ltb _ _ h, f)
 
-    pub read-written : (chain′ : List ℕ) → 168 ≤ length chain → chain′ ≡ laid (chainWords (read .chain)) chain → record { refusal = 0; chain = chain′ } ≡ readCall sheet chain
-    unfolding readCall readVerdict verdictNumber firstOf
-    read-written chain′ h f = rw (← e, q, le-ltb _ _ h, f)
+    pub read-written : (chain′ : List ℕ) → 168 ≤ length chain → chain′ ≡ chainInto (read .chain) chain → record { refusal = 0; chain = chain′ } ≡ readCall sheet chain
+    unfolding readCall readVerdict verdictNumber firstOf chainInto
+    read-written chain′ h f = rw (← e, q, f, le-ltb _ _ h)

@@ -1,6 +1,1 @@
-pub mod WordLaws
 pub mod CallLaws
-pub mod ReadChains
-pub mod ThereAndBack
-pub mod Promised
-pub mod Sizes

@@ -3,21 +3,18 @@ use Prim.Native.Nat.{ℕ}
 use mathlib.Core.List.{List, [], _∷_}
 use lib.Dec.{ltb}
 use lib.ListN.{length}
-use Rattle.model.specs.Answers.{numberOf, verdictNumber, outcomeCase, answerNumber, answerCounts, check, firstOf, byVerdict}
+use Rattle.model.specs.Answers.{numberOf, verdictNumber, check, firstOf, byVerdict}
 use Rattle.model.specs.Planning.{planOf}
 use Rattle.model.specs.Reading.{readRequest, readChain}
 use Rattle.model.specs.Writing.{writeOf}
-use Rattle.model.specs.Running.{runOf}
-use Rattle.model.specs.declared.Answer.{Answer}
 use Rattle.model.specs.declared.Answer.the-variants as answer
-use Rattle.model.specs.declared.Chain.{Chain}
 use Rattle.model.specs.declared.Refusal.the-variants as refusal
-use Rattle.model.specs.declared.State.{State}
 use Rattle.model.specs.declared.Verdict.{Verdict}
 use Rattle.model.specs.declared.Verdict.the-variants as verdict
-use Rattle.zohmirka.specs.declared.Report.{Report}
-use Rattle.zohmirka.specs.declared.Sheet.{Sheet}
-use Rattle.zohmirka.specs.Words.{stateIn, stateInto, chainIn, chainSize, chainWords, laid}
+use Rattle.zohmirka_words.specs.Words.{chainIn, chainSize, chainWords, laid}
+use Rattle.zohmirka_reports.specs.declared.Sheet.{Sheet}
+use Rattle.zohmirka_reports.specs.Reports.{reportOf}
+use Rattle.zohmirka_runs.specs.Runs.{Runs, runValue}
 
 abbrev pub version : ℕ
 version = 1
@@ -39,48 +36,17 @@ planCall request sheet =
 abbrev pub judgeCall : (sheet : List ℕ) → ℕ
 judgeCall sheet = verdictNumber (readChain sheet .verdict)
 
--- The report of a run call.
-unfoldable pub caseOf : Answer → ℕ
-caseOf (answer.Ended o) = outcomeCase o
-caseOf (answer.Refused x) = 5
-
-unfoldable pub reportOf : Answer → Report
-reportOf a = record {
-  refusal = answerNumber a;
-  outcome = caseOf a;
-  cells = answerCounts a .cells;
-  firings = answerCounts a .firings;
-  clocks = answerCounts a .clocks;
-}
-
--- What a run call leaves: its report, and the state, the store and the output that it was lent.
-pub record Runs : Type 0 where
-  pub report : Report
-  pub state : List ℕ
-  pub store : List ℕ
-  pub out : List ℕ
-
-unfoldable pub stateLeft : Answer → State → List ℕ → List ℕ
-stateLeft (answer.Ended o) s ws = stateInto s ws
-stateLeft (answer.Refused x) s ws = ws
-
 module _ (state store cells out : List ℕ) (allowance : ℕ) where
-  -- A call on the chain c.
-  unfoldable pub runValue : Chain → Runs
-  runValue c =
-      let ran = runOf c (stateIn state) store cells out allowance in
-      record { report = reportOf (ran .answer); state = stateLeft (ran .answer) (ran .state) state; store = ran .store; out = ran .output }
-
-  -- A call on the chain of a sheet: 1 to 9 of the sheet first.
+  -- A run call on the chain of a sheet: 1 to 9 of the sheet first.
   unfoldable pub runSheet : (sheet : List ℕ) → Runs
   runSheet sheet =
       let read = readChain sheet in
-      let ran = runValue (read .chain) in
+      let ran = runValue state store cells out allowance (read .chain) in
       byVerdict (read .verdict) ran (λ x. record { report = reportOf (answer.Refused x); state = state; store = store; out = out })
 
   -- A call on a chain given by its words.
   abbrev pub runChain : (chain : List ℕ) → Runs
-  runChain chain = runValue (chainIn chain)
+  runChain chain = runValue state store cells out allowance (chainIn chain)
 
 -- Reading a chain sheet into the words of its chain: 1 to 9 of the sheet, then 12.
 pub record Reads : Type 0 where

@@ -1,11 +1,12 @@
 use mathlib.Core.Path.{_≡_}
 use lib.ListN.{length}
 use borrow.Author.Needs.{needs}
+use Rattle.model.specs.Programs.{blockPlaces}
 use Rattle.plan.proofs.main.Statement.{statement}
 use Rattle.plan.proofs.main.Tie as tie
 
 abbrev Inv-loop : tie.InvT-loop
-Inv-loop block₀ text arriving₀ turns₀ block arriving turns = length block ≡ 65536
+Inv-loop block₀ text arriving₀ turns₀ block arriving turns = length block ≡ blockPlaces
 
 abbrev μ-loop : tie.MeasureT-loop
 μ-loop block₀ text arriving₀ turns₀ block arriving turns = turns

@@ -1,5 +1,5 @@
 use borrow.Author.Needs.{needs}
-use Rattle.geometry.proofs.ShapeLaws.{some-references, few-references}
+use Rattle.geometry.proofs.GridLaws.{some-references, few-references}
 use Rattle.planner.proofs.DistanceLaws.{positions-fall, differences-are}
 use Rattle.planner.proofs.distances.Statement.{statement}
 use Rattle.planner.proofs.distances.Tie as tie

@@ -3,12 +3,14 @@ use mathlib.Core.Path.{_≡_}
 use native.Mathlib.Omega.{arith}
 use lib.ListN.{length}
 use borrow.Author.Needs.{needs}
+use Rattle.model.specs.Programs.{blockPlaces, storePlaces, cellPlaces, wordPlaces, runTextPlaces}
 use Rattle.run.proofs.main.Statement.{statement}
 use Rattle.run.proofs.main.Tie as tie
 
 abbrev Inv-loop : tie.InvT-loop
 Inv-loop block₀ store₀ cells₀ words₀ text₀ job₀ at₀ len₀ turns₀ block store cells words text job at len turns =
-    (length block ≡ 65536) × (length store ≡ 16384) × (length cells ≡ 6144) × (length words ≡ 8192) × (length text ≡ 155648) × (len ≤ 65536)
+    (length block ≡ blockPlaces) × (length store ≡ storePlaces) × (length cells ≡ cellPlaces) × (length words ≡ wordPlaces) × (length text ≡ runTextPlaces)
+    × (len ≤ blockPlaces)
 
 abbrev μ-loop : tie.MeasureT-loop
 μ-loop block₀ store₀ cells₀ words₀ text₀ job₀ at₀ len₀ turns₀ block store cells words text job at len turns = turns

@@ -1,16 +1,12 @@
--- 3 to 9 turn the chain back, or the call goes on. Assumes nothing.
-use mathlib.Core.Path.{_≡_, sym, _∙_, ap}
-use Rattle.model.specs.declared.Verdict.{Verdict}
-use Rattle.model.specs.Judging.{judgeChain}
-use Rattle.planner.specs.declared.Examined.{Examined}
-use Rattle.planner.proofs.JudgeLaws.{examined-verdict, examined-shape, examined-centre}
-use Rattle.runner.proofs.RunLaws.{run-refused}
+-- A number turns the call back, or it goes on. Assumes nothing.
+use mathlib.Core.Path.{sym, _∙_}
+use Rattle.runner.proofs.RunLaws.{by-refusal}
 use borrow.Author.Needs.{needs}
 use Rattle.runner.proofs.run.Statement.{statement}
 use Rattle.runner.proofs.run.Tie as tie
 
-examine-requires : tie.Need-examine-requires
-examine-requires c κs = search needs
+prepare-requires : tie.Need-prepare-requires
+prepare-requires c κs = search needs
 
 enum-known-verdict : tie.Need-enum-known-verdict
 enum-known-verdict c = search needs
@@ -18,27 +14,26 @@ enum-known-verdict c = search needs
 enum-told : tie.Need-enum-told
 enum-told c = search needs
 
--- The verdict is the chain's.
-verdict-is : (c : tie.After-examine) (v : Verdict) → c .examine .result .verdict ≡ v → judgeChain (c .before .before .before .before .args .chain) ≡ v
-verdict-is c v e =
-    sym (examined-verdict (c .before .before .before .before .args .chain)) ∙ ap (λ (x : Examined). x .verdict) (sym (c .examine .ensures)) ∙ e
-
-run-accepted-requires : tie.Need-run-accepted-requires
-run-accepted-requires c κs =
-    let t = c .before .before .before in
-    let x = t .before .before in
-    let ok = verdict-is x _ (t .enum-told .given .1) in
-    let a = x .before .before .before .before .args in
-    (ok, (ap (λ (e : Examined). e .shape) (x .examine .ensures) ∙ examined-shape (a .chain) ok, ap (λ (e : Examined). e .centre) (x .examine .ensures) ∙ examined-centre (a .chain) ok))
-
-returns : tie.Need-returns
-returns c = run-refused _ _ _ _ _ _ _ (verdict-is (c .before .before .before) _ (c .before .verdict .given .1))
+run-ready-requires : tie.Need-run-ready-requires
+run-ready-requires c κs =
+    let t = c .before .before .before .before .before .before .before .before .before .before in
+    let p = t .before .before in
+    (sym (p .prepare .ensures .verdict-is) ∙ t .enum-told .given .1, p .prepare .ensures .begun (t .enum-told .given .1))
 
 same-length : tie.Need-same-length
 same-length c = search needs
 
+returns : tie.Need-returns
+returns c =
+    let v = c .before in
+    let p = v .before .before in
+    by-refusal _ _ _ _ _ _ _ (sym (p .prepare .ensures .verdict-is) ∙ v .verdict .given .1)
+
 same-length-2 : tie.Need-same-length-2
 same-length-2 c = search needs
+
+same-length-3 : tie.Need-same-length-3
+same-length-3 c = search needs
 
 returns-2 : tie.Need-returns-2
 returns-2 c = search needs
@@ -47,11 +42,12 @@ pub run-spec : {M : Type 1} → statement M
 run-spec =
     tie.close
     (tie.spec
-    examine-requires
+    prepare-requires
     enum-known-verdict
     enum-told
-    run-accepted-requires
-    returns
+    run-ready-requires
     same-length
+    returns
     same-length-2
+    same-length-3
     returns-2)

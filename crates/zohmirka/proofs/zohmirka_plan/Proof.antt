@@ -9,8 +9,8 @@ read-request-requires c κs = search needs
 enum-known-verdict : tie.Need-enum-known-verdict
 enum-known-verdict c = search needs
 
-number-of-requires : tie.Need-number-of-requires
-number-of-requires c κs = search needs
+number-requires : tie.Need-number-requires
+number-requires c κs = search needs
 
 enum-told : tie.Need-enum-told
 enum-told c = search needs
@@ -21,14 +21,14 @@ plan-requires c κs = search needs
 write-chain-requires : tie.Need-write-chain-requires
 write-chain-requires c κs = search needs
 
-number-requires : tie.Need-number-requires
-number-requires c κs = search needs
+number-requires-2 : tie.Need-number-requires-2
+number-requires-2 c κs = search needs
 
 returns : tie.Need-returns
 returns c =
     let v = c .before .before in
     let r = v .before .before in
-    plan-refused _ _ _ (r .read-request .ensures) _ _ (v .verdict .given .1) (c .number-of .ensures)
+    plan-refused _ _ _ (r .read-request .ensures) _ _ (v .verdict .given .1) (c .number .ensures)
 
 same-length : tie.Need-same-length
 same-length c = search needs
@@ -39,7 +39,7 @@ returns-2 c =
     let p = w .before .before in
     let t = p .before in
     let r = t .before .before in
-    plan-written _ _ _ (r .read-request .ensures) _ _ _ _ (t .enum-told .given .1) (p .plan .ensures) (w .write-chain .ensures) (c .number .ensures)
+    plan-written _ _ _ (r .read-request .ensures) _ _ _ _ (t .enum-told .given .1) (p .plan .ensures) (w .write-chain .ensures) (c .number2 .ensures)
 
 pub zohmirka-plan-spec : {M : Type 1} → statement M
 zohmirka-plan-spec =
@@ -47,11 +47,11 @@ zohmirka-plan-spec =
     (tie.spec
     read-request-requires
     enum-known-verdict
-    number-of-requires
+    number-requires
     enum-told
     plan-requires
     write-chain-requires
-    number-requires
+    number-requires-2
     returns
     same-length
     returns-2)

@@ -9,20 +9,20 @@ read-chain-requires c κs = search needs
 enum-known-verdict : tie.Need-enum-known-verdict
 enum-known-verdict c = search needs
 
-number-of-requires : tie.Need-number-of-requires
-number-of-requires c κs = search needs
+number-requires : tie.Need-number-requires
+number-requires c κs = search needs
 
 enum-told : tie.Need-enum-told
 enum-told c = search needs
 
-number-of-requires-2 : tie.Need-number-of-requires-2
-number-of-requires-2 c κs = search needs
+number-requires-2 : tie.Need-number-requires-2
+number-requires-2 c κs = search needs
 
 returns : tie.Need-returns
 returns c =
     let t = c .before .before in
     let r = t .before .before in
-    read-short _ _ _ (r .read-chain .ensures) (t .enum-told .given .1) _ (c .before .if1 .taken) (c .number-of2 .ensures)
+    read-short _ _ _ (r .read-chain .ensures) (t .enum-told .given .1) _ (c .before .if1 .taken) (c .number2 .ensures)
 
 chain-out-requires : tie.Need-chain-out-requires
 chain-out-requires c κs = search needs
@@ -31,7 +31,7 @@ returns-2 : tie.Need-returns-2
 returns-2 c =
     let v = c .before .before in
     let r = v .before .before in
-    read-refused _ _ _ (r .read-chain .ensures) _ _ (v .verdict .given .1) (c .number-of .ensures)
+    read-refused _ _ _ (r .read-chain .ensures) _ _ (v .verdict .given .1) (c .number .ensures)
 
 same-length : tie.Need-same-length
 same-length c = search needs
@@ -50,9 +50,9 @@ zohmirka-read-chain-spec =
     (tie.spec
     read-chain-requires
     enum-known-verdict
-    number-of-requires
+    number-requires
     enum-told
-    number-of-requires-2
+    number-requires-2
     returns
     chain-out-requires
     returns-2

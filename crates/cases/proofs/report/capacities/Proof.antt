@@ -13,14 +13,14 @@ abbrev μ-loop : tie.MeasureT-loop
 loop-holds : tie.Need-loop-holds Inv-loop μ-loop
 loop-holds c = search needs
 
-mul-wide : tie.Need-mul-wide Inv-loop μ-loop
-mul-wide c = search needs
+mul-wide-usize : tie.Need-mul-wide-usize Inv-loop μ-loop
+mul-wide-usize c = search needs
 
-element-copy-out-wide : tie.Need-element-copy-out-wide Inv-loop μ-loop
-element-copy-out-wide c = search needs
+element-copy-out-wide-usize : tie.Need-element-copy-out-wide-usize Inv-loop μ-loop
+element-copy-out-wide-usize c = search needs
 
-wide-requires : tie.Need-wide-requires Inv-loop μ-loop
-wide-requires c κs = search needs
+wide-usize-requires : tie.Need-wide-usize-requires Inv-loop μ-loop
+wide-usize-requires c κs = search needs
 
 capacity-requires : tie.Need-capacity-requires Inv-loop μ-loop
 capacity-requires c κs = search needs
@@ -47,9 +47,9 @@ capacities-spec =
     Inv-loop
     μ-loop
     loop-holds
-    mul-wide
-    element-copy-out-wide
-    wide-requires
+    mul-wide-usize
+    element-copy-out-wide-usize
+    wide-usize-requires
     capacity-requires
     plus-requires
     add-k

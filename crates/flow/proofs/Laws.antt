@@ -1,0 +1,105 @@
+-- The laws of the chain of filters. `Ran L (fresh L) t s`: t clocks made from fresh counters lead to s.
+use Prim.Native.Nat.{ℕ, zero, suc, _+_, _*_, _≤_, _<_}
+use mathlib.Core.Bool.{true, false, false≢true}
+use mathlib.Core.Logic.{_↔_}
+use mathlib.Core.Path.{_≡_, sym, _∙_}
+use native.Mathlib.Omega.{arith}
+use Rattle.model.specs.Lists.{sum}
+use Rattle.model.specs.Clock.{Layout, Counters, fires, moves, fresh}
+use Rattle.flow.specs.Machine.{first, live, run, made, Ran, Lawful, Flows, FlowsUpTo, Planned, Invariant}
+use Rattle.flow.proofs.Tests.{fires-yes, yes-fires, yes-moves}
+use Rattle.flow.proofs.Invariant.{fresh-invariant, ran-keeps, first-below}
+use Rattle.flow.proofs.Progress.{next-rises, fires-flows}
+use Rattle.flow.proofs.Bounds.{ran-sum, sum-within, sum-below, ran-most}
+use Rattle.flow.proofs.Timing.{fresh-first, ran-slow, fired-passed, passed-fired, ran-last, fires-first}
+use Rattle.flow.proofs.Planned.{all-flow, first-fires, ran-first}
+-- What `live` and `clock` say, and how runs are put together.
+pub use Rattle.flow.proofs.Tests.{live-yes, yes-live, clock-live}
+pub use Rattle.flow.proofs.Runs.{still, step, join, made-ran, stopped-same}
+
+module _ (L : Layout) where
+  open Layout L using (wants, filters, cells, iterations)
+
+  -- Each clock made raises the sum of the counters.
+  pub made-sum : (t : ℕ) (s : Counters) → made L t s + sum (s .passed) ≤ sum (run L t s .passed)
+  made-sum t s = ran-sum L (made-ran L t s)
+
+  -- Where an iteration's condition holds, reference 0 reads its newest cell.
+  pub newest-first : (f : ℕ) → Flows L f → (k : ℕ) → k < filters → wants f k ≤ wants f 0
+  newest-first f flows zero filter = omega arith
+  newest-first f flows (suc k) filter = omega (arith, newest-first f flows k (omega arith), flows k filter)
+
+  -- On a planned layout no condition fails.
+  pub planned-flows : Planned L → FlowsUpTo L iterations
+  planned-flows planned = record { most = omega arith; before = all-flow L planned; ends = omega arith }
+
+  module _ (lawful : Lawful L) where
+    -- Of counters that have the invariant.
+    module _ {s : Counters} (inv : Invariant L s) where
+      -- Where the condition on the next iteration holds, something moves.
+      pub progress : s .fired < iterations → Flows L (s .fired) → moves L s ≡ true
+      progress left flows = yes-moves L s (next-rises L lawful s inv left flows)
+
+      -- Where it fails, that iteration does not fire.
+      pub block : fires L s ≡ true → Flows L (s .fired)
+      block e = fires-flows L s inv (fires-yes L s e)
+
+      -- While a firing is left, so is a cell for filter 0, and the sum of the counters is below its most.
+      pub room-left : s .fired < iterations → (first (s .passed) < cells) × (sum (s .passed) < filters * cells)
+      room-left left = (first-below L lawful s inv left, sum-below L lawful s inv left)
+
+    -- Of every run from fresh counters.
+    module _ {t : ℕ} {s : Counters} (ran : Ran L (fresh L) t s) where
+      -- The counters have the invariant.
+      pub ran-invariant : Invariant L s
+      ran-invariant = ran-keeps L lawful ran (fresh-invariant L)
+
+      -- Clocks made are "over a whole run at most n times the number of cells",
+      pub few-clocks : t ≤ filters * cells
+      few-clocks = omega (arith, ran-sum L ran, sum-within L s ran-invariant)
+
+      -- and fewer while a firing is left.
+      pub fewer-clocks : s .fired < iterations → t < filters * cells
+      fewer-clocks left = omega (arith, ran-sum L ran, sum-below L lawful s ran-invariant left)
+
+      -- No iteration fires in a clock before the position of a cell that it reads; clocks are numbered from 0.
+      pub not-early : (j k : ℕ) → j < s .fired → k < filters → wants j k < t
+      not-early j k fired filter = omega (arith, fired-passed L lawful s ran-invariant j k fired filter, ran-slow L ran, fresh-first L)
+
+      module _ {B : ℕ} (flows : FlowsUpTo L B) where
+        -- At most B firings are made.
+        pub no-more : s .fired ≤ B
+        unfolding fresh
+        no-more = ran-most L lawful flows ran (fresh-invariant L) (omega arith)
+
+        -- While fewer are made, there is a clock to make.
+        pub goes-on : s .fired < B → live L s ≡ true
+        goes-on fewer = let left : s .fired < iterations = omega arith in yes-live L s left (progress ran-invariant left (flows .before (s .fired) fewer))
+
+        -- Where there is none, B firings are made.
+        pub stopped : live L s ≡ false → s .fired ≡ B
+        stopped dead = let no-less : ¬ (s .fired < B) = λ fewer. false≢true (sym dead ∙ goes-on fewer) in omega (arith, no-more)
+
+      -- Of every such run on a planned layout; there reference 0 reads the newest cell (`newest-first`).
+      module _ (planned : Planned L) where
+        -- Filter 0 takes a cell in every clock.
+        pub planned-first : first (s .passed) ≡ t
+        planned-first = omega (arith, ran-first L planned lawful ran (fresh-invariant L), fresh-first L)
+
+        -- An iteration has fired just if its newest cell's position is below t.
+        pub just-in-time : (j : ℕ) → j < iterations → (j < s .fired) ↔ (wants j 0 < t)
+        just-in-time j iteration =
+            (λ fired. not-early j 0 fired (lawful .some), λ below. passed-fired L lawful s ran-invariant j iteration (omega (arith, planned-first)))
+
+        -- The coming clock, number t, fires just if the next iteration's newest cell has position t.
+        pub fires-when : s .fired < iterations → (fires L s ≡ true) ↔ (wants (s .fired) 0 ≡ t)
+        fires-when left = (
+          λ e. omega (arith, planned-first, fires-first L lawful s ran-invariant (fires-yes L s e)),
+          λ e. yes-fires L s (first-fires L planned lawful s ran-invariant left (omega (arith, planned-first))),
+        )
+
+        -- Where there is no clock to make, the last one made was the last iteration's.
+        pub finish-clocks : {m : ℕ} → iterations ≡ suc m → live L s ≡ false → t ≡ suc (wants m 0)
+        finish-clocks {m} e dead =
+            let all-fired = stopped (planned-flows planned) dead in
+            omega (arith, planned-first, not-early m 0 (omega arith) (lawful .some), ran-last L lawful e ran (fresh-invariant L) (omega (arith, fresh-first L)))

@@ -1,0 +1,168 @@
+-- Laws of the checks in their groups.
+use Prim.Native.Nat.{ℕ, _-_, _<_}
+use mathlib.Core.Bool.{Bool, false, cond}
+use mathlib.Core.List.{List, _++_, append-assoc}
+use mathlib.Core.Path.{_≡_, refl, sym, _∙_, ap}
+use native.Mathlib.Omega.{arith}
+use lib.Dec.{ltb}
+use borrow.Author.Tests.{eqb-false}
+use Rattle.model.specs.Lists.{tabulate}
+use Rattle.model.specs.Geometry.{iterationCount}
+use Rattle.model.specs.Kernels.{centreOf}
+use Rattle.model.specs.Values.{Trimmed, sizesOf, offsetOf, offsetsOf, capacitiesOf, trimmed}
+use Rattle.model.specs.Answers.{firstOf, byVerdict}
+use Rattle.model.specs.Judging.{badGrid, badCount, noIteration, tooLarge, centred, windowChecks, kernelChecks, capacityChecks, valueChecks, judged, judgeChain}
+use Rattle.model.specs.declared.Grid.{Grid}
+use Rattle.model.specs.declared.Window.{Window}
+use Rattle.model.specs.declared.Kernel.{Kernel}
+use Rattle.model.specs.declared.Chain.{Chain}
+use Rattle.model.specs.declared.Refusal.{Refusal}
+use Rattle.model.specs.declared.Refusal.the-variants as refusal
+use Rattle.model.specs.declared.Verdict.{Verdict}
+use Rattle.model.specs.declared.Verdict.the-variants as verdict
+use Rattle.model.proofs.ListLaws.{length-tabulate}
+use Rattle.model.proofs.CheckLaws.{then-checks, both-pass, WindowPasses, window-passes}
+use Rattle.geometry.specs.Parts.{numberAt}
+use Rattle.geometry.specs.Windows.{centreIn}
+use Rattle.shape.specs.Shapes.{shapeOf, onGrid, surveyOf}
+use Rattle.shape.specs.declared.Survey.{Survey}
+use Rattle.geometry.proofs.OffsetLaws.{below-count}
+use Rattle.shape.proofs.Answers.{centre-is, shape-is}
+use Rattle.judging.specs.Checks.{judgedKernel, judgedWindow, tooLargeIn, judgedRest, examinedOf}
+
+-- 9 is looked at where 3 to 8 pass.
+module _ (t : Trimmed) where
+  by-capacities : judged t
+      ≡ byVerdict (firstOf (windowChecks t ++ kernelChecks (t .kernel) (centred (t .offsets)))) (firstOf (capacityChecks (t .capacities))) verdict.Refused
+  unfolding judged valueChecks
+  by-capacities =
+      ap firstOf (sym (append-assoc (windowChecks t) (kernelChecks (t .kernel) (centred (t .offsets))) (capacityChecks (t .capacities))))
+      ∙ then-checks (windowChecks t ++ kernelChecks (t .kernel) (centred (t .offsets))) (capacityChecks (t .capacities))
+
+  pub judged-refused : (x : Refusal) → firstOf (windowChecks t ++ kernelChecks (t .kernel) (centred (t .offsets))) ≡ verdict.Refused x → verdict.Refused x ≡ judged t
+  judged-refused x e = sym (rw e at by-capacities)
+
+  pub judged-capacities : firstOf (windowChecks t ++ kernelChecks (t .kernel) (centred (t .offsets))) ≡ verdict.Accepted
+      → firstOf (capacityChecks (t .capacities)) ≡ judged t
+  judged-capacities e = sym (rw e at by-capacities)
+
+-- 9 is looked at where 7 and 8 pass.
+module _ (k : Kernel) (b : Bool) (capacities : List ℕ) where
+  by-kernel-first : judgedRest k b capacities ≡ byVerdict (judgedKernel k b) (cond (tooLarge capacities) (verdict.Refused refusal.TooLarge) verdict.Accepted) verdict.Refused
+  unfolding judgedRest judgedKernel capacityChecks firstOf
+  by-kernel-first = then-checks (kernelChecks k b) (capacityChecks capacities)
+
+  pub rest-refused : (x : Refusal) → judgedKernel k b ≡ verdict.Refused x → verdict.Refused x ≡ judgedRest k b capacities
+  rest-refused x e = sym (rw e at by-kernel-first)
+
+  pub rest-capacities : (large : Bool) → judgedKernel k b ≡ verdict.Accepted → tooLarge capacities ≡ large
+      → cond large (verdict.Refused refusal.TooLarge) verdict.Accepted ≡ judgedRest k b capacities
+  rest-capacities large e f = sym (rw (e, f) at by-kernel-first)
+
+-- 9 of an array, where 4 lets the count pass.
+pub too-large-is : (count : ℕ) (capacities : List ℕ) → badCount count ≡ false → tooLargeIn count capacities ≡ tooLarge (tabulate (count - 1) (numberAt capacities))
+unfolding tooLargeIn
+too-large-is count capacities e = rw e
+
+-- What a survey answers is the first of 3 to 6.
+module _ (g : Grid) (w : Window) where
+  pub survey-verdict : surveyOf g w .verdict ≡ firstOf (windowChecks (onGrid g w))
+  unfolding surveyOf
+  survey-verdict = go (firstOf (windowChecks (onGrid g w))) refl
+    where
+      go : (v : Verdict) → firstOf (windowChecks (onGrid g w)) ≡ v → surveyOf g w .verdict ≡ firstOf (windowChecks (onGrid g w))
+      go verdict.Accepted e = rw e
+      go (verdict.Refused x) e = rw e
+
+  survey-centre : firstOf (windowChecks (onGrid g w)) ≡ verdict.Accepted → surveyOf g w .centre ≡ centreOf (offsetsOf (g .dims) w)
+  unfolding surveyOf
+  survey-centre e = rw e
+
+  pub survey-count : surveyOf g w .verdict ≡ verdict.Accepted → badCount (w .count) ≡ false
+  survey-count e = window-passes (onGrid g w) (sym survey-verdict ∙ e) .count
+
+  -- There is a centre exactly if its number is below the count.
+  survey-centred : surveyOf g w .verdict ≡ verdict.Accepted → ltb (surveyOf g w .centre) (w .count) ≡ centred (offsetsOf (g .dims) w)
+  unfolding offsetsOf
+  survey-centred e =
+      ap (λ (m : ℕ). ltb m (w .count)) (survey-centre (sym survey-verdict ∙ e))
+      ∙ ap (ltb (centreOf (offsetsOf (g .dims) w))) (sym (length-tabulate (w .count) (offsetOf (g .dims) w))) ∙ below-count (offsetsOf (g .dims) w)
+
+  -- 7 and 8 are looked at where 3 to 6 pass.
+  module _ (k : Kernel) where
+    by-kernel : judgedWindow g w k ≡ byVerdict (surveyOf g w .verdict) (judgedKernel k (centred (offsetsOf (g .dims) w))) verdict.Refused
+    unfolding judgedWindow judgedKernel
+    by-kernel = rw survey-verdict (then-checks (windowChecks (onGrid g w)) (kernelChecks k (centred (offsetsOf (g .dims) w))))
+
+    pub window-refused : (x : Refusal) → surveyOf g w .verdict ≡ verdict.Refused x → verdict.Refused x ≡ judgedWindow g w k
+    window-refused x e = sym (rw e at by-kernel)
+
+    pub window-kernel : (v : Verdict) → surveyOf g w .verdict ≡ verdict.Accepted → v ≡ judgedKernel k (ltb (surveyOf g w .centre) (w .count)) → v ≡ judgedWindow g w k
+    window-kernel v e d = d ∙ ap (judgedKernel k) (survey-centred e) ∙ sym (rw e at by-kernel)
+
+module _ (g : Grid) (w : Window) (k : Kernel) (e : judgedWindow g w k ≡ verdict.Accepted) where
+  parts : WindowPasses (onGrid g w)
+  unfolding judgedWindow
+  parts = window-passes (onGrid g w) (both-pass (windowChecks (onGrid g w)) (kernelChecks k (centred (offsetsOf (g .dims) w))) e .0)
+
+  pub accepted-grid : badGrid (g .dims) (sizesOf g) ≡ false
+  accepted-grid = parts .grid
+
+  pub accepted-count : badCount (w .count) ≡ false
+  accepted-count = parts .count
+
+  pub accepted-iterations : 0 < iterationCount (sizesOf g) (offsetsOf (g .dims) w)
+  unfolding noIteration
+  accepted-iterations = omega (arith, eqb-false (iterationCount (sizesOf g) (offsetsOf (g .dims) w)) 0 (parts .iterates))
+
+-- A chain: its window is judged, then the rest.
+module _ (c : Chain) where
+  by-rest : judgeChain c
+      ≡ byVerdict (surveyOf (c .grid) (c .window) .verdict) (judgedRest (c .kernel) (centred (offsetsOf (c .grid .dims) (c .window))) (capacitiesOf c)) verdict.Refused
+  unfolding judgeChain judged valueChecks windowChecks trimmed judgedRest
+  by-rest = rw (survey-verdict (c .grid) (c .window)) (then-checks (windowChecks (trimmed c)) _)
+
+  -- What examining finds.
+  module _ (s : Survey) (d : s ≡ surveyOf (c .grid) (c .window)) where
+    found : (v : Verdict) → v ≡ judgeChain c → record { verdict = v; centre = s .centre; shape = s .shape } ≡ examinedOf c
+    unfolding examinedOf
+    found v e = rw (d, e)
+
+    surveyed : (v : Verdict) → s .verdict ≡ v → surveyOf (c .grid) (c .window) .verdict ≡ v
+    surveyed v e = ap (λ (t : Survey). t .verdict) (sym d) ∙ e
+
+    pub examined-refused : (x : Refusal) → s .verdict ≡ verdict.Refused x → record { verdict = verdict.Refused x; centre = s .centre; shape = s .shape } ≡ examinedOf c
+    examined-refused x e = found (verdict.Refused x) (sym (rw (surveyed (verdict.Refused x) e) at by-rest))
+
+    pub examined-rest : (v : Verdict) → s .verdict ≡ verdict.Accepted → v ≡ judgedRest (c .kernel) (ltb (s .centre) (c .window .count)) (capacitiesOf c)
+        → record { verdict = v; centre = s .centre; shape = s .shape } ≡ examinedOf c
+    examined-rest v e q =
+        let a = surveyed verdict.Accepted e in
+        found v
+        (q ∙ ap (λ (t : Survey). judgedRest (c .kernel) (ltb (t .centre) (c .window .count)) (capacitiesOf c)) d
+        ∙ ap (λ (b : Bool). judgedRest (c .kernel) b (capacitiesOf c)) (survey-centred (c .grid) (c .window) a) ∙ sym (rw a at by-rest))
+
+  pub examined-verdict : examinedOf c .verdict ≡ judgeChain c
+  unfolding examinedOf
+  examined-verdict = refl
+
+  -- Of an accepted chain it finds the centre and the shape.
+  module _ (e : judgeChain c ≡ verdict.Accepted) where
+    window-clear : firstOf (windowChecks (onGrid (c .grid) (c .window))) ≡ verdict.Accepted
+    unfolding judgeChain judged valueChecks windowChecks trimmed
+    window-clear = both-pass (windowChecks (trimmed c)) _ e .0
+
+    parts-clear : WindowPasses (onGrid (c .grid) (c .window))
+    parts-clear = window-passes (onGrid (c .grid) (c .window)) window-clear
+
+    pub examined-shape : examinedOf c .shape ≡ shapeOf (c .grid) (c .window)
+    unfolding examinedOf surveyOf noIteration
+    examined-shape =
+        let p = parts-clear in
+        rw window-clear
+        (sym (shape-is (c .grid) (c .window) (p .grid) (p .count)
+        (omega (arith, eqb-false (iterationCount (sizesOf (c .grid)) (offsetsOf (c .grid .dims) (c .window))) 0 (p .iterates)))))
+
+    pub examined-centre : examinedOf c .centre ≡ centreIn (c .grid .dims) (c .window)
+    unfolding examinedOf surveyOf
+    examined-centre = rw window-clear (sym (centre-is (c .grid) (c .window) (parts-clear .grid) (parts-clear .count)))

@@ -1,0 +1,68 @@
+// Grids and windows, written out by hand.
+ghost use Prim.Native.Nat.{_+_, _/_};
+ghost use mathlib.Core.Path.{_≡_};
+ghost use lib.ListN.{length};
+ghost use Rattle.nested.specs.Nested.{flatLoops, solidLoops};
+
+// A grid as the nested loop sees it, one plane where it has two dimensions; the iterations, each index from its first to before its end; and which
+// reference of the window is the centre, or their number if none is.
+pub struct Loops {
+    pub dims: u8,
+    pub planes: usize,
+    pub rows: usize,
+    pub columns: usize,
+    pub z_first: usize,
+    pub z_end: usize,
+    pub y_first: usize,
+    pub y_end: usize,
+    pub x_first: usize,
+    pub x_end: usize,
+    pub centre: usize,
+}
+
+// 768 by 1024.
+pub fn flat(centre: usize) -> Loops
+    ensures { λ r. ⌜ r ≡ flatLoops centre ⌝ }
+{
+    Loops {
+        dims: 2,
+        planes: 1,
+        rows: 768,
+        columns: 1024,
+        z_first: 0,
+        z_end: 1,
+        y_first: 1,
+        y_end: 767,
+        x_first: 1,
+        x_end: 1023,
+        centre,
+    }
+}
+
+// 40 by 32 by 32.
+pub fn solid(centre: usize) -> Loops
+    ensures { λ r. ⌜ r ≡ solidLoops centre ⌝ }
+{
+    Loops {
+        dims: 3,
+        planes: 40,
+        rows: 32,
+        columns: 32,
+        z_first: 1,
+        z_end: 39,
+        y_first: 1,
+        y_end: 31,
+        x_first: 1,
+        x_end: 31,
+        centre,
+    }
+}
+
+// A window is written as text: its references in falling order with a space between, each by its offset's entries for z, y and x as `+`, `0` or `-`.
+
+// How many references a window has.
+pub fn references(window: &[u8]) -> usize
+    ensures { λ r. ⌜ r ≡ length (now (window .entry)) / 4 + 1 ⌝ }
+{
+    window.len() / 4 + 1
+}

@@ -1,0 +1,40 @@
+-- What is taken from a block, from place `at` on.
+use Prim.Native.Nat.{ℕ, _+_}
+use mathlib.Core.Bool.{Bool, _||_}
+use mathlib.Core.List.{List, _++_}
+use lib.Dec.{ltb}
+use lib.ListN.{length, drop}
+use Rattle.model.specs.declared.Arriving.{Arriving}
+use Rattle.model.specs.declared.CellLine.{CellLine}
+use Rattle.model.specs.declared.Frame.{Frame}
+use Rattle.model.specs.declared.Verdict.the-variants as verdict
+use Rattle.model.specs.Arriving.{arrive, throughFeed, readCells}
+use Rattle.program_intake.specs.declared.LineTaken.{LineTaken}
+use Rattle.program_intake.specs.declared.CellsTaken.{CellsTaken}
+
+-- An open line, `chars` characters longer: whether it has one, and what has arrived with it, where they make its frame `frame`.
+abbrev pub started : Bool → (chars : ℕ) → Bool
+started begun chars = begun || ltb 0 chars
+
+abbrev pub longer : Arriving → Frame → (chars : ℕ) → Arriving
+longer a frame chars = record { verdict = verdict.Accepted; reading = a .reading; frame = frame; begun = started (a .begun) chars }
+
+-- The characters through the first LF, or to the block's end.
+unfoldable pub lineTaken : (chained : Bool) → Arriving → (block : List ℕ) → (at : ℕ) → LineTaken
+lineTaken chained a block at =
+    let piece = throughFeed (drop at block) in
+    record { arriving = arrive chained a piece; at = at + length piece }
+
+-- All that taking cells leaves: its answer, and the places that it was lent.
+pub record Took : Type 0 where
+  pub answer : CellsTaken
+  pub cells : List ℕ
+
+abbrev pub took : CellsTaken → List ℕ → Took
+took answer cells = record { answer = answer; cells = cells }
+
+-- The cells from the first place on; later places stay as they were.
+unfoldable pub cellsTaken : CellLine → (block : List ℕ) → (at : ℕ) → (cells : List ℕ) → Took
+cellsTaken l block at cells =
+    let r = readCells (length cells) l (drop at block) in
+    took (record { line = r .line; at = at + r .looked; count = length (r .cells) }) (r .cells ++ drop (length (r .cells)) cells)

@@ -1,0 +1,241 @@
+// Reading as characters arrive, block by block and in fixed memory: a sheet line by line, and the cells behind a chain sheet.
+use model::Arriving;
+use model::CellLine;
+use model::Frame;
+use model::LineStep;
+use model::Refusal;
+use model::Verdict;
+ghost use mathlib.Core.Path.{_≡_};
+ghost use Rattle.model.specs.declared.Verdict.the-variants.{Accepted};
+ghost use Rattle.model.specs.Arriving.{opened, closed, arrive, finished, newLine};
+ghost use Rattle.model.specs.Frames.{shown};
+ghost use Rattle.model.specs.Reading.{stepOf};
+ghost use Rattle.program_intake.specs.Taken.{started, longer, lineTaken, took, cellsTaken};
+
+// A line taken from a block, or as much of it as the block has, and the place behind it.
+pub struct LineTaken {
+    pub arriving: Arriving,
+    pub at: usize,
+}
+
+// Cells taken from a block, `count` of them; the line behind them, open or turned back; the place behind what was looked at.
+pub struct CellsTaken {
+    pub line: CellLine,
+    pub at: usize,
+    pub count: usize,
+}
+
+// Before a sheet's first character.
+pub fn open() -> Arriving
+    ensures { λ r. ⌜ r ≡ opened ⌝ }
+{
+    Arriving {
+        verdict: Verdict::Accepted,
+        reading: sheet_lines::begin(),
+        frame: sheet_frames::empty_frame(),
+        begun: false,
+    }
+}
+
+// Whether an open line has a character, once some were added.
+fn has_begun(begun: bool, chars: usize) -> bool
+    ensures { λ r. ⌜ r ≡ started begun chars ⌝ }
+{
+    if begun {
+        return true;
+    }
+    0 < chars
+}
+
+// More of the open line.
+fn lengthen(a: Arriving, frame: Frame, chars: usize) -> Arriving
+    ensures { λ r. ⌜ r ≡ longer a frame chars ⌝ }
+{
+    let reading = a.reading;
+    Arriving {
+        verdict: Verdict::Accepted,
+        reading,
+        frame,
+        begun: has_begun(a.begun, chars),
+    }
+}
+
+// The open line at its LF.
+fn close(chained: bool, a: Arriving, frame: Frame) -> Arriving
+    ensures { λ r. ⌜ r ≡ closed (stepOf chained (a .reading) (shown frame)) ⌝ }
+{
+    let r = a.reading;
+    let s = sheet_lines::step(chained, r, frame);
+    let verdict = s.verdict;
+    let reading = s.reading;
+    Arriving {
+        verdict,
+        reading,
+        frame: sheet_frames::empty_frame(),
+        begun: false,
+    }
+}
+
+// The block's characters from `at` through the first LF, or to its end.
+pub fn take_line(chained: bool, a: Arriving, block: &[u8], at: usize) -> LineTaken
+    ensures { λ r. ⌜ r ≡ lineTaken chained a (now (block .entry)) at ⌝ }
+{
+    let piece = sheet_frames::line(block, at);
+    let chars = piece.len();
+    let end = at + chars;
+    let has_feed = end < block.len();
+    let v = a.verdict;
+    match v {
+        Verdict::Refused(_) => {
+            if has_feed {
+                return LineTaken {
+                    arriving: a,
+                    at: end + 1,
+                };
+            }
+            LineTaken {
+                arriving: a,
+                at: end,
+            }
+        }
+        Verdict::Accepted => {
+            let f = a.frame;
+            let open = sheet_frames::more(f, piece);
+            if has_feed {
+                return LineTaken {
+                    arriving: close(chained, a, open),
+                    at: end + 1,
+                };
+            }
+            LineTaken {
+                arriving: lengthen(a, open, chars),
+                at: end,
+            }
+        }
+    }
+}
+
+// The whole block.
+pub fn take_block(chained: bool, a: Arriving, block: &[u8]) -> Arriving
+    ensures { λ r. ⌜ r ≡ arrive chained a (now (block .entry)) ⌝ }
+{
+    let mut arriving = a;
+    let mut at: usize = 0;
+    while at < block.len() {
+        let t = take_line(chained, arriving, block, at);
+        let next = t.arriving;
+        arriving = next;
+        at = t.at;
+    }
+    arriving
+}
+
+// At the end of the input.
+pub fn finish(a: Arriving) -> LineStep
+    ensures { λ r. ⌜ r ≡ finished a ⌝ }
+{
+    let reading = a.reading;
+    let v = a.verdict;
+    match v {
+        Verdict::Refused(n) => LineStep {
+            verdict: Verdict::Refused(n),
+            reading,
+        },
+        Verdict::Accepted => {
+            if a.begun {
+                return LineStep {
+                    verdict: Verdict::Refused(Refusal::Malformed),
+                    reading,
+                };
+            }
+            LineStep {
+                verdict: Verdict::Accepted,
+                reading,
+            }
+        }
+    }
+}
+
+// Before the first character of a line where cells are read.
+pub fn new_line() -> CellLine
+    ensures { λ r. ⌜ r ≡ newLine ⌝ }
+{
+    CellLine {
+        verdict: Verdict::Accepted,
+        frame: sheet_frames::empty_frame(),
+        begun: false,
+    }
+}
+
+// The cells of the block's lines from `at` on, the first of which may be open already: as many as have places, up to the first line that is turned back.
+pub fn take_cells(l: CellLine, block: &[u8], at: usize, cells: &mut [u32]) -> CellsTaken
+    ensures { λ r. ⌜ took r (now (cells .exit)) ≡ cellsTaken l (now (block .entry)) at (now (cells .entry)) ⌝ }
+{
+    let v = l.verdict;
+    match v {
+        Verdict::Refused(_) => CellsTaken {
+            line: l,
+            at,
+            count: 0,
+        },
+        Verdict::Accepted => cells_from(l, block, at, cells),
+    }
+}
+
+// The same behind no line that was turned back.
+fn cells_from(l: CellLine, block: &[u8], at: usize, cells: &mut [u32]) -> CellsTaken
+    requires { ⌜ l .verdict ≡ Accepted ⌝ }
+    ensures { λ r. ⌜ took r (now (cells .exit)) ≡ cellsTaken l (now (block .entry)) at (now (cells .entry)) ⌝ }
+{
+    let mut frame = l.frame;
+    let mut begun = l.begun;
+    let mut p = at;
+    let mut count: usize = 0;
+    while count < cells.len() {
+        let piece = sheet_frames::line(block, p);
+        let chars = piece.len();
+        let end = p + chars;
+        let open = sheet_frames::more(frame, piece);
+        if block.len() <= end {
+            return CellsTaken {
+                line: CellLine {
+                    verdict: Verdict::Accepted,
+                    frame: open,
+                    begun: has_begun(begun, chars),
+                },
+                at: end,
+                count,
+            };
+        }
+        p = end + 1;
+        let w = sheet_verdicts::cell_verdict(open);
+        match w {
+            Verdict::Refused(n) => {
+                return CellsTaken {
+                    line: CellLine {
+                        verdict: Verdict::Refused(n),
+                        frame: sheet_frames::empty_frame(),
+                        begun: false,
+                    },
+                    at: p,
+                    count,
+                };
+            }
+            Verdict::Accepted => {}
+        }
+        let x = open.first;
+        cells[count] = sheet_fields::word_in(x);
+        count += 1;
+        frame = sheet_frames::empty_frame();
+        begun = false;
+    }
+    CellsTaken {
+        line: CellLine {
+            verdict: Verdict::Accepted,
+            frame,
+            begun,
+        },
+        at: p,
+        count,
+    }
+}

@@ -1,0 +1,90 @@
+-- Each way through the choice of a job's next stage.
+use Prim.Native.Nat.{ℕ, _≤_, _<_}
+use mathlib.Core.Bool.{true, false}
+use mathlib.Core.Path.{_≡_, refl}
+use borrow.Author.Tests.{lt-ltb, le-ltb}
+use Rattle.model.specs.declared.Arriving.{Arriving}
+use Rattle.model.specs.declared.Refusal.{Refusal}
+use Rattle.model.specs.declared.Refusal.the-variants as refusal
+use Rattle.model.specs.declared.Verdict.{Verdict}
+use Rattle.model.specs.declared.Verdict.the-variants as verdict
+use Rattle.model.specs.Answers.{starvedByte}
+use Rattle.model.specs.Judging.{judgeChain}
+use Rattle.model.specs.Reading.{complete}
+use Rattle.program_stages.specs.declared.Job.{Job}
+use Rattle.program_stages.specs.declared.Stage.{Stage}
+use Rattle.program_stages.specs.declared.Stage.the-variants as stage
+use Rattle.program_stages.specs.Stages.{staged, sheetStage, cellsStage, closedBy, closed, wantsBy, wantsInput}
+
+-- After a line of the sheet.
+pub sheet-refused : (a : Arriving) (x : Refusal) → a .verdict ≡ verdict.Refused x → stage.Refusing x ≡ sheetStage a
+unfolding sheetStage
+sheet-refused a x e = rw e
+
+pub sheet-open : (a : Arriving) → a .verdict ≡ verdict.Accepted → complete (a .reading) ≡ false → stage.Sheet ≡ sheetStage a
+unfolding sheetStage
+sheet-open a e d = rw (e, d)
+
+pub chain-refused : (a : Arriving) (x : Refusal) → a .verdict ≡ verdict.Accepted → complete (a .reading) ≡ true → judgeChain (a .reading .chain) ≡ verdict.Refused x
+    → stage.Refusing x ≡ sheetStage a
+unfolding sheetStage
+chain-refused a x e d j = rw (e, d, j)
+
+pub chain-accepted : (a : Arriving) → a .verdict ≡ verdict.Accepted → complete (a .reading) ≡ true → judgeChain (a .reading .chain) ≡ verdict.Accepted → stage.Cells ≡ sheetStage a
+unfolding sheetStage
+chain-accepted a e d j = rw (e, d, j)
+
+-- After `05` lines.
+pub some-cells : (count : ℕ) (v : Verdict) → 0 < count → stage.Clocks ≡ cellsStage count v
+unfolding cellsStage
+some-cells count v h = rw (lt-ltb _ _ h)
+
+pub turned-back : (count : ℕ) (v : Verdict) (x : Refusal) → count ≤ 0 → v ≡ verdict.Refused x → stage.Refusing x ≡ cellsStage count v
+unfolding cellsStage
+turned-back count v x h e = rw (le-ltb _ _ h, e)
+
+pub no-cells : (count : ℕ) (v : Verdict) → count ≤ 0 → v ≡ verdict.Accepted → stage.Cells ≡ cellsStage count v
+unfolding cellsStage
+no-cells count v h e = rw (le-ltb _ _ h, e)
+
+-- At the end of the input.
+pub open-line : (j : Job) → j .stage ≡ stage.Sheet → j .arriving .begun ≡ true → staged j (stage.Refusing refusal.Malformed) ≡ closed j
+unfolding closed closedBy
+open-line j s b = rw (s, b)
+
+pub missing-line : (j : Job) → j .stage ≡ stage.Sheet → j .arriving .begun ≡ false → staged j (stage.Refusing refusal.Misplaced) ≡ closed j
+unfolding closed closedBy
+missing-line j s b = rw (s, b)
+
+pub open-cell : (j : Job) → j .stage ≡ stage.Cells → j .line .begun ≡ true → staged j (stage.Refusing refusal.Malformed) ≡ closed j
+unfolding closed closedBy
+open-cell j s b = rw (s, b)
+
+pub starved : (j : Job) → j .stage ≡ stage.Cells → j .line .begun ≡ false → staged j (stage.Ending starvedByte) ≡ closed j
+unfolding closed closedBy
+starved j s b = rw (s, b)
+
+pub closed-clocks : (j : Job) → j .stage ≡ stage.Clocks → j ≡ closed j
+unfolding closed closedBy
+closed-clocks j s = rw s
+
+pub closed-ending : (j : Job) (way : ℕ) → j .stage ≡ stage.Ending way → j ≡ closed j
+unfolding closed closedBy
+closed-ending j way s = rw s
+
+pub closed-refusing : (j : Job) (x : Refusal) → j .stage ≡ stage.Refusing x → j ≡ closed j
+unfolding closed closedBy
+closed-refusing j x s = rw s
+
+pub closed-over : (j : Job) → j .stage ≡ stage.Over → j ≡ closed j
+unfolding closed closedBy
+closed-over j s = rw s
+
+-- Where the input is wanted.
+pub wants-line : (j : Job) → j .stage ≡ stage.Cells → j .line .verdict ≡ verdict.Accepted → true ≡ wantsInput j
+unfolding wantsInput wantsBy
+wants-line j s v = rw (s, v)
+
+pub wants-none : (j : Job) (x : Refusal) → j .stage ≡ stage.Cells → j .line .verdict ≡ verdict.Refused x → false ≡ wantsInput j
+unfolding wantsInput wantsBy
+wants-none j x s v = rw (s, v)

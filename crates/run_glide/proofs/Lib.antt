@@ -1,0 +1,5 @@
+pub mod FitLaws
+pub mod FireLaws
+pub mod RingLaws
+pub mod SlideLaws
+pub mod GlidingLaws

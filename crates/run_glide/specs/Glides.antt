@@ -1,0 +1,103 @@
+-- The clocks of aligned filters: what they are handed, what they leave, and the test of what they are handed.
+use Prim.Native.Nat.{ℕ, suc, _+_, _-_, _≤_, _<_}
+use mathlib.Core.List.{List}
+use mathlib.Core.Path.{_≡_}
+use lib.ListN.{length, getD, take}
+use lib.Seq.{slice, sets}
+use Rattle.model.specs.Kernels.{written, width}
+use Rattle.model.specs.Values.{Trimmed}
+use Rattle.model.specs.Running.{Ending, Done, Spent, Starved, Stalled, Full, Ended, layout, writtenBy, widthOf, call}
+use Rattle.model.specs.declared.Kernel.{Kernel}
+use Rattle.loop_laws.specs.Passes.{ahead, flow, stepped, Lent, passing, InStore}
+use Rattle.loop_laws.specs.Standings.{counting, stand, endedAt}
+use Rattle.loop_laws.specs.Tables.{walked, Tables, Stands, Rows, Rings}
+use Rattle.run_glide.specs.declared.Way.{Way}
+use Rattle.run_glide.specs.declared.Way.the-variants as way
+use Rattle.run_glide.specs.declared.Slid.{Slid}
+
+-- Every iteration can be walked to: no span is 0, and no stride is longer than a grid.
+pub record Walks (dims : ℕ) (spans strides : List ℕ) : Type 0 where
+  pub few : dims ≤ 4
+  pub each : (d : ℕ) → d < dims → (0 < getD spans d 0) × (getD strides d 0 ≤ 1048576)
+
+-- What a firing is handed: there is room for the words, and for what the kernel makes of them.
+pub record Fires (kernel : Kernel) (n o : ℕ) (puts gets store row out : List ℕ) : Type 0 where
+  pub some : 0 < n
+  pub few : n ≤ 32
+  pub row-there : n ≤ length row
+  pub in-store : InStore (n - 1) puts gets store
+  pub room : o + width kernel n ≤ length out
+
+-- What it leaves.
+abbrev pub firedOf : (kernel : Kernel) (centre n o : ℕ) (bases tops : List ℕ) (word : ℕ) → Lent → Lent
+firedOf kernel centre n o bases tops word l = record {
+  puts = stepped bases tops (n - 1) (l .puts);
+  gets = stepped bases tops (n - 1) (l .gets);
+  store = flow word (slice 0 (n - 1) (l .gets)) (slice 0 (n - 1) (l .puts)) (l .store);
+  words = sets (l .words) o (written kernel centre (passing (n - 1) word (l .puts) (l .gets) (l .store)));
+}
+
+-- The call that a loop makes the clocks of, from its beginning.
+abbrev pub calls : (t : Trimmed) (n fired : ℕ) (passed store lent out : List ℕ) (allowance : ℕ) → Ended
+calls t n fired passed store lent out allowance = call (layout t) (writtenBy t) (widthOf t) lent allowance (stand fired (take n passed) store out 0 0 0)
+
+-- What the caller hands in: tables, counters and ring places, rows, and what a firing writes.
+pub record Glides (t : Trimmed) (kernel : Kernel) (n row iterations cells centre size fired dims : ℕ) (at wants caps bases tops spans strides passed puts gets store : List ℕ)
+    : Type 0 where
+  pub tables : Tables (layout t) (walked spans strides dims 0) n cells iterations at caps bases
+  pub stands : Stands (layout t) n fired caps bases passed store
+  pub more : fired < iterations
+  pub most : iterations ≤ 1048576
+  pub wanted : getD wants 0 0 ≡ getD at 0 0 + walked spans strides dims 0 fired
+  pub rings : Rings n at caps bases tops passed puts gets
+  pub rows : Rows (walked spans strides dims 0) row iterations
+  pub walks : Walks dims spans strides
+  pub writes-are : (ws : List ℕ) → writtenBy t ws ≡ written kernel centre ws
+  pub size-is : widthOf t ≡ size
+
+abbrev pub wayOf : Way → Ending
+wayOf way.Done = Done
+wayOf way.Spent = Spent
+wayOf way.Starved = Starved
+wayOf way.Full = Full
+
+-- The call ends as they do.
+pub record GlidesTo (r : Slid) (t : Trimmed) (n iterations cells fired : ℕ) (passed store store′ out out′ lent : List ℕ) (allowance : ℕ) : Type 0 where
+  pub ends : endedAt (wayOf (r .how)) (stand (fired + r .firings) (ahead (r .clocks) (take n passed)) store′ out′ (r .clocks) (r .clocks) (r .firings))
+      ≡ calls t n fired passed store lent out allowance
+  pub had : r .clocks ≤ length lent
+  pub allowed : r .clocks ≤ allowance
+  pub fewer : r .firings ≤ r .clocks
+  pub inside : getD passed 0 0 + r .clocks ≤ cells
+  pub most : fired + r .firings ≤ iterations
+
+-- ---- the test
+
+-- A ring up to below `top` lies within `room` places, and both places in it.
+abbrev pub GoodPlaces : (base top u g room : ℕ) → Type 0
+GoodPlaces base top u g room = (base < top) × (u < top) × (g < top) × (top ≤ room)
+
+pub record InRings (n room : ℕ) (bases tops us gs : List ℕ) : Type 0 where
+  pub some : 0 < n
+  pub few : n ≤ 32
+  pub each : (k : ℕ) → k + 1 < n → GoodPlaces (getD bases k 0) (getD tops k 0) (getD us k 0) (getD gs k 0) room
+
+-- Rows of a grid, in which filter 0 is not past the cell that it wants.
+pub record InRows (dims row iterations first wanted position : ℕ) (spans strides : List ℕ) : Type 0 where
+  pub walks : Walks dims spans strides
+  pub some : 0 < row
+  pub most : iterations ≤ 1048576
+  pub first-low : first ≤ 1048576
+  pub wanted-low : wanted ≤ 1048576
+  pub due : position ≤ wanted
+
+pub record Sound (n dims row iterations room : ℕ) (at wants bases tops spans strides passed puts gets : List ℕ) : Type 0 where
+  pub in-rows : InRows dims row iterations (getD at 0 0) (getD wants 0 0) (getD passed 0 0) spans strides
+  pub in-rings : InRings n room bases tops puts gets
+
+-- Nothing was done.
+pub record Left (r : Slid) (store store′ out out′ : List ℕ) : Type 0 where
+  pub no-clocks : r .clocks ≡ 0
+  pub no-firings : r .firings ≡ 0
+  pub store-kept : store′ ≡ store
+  pub out-kept : out′ ≡ out

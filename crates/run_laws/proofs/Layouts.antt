@@ -1,0 +1,96 @@
+-- The layout of an accepted chain: it is lawful, and its order and capacities are right exactly if every iteration flows.
+use Prim.Native.Nat.{ℕ, suc, _+_, _-_, _≤_, _<_}
+use mathlib.Core.Path.{_≡_, refl, sym, _∙_, ap}
+use native.Mathlib.Omega.{arith}
+use native.Mathlib.Decide.{decLt}
+use lib.ListN.{length, getD}
+use borrow.Author.Tests.{lt-ltb, le-ltb}
+use Rattle.model.specs.Lists.{sum, tabulate}
+use Rattle.model.specs.Values.{Trimmed}
+use Rattle.model.specs.Iterations.{cellsOf, iterationsOf, readsOf}
+use Rattle.model.specs.Store.{firstPlace}
+use Rattle.model.specs.Running.{layout}
+use Rattle.model.proofs.ListLaws.{tabulate-back}
+use Rattle.model.proofs.Iterations.{rises, below-cells, same-distance, right-reads, reads-right}
+use Rattle.flow.specs.Machine.{Lawful, Spans, Flows, FlowsUpTo}
+use Rattle.flow.specs.Machine as flow
+use Rattle.model.specs.Right.{RightPair, Right, Planned}
+use Rattle.model.specs.Sized.{Proper}
+use Rattle.run_laws.specs.Accepted.{Accepted}
+
+module _ (t : Trimmed) (proper : Proper t) (ok : Accepted t) where
+  pub wants-read : (j k : ℕ) → j < iterationsOf t → layout t .wants j k ≡ readsOf t j k
+  unfolding layout
+  wants-read j k h = rw (lt-ltb j (iterationsOf t) h)
+
+  wants-end : (j k : ℕ) → iterationsOf t ≤ j → layout t .wants j k ≡ cellsOf t
+  unfolding layout
+  wants-end j k h = rw (le-ltb j (iterationsOf t) h)
+
+  pub lawful : Lawful (layout t)
+  unfolding layout
+  lawful = record { some = ok .some; rises = λ j k h g. up j k h g (decLt (suc j) (iterationsOf t)); within = λ j k h g. below j k g (decLt j (iterationsOf t)) }
+    where
+      up : (j k : ℕ) → j < iterationsOf t → k < t .count → Dec (suc j < iterationsOf t) → layout t .wants j k < layout t .wants (suc j) k
+      up j k h g (yes d) =
+          omega (arith, wants-read j k h, wants-read (suc j) k d, rises t proper j (suc j) k (omega arith) d g)
+      up j k h g (no d) =
+          omega (arith, wants-read j k h, wants-end (suc j) k (omega arith), below-cells t proper j k h g)
+
+      below : (j k : ℕ) → k < t .count → Dec (j < iterationsOf t) → layout t .wants j k ≤ cellsOf t
+      below j k g (yes d) = omega (arith, wants-read j k d, below-cells t proper j k d g)
+      below j k g (no d) = omega (arith, wants-end j k (omega arith))
+
+  -- Order and capacity of a pair, in any iteration.
+  pub right-spans : (f k : ℕ) → f < iterationsOf t → suc k < t .count → RightPair t k → Spans (layout t) f k
+  unfolding layout
+  right-spans f k h g r =
+      let (fall, fits) = right-reads t proper f k h g r in
+      let a = wants-read f k h in
+      let b = wants-read f (suc k) h in
+      record { falls = omega (arith, a, b); fits = omega (arith, a, b) }
+
+  pub spans-right : (f k : ℕ) → f < iterationsOf t → suc k < t .count → Spans (layout t) f k → RightPair t k
+  unfolding layout
+  spans-right f k h g s =
+      let a = wants-read f k h in
+      let b = wants-read f (suc k) h in
+      reads-right t proper f k h g (omega (arith, s .falls, a, b)) (omega (arith, s .fits, a, b))
+
+  -- So a chain that is right flows to its end, and one that is not does not flow at all.
+  pub right-flows : Right t → FlowsUpTo (layout t) (iterationsOf t)
+  unfolding layout
+  right-flows r = record { most = omega arith; before = λ f h k g. right-spans f k h g (r k g); ends = λ h. absurd (omega arith) }
+
+  pub flows-right : (f : ℕ) → f < iterationsOf t → Flows (layout t) f → Right t
+  unfolding layout
+  flows-right f h fl k g = spans-right f k h g (fl k g)
+
+  pub wrong-blocks : (Right t → ⊥) → FlowsUpTo (layout t) 0
+  unfolding layout
+  wrong-blocks n = record { most = omega arith; before = λ f h. absurd (omega arith); ends = λ h fl. n (flows-right 0 h fl) }
+
+  -- A planned chain is right, and its layout is a planned one.
+  pub planned-right : Planned t → Right t
+  planned-right p k g = record { falls = p k g .falls; holds = omega (arith, p k g .exact) }
+
+  pub planned-layout : Planned t → flow.Planned (layout t)
+  unfolding layout
+  planned-layout p = record {
+    room = λ k g. let s = spans 0 k (ok .iterates) g in let e = exact 0 k (ok .iterates) g in omega (arith, s .falls);
+    exact = λ j k h g. exact j k h g;
+  }
+    where
+      spans : (j k : ℕ) → j < iterationsOf t → suc k < t .count → Spans (layout t) j k
+      spans j k h g = right-spans j k h g (planned-right p k g)
+
+      exact : (j k : ℕ) → j < iterationsOf t → suc k < t .count → layout t .wants j k ≡ layout t .wants j (suc k) + getD (t .capacities) k 0
+      exact j k h g =
+          let s = spans j k h g in
+          let same = same-distance t proper j k h g in
+          omega (arith, p k g .exact, s .falls, wants-read j k h, wants-read j (suc k) h)
+
+  -- The FIFOs' places are as many as the capacities' sum.
+  pub all-places : firstPlace (layout t .capacity) (t .count - 1) ≡ sum (t .capacities)
+  unfolding layout firstPlace
+  all-places = ap (λ (n : ℕ). sum (tabulate n (λ k. getD (t .capacities) k 0))) (sym (proper .fifos)) ∙ ap sum (tabulate-back 0 (t .capacities) (length (t .capacities)) _ refl (λ _ _. refl))

@@ -1,0 +1,14 @@
+pub mod Looks
+pub mod Traces
+pub mod Guard
+pub mod Held
+pub mod Outputs
+pub mod Calls
+pub mod Accepts
+pub mod Layouts
+pub mod Ends
+pub mod Between
+pub mod CallEnds
+pub mod CallSums
+pub mod Words
+pub mod Plans

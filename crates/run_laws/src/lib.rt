@@ -1,0 +1,1 @@
+// Laws alone: an accepted chain, and run calls on it.

@@ -1,0 +1,9 @@
+pub mod PrepareFills
+pub mod PrepareWalks
+pub mod PrepareWants
+pub mod PreparePlaces
+pub mod PrepareStates
+pub mod PrepareGuards
+pub mod PrepareChains
+pub mod GridLaws
+pub mod ReadyLaws

@@ -1,0 +1,44 @@
+-- The cells that an accepted chain's filters want, by the arrays that say where its references read.
+use Prim.Native.Nat.{ℕ, _+_, _≤_, _<_}
+use mathlib.Core.List.{List}
+use mathlib.Core.Path.{_≡_, sym, _∙_, ap₂}
+use native.Mathlib.Omega.{arith}
+use borrow.Author.Tests.{le-ltb}
+use Rattle.model.specs.Values.{Trimmed}
+use Rattle.model.specs.Iterations.{iterationsOf, readsOf}
+use Rattle.model.specs.Running.{layout}
+use Rattle.model.proofs.Iterations.{reads-from-first, below-cells}
+use Rattle.run_laws.proofs.Layouts.{wants-read}
+use Rattle.run_prepare.specs.Prepared.{numberAt, walkBy, Walks, Shaped}
+use Rattle.run_prepare.proofs.PrepareWalks.{walk-is, walks}
+
+module _ {t : Trimmed} {dims n cells iterations : ℕ} {es ss at : List ℕ} (shaped : Shaped t dims n cells iterations es ss at) where
+  pub few-filters : n ≤ 32
+  few-filters = omega (arith, shaped .accepted .few, shaped .count-is)
+
+  pub can-walk : (j : ℕ) → j < iterations → Walks dims es ss j
+  can-walk j h = walks (shaped .spaced) j (omega (arith, shaped .iterations-are))
+
+  reference : (k : ℕ) → k < n → k < t .count
+  reference k g = omega (arith, shaped .count-is)
+
+  -- Where iteration j lies `way` cells behind the first.
+  module _ (j way : ℕ) (e : way ≡ walkBy (numberAt es) (numberAt ss) dims j) (h : j < iterations) where
+    below : j < iterationsOf t
+    below = omega (arith, shaped .iterations-are)
+
+    reads-at : (k : ℕ) → k < n → numberAt at k + way ≡ readsOf t j k
+    reads-at k g =
+        ap₂ _+_ (shaped .reads-are k g) (e ∙ walk-is (shaped .spaced) j below)
+        ∙ sym (reads-from-first t (shaped .proper) j k below (reference k g))
+
+    pub wants-at : (k : ℕ) → k < n → numberAt at k + way ≡ layout t .wants j k
+    wants-at k g = reads-at k g ∙ sym (wants-read t (shaped .proper) (shaped .accepted) j k below)
+
+    pub wants-near : (k : ℕ) → k < n → numberAt at k + way < 18446744073709551616
+    wants-near k g =
+        omega (arith, reads-at k g, below-cells t (shaped .proper) j k below (reference k g), shaped .spaced .cells)
+
+  pub wants-past : (j k : ℕ) → iterations ≤ j → cells ≡ layout t .wants j k
+  unfolding layout
+  wants-past j k h = sym (rw (le-ltb j (iterationsOf t) (omega (arith, shaped .iterations-are))) (shaped .cells-are))

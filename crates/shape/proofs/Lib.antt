@@ -1,0 +1,5 @@
+pub mod SpanLaws
+pub mod PlacingLaws
+pub mod ShapeLaws
+pub mod Answers
+pub mod SurveyLaws

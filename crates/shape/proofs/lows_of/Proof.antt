@@ -1,0 +1,67 @@
+-- The loop's invariant: the first d places are filled.
+use Prim.Native.Nat.{_-_, _≤_}
+use mathlib.Core.Path.{_∙_}
+use native.Mathlib.Omega.{arith}
+use lib.IntN.{pos}
+use borrow.Author.Needs.{needs}
+use Rattle.model.specs.Geometry.{least}
+use Rattle.geometry.specs.Parts.{entriesIn, Filled}
+use Rattle.geometry.proofs.FillLaws.{filled-none, filled-more, filled-up-to}
+use Rattle.geometry.proofs.EntryLaws.{entry-back}
+use Rattle.shape.proofs.lows_of.Statement.{statement}
+use Rattle.shape.proofs.lows_of.Tie as tie
+
+abbrev Inv-loop : tie.InvT-loop
+Inv-loop offsets count dims lows₀ d₀ lows d =
+    (d ≤ dims) × Filled 4 (pos 0) (λ i. least (entriesIn count offsets i)) d lows
+
+abbrev μ-loop : tie.MeasureT-loop
+μ-loop offsets count dims lows₀ d₀ lows d = dims - d
+
+loop-holds : tie.Need-loop-holds Inv-loop μ-loop
+loop-holds c = (omega arith, filled-none 4 (pos 0) (λ i. least (entriesIn (c .args .count) (c .args .offsets .now) i)))
+
+low-in-requires : tie.Need-low-in-requires Inv-loop μ-loop
+low-in-requires c κs = search needs
+
+mul-lows : tie.Need-mul-lows Inv-loop μ-loop
+mul-lows c = omega arith
+
+array-set-from-lows : tie.Need-array-set-from-lows Inv-loop μ-loop
+array-set-from-lows c = omega arith
+
+add-d : tie.Need-add-d Inv-loop μ-loop
+add-d c = omega arith
+
+loop-less : tie.Need-loop-less Inv-loop μ-loop
+loop-less c = omega arith
+
+loop-again : tie.Need-loop-again Inv-loop μ-loop
+loop-again c =
+    let l = c .before .before in
+    let a = l .before .args in (
+      omega arith,
+      filled-more 4 (pos 0) (λ i. least (entriesIn (a .count) (a .offsets .now) i)) (l .loop .d) (l .loop .lows) _ (omega arith)
+          (entry-back (c .low-in .result) (c .low-in .ok) ∙ c .low-in .ensures) (l .loop .inv .1),
+    )
+
+returns : tie.Need-returns Inv-loop μ-loop
+returns c =
+    let l = c .before in
+    let a = l .before .args in
+    filled-up-to 4 (pos 0) (λ i. least (entriesIn (a .count) (a .offsets .now) i)) (l .loop .d) (a .dims) (l .loop .lows) (omega arith) (l .loop .inv .1)
+
+pub lows-of-spec : {M : Type 1} → statement M
+lows-of-spec =
+    tie.close
+    (tie.spec
+    Inv-loop
+    μ-loop
+    loop-holds
+    low-in-requires
+    mul-lows
+    array-set-from-lows
+    add-d
+    loop-less
+    loop-again
+    returns)

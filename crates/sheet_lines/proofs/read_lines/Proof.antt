@@ -1,0 +1,134 @@
+-- The loop's invariant: from `at` on the sheet gives, with what was read, what it gives from its start.
+use Prim.Native.Nat.{ℕ, _+_, _-_, _≤_, _<_}
+use mathlib.Core.Path.{_≡_, ap, _∙_}
+use native.Mathlib.Omega.{arith}
+use lib.ListN.{length, drop, length-drop}
+use borrow.Author.Needs.{needs}
+use Rattle.model.specs.Lines.{lineOf}
+use Rattle.model.specs.Frames.{emptyFrame, feeds, shown}
+use Rattle.model.specs.Reading.{stepOf, start}
+use Rattle.sheet_laws.proofs.LineLaws.{line-within}
+use Rattle.sheet_laws.proofs.FixedMemory.{Bounded, start-bounded, keeps-bounded}
+use Rattle.sheet_laws.proofs.ReadingLaws.{readFrom, read-to-end, last-unended, turned-back, onward}
+use Rattle.sheet_lines.proofs.read_lines.Statement.{statement}
+use Rattle.sheet_lines.proofs.read_lines.Tie as tie
+
+abbrev Inv-loop : tie.InvT-loop
+Inv-loop chained sheet r₀ at₀ r at = (at ≤ length sheet) × Bounded r × (readFrom chained sheet r at ≡ readFrom chained sheet start 0)
+
+abbrev μ-loop : tie.MeasureT-loop
+μ-loop chained sheet r₀ at₀ r at = length sheet - at
+
+less : {a b : ℕ} → a ≤ b → (a ≡ b → ⊥) → a < b
+less h n = omega (arith, n)
+
+-- A line ends within the sheet.
+within : (c : tie.After-line Inv-loop μ-loop)
+    → (let l = c .before .before in l .loop .at + length (c .line .result .now) ≤ length (l .before .before .before .args .sheet .now))
+within c =
+    let l = c .before .before in
+    let sheet = l .before .before .before .args .sheet .now in
+    omega (arith, line-within (drop (l .loop .at) sheet), length-drop (l .loop .at) sheet, ap length (c .line .ensures))
+
+-- What the step was of.
+step-of : (c : tie.After-step Inv-loop μ-loop)
+    → (let l = c .before .before .before .before .before in let a = l .before .before .before .args in
+    c .step .result ≡ stepOf (a .chained) (l .loop .r) (shown (feeds emptyFrame (lineOf (drop (l .loop .at) (a .sheet .now))))))
+step-of c =
+    let f = c .before in
+    let l = f .before .before .before .before in
+    c .step .ensures
+    ∙ ap (λ g. stepOf (l .before .before .before .args .chained) (l .loop .r) (shown g)) (f .frame .ensures ∙ ap (feeds emptyFrame) (f .before .before .line .ensures))
+
+begin-requires : tie.Need-begin-requires Inv-loop μ-loop
+begin-requires c κs = search needs
+
+loop-holds : tie.Need-loop-holds Inv-loop μ-loop
+loop-holds c = (search needs, rw (c .begin .ensures) start-bounded, rw (c .begin .ensures))
+
+line-requires : tie.Need-line-requires Inv-loop μ-loop
+line-requires c κs = search needs
+
+add-end : tie.Need-add-end Inv-loop μ-loop
+add-end c = omega (arith, within c)
+
+returns : tie.Need-returns Inv-loop μ-loop
+returns c =
+    let b = c .before in
+    let l = b .before .before in
+    last-unended _ _ (l .loop .r) (l .loop .at) (b .before .loop-test .taken) (omega (arith, ap length (b .line .ensures), c .if1 .taken)) ∙ l .loop .inv .2
+
+frame-requires : tie.Need-frame-requires Inv-loop μ-loop
+frame-requires c κs = search needs
+
+step-requires : tie.Need-step-requires Inv-loop μ-loop
+step-requires c κs = search needs
+
+enum-told : tie.Need-enum-told Inv-loop μ-loop
+enum-told c = search needs
+
+enum-told-2 : tie.Need-enum-told-2 Inv-loop μ-loop
+enum-told-2 c = search needs
+
+returns-2 : tie.Need-returns-2 Inv-loop μ-loop
+returns-2 c =
+    let t = c .before .before in
+    let e = t .before .before in
+    let b = e .before in
+    let l = b .before .before in
+    turned-back _ _ (l .loop .r) (l .loop .at) (b .before .loop-test .taken) (omega (arith, ap length (b .line .ensures), less (within b) (e .if1 .left)))
+    (l .loop .inv .1) (t .step .result) (step-of t) _ (c .enum-told2 .given .1)
+    ∙ l .loop .inv .2
+
+add-at : tie.Need-add-at Inv-loop μ-loop
+add-at c =
+    let e = c .before .before .before .before .before in
+    omega (arith, less (within (e .before)) (e .if1 .left), e .before .before .before .before .before .before .good)
+
+loop-less : tie.Need-loop-less Inv-loop μ-loop
+loop-less c =
+    let e = c .before .before .before .before .before in
+    omega (arith, less (within (e .before)) (e .if1 .left))
+
+loop-again : tie.Need-loop-again Inv-loop μ-loop
+loop-again c =
+    let k = c .before in
+    let t = k .before .before in
+    let e = t .before .before in
+    let b = e .before in
+    let l = b .before .before in
+    let a = l .before .before .before .args in
+    let short = less (within b) (e .if1 .left) in (
+      omega (arith, short),
+      rw (t .step .ensures) (keeps-bounded _ (l .loop .r) _ (l .loop .inv .1)),
+      ap (λ n. readFrom (a .chained) (a .sheet .now) (t .step .result .reading) (l .loop .at + n + 1)) (ap length (b .line .ensures))
+          ∙ onward _ _ (l .loop .r) (l .loop .at) (b .before .loop-test .taken) (omega (arith, short, ap length (b .line .ensures))) (l .loop .inv .1)
+          (t .step .result) (step-of t) (k .enum-told .given .1)
+          ∙ l .loop .inv .2,
+    )
+
+returns-3 : tie.Need-returns-3 Inv-loop μ-loop
+returns-3 c =
+    let l = c .before in
+    read-to-end _ _ (l .loop .r) (l .loop .at) (c .loop-test .left) ∙ l .loop .inv .2
+
+pub read-lines-spec : {M : Type 1} → statement M
+read-lines-spec =
+    tie.close
+    (tie.spec
+    Inv-loop
+    μ-loop
+    begin-requires
+    loop-holds
+    line-requires
+    add-end
+    returns
+    frame-requires
+    step-requires
+    enum-told
+    enum-told-2
+    returns-2
+    add-at
+    loop-less
+    loop-again
+    returns-3)

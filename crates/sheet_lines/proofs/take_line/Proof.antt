@@ -1,0 +1,52 @@
+use mathlib.Core.Path.{sym, _∙_}
+use borrow.Author.Needs.{needs}
+use borrow.Author.Tests.{ne-eqb}
+use Rattle.model.specs.Reading.{taken}
+use Rattle.sheet_laws.proofs.AcceptedLines.{taken-grid, taken-offset, taken-capacity}
+use Rattle.sheet_lines.proofs.take_line.Statement.{statement}
+use Rattle.sheet_lines.proofs.take_line.Tie as tie
+
+array-read-kind : tie.Need-array-read-kind
+array-read-kind c = search needs
+
+with-grid-requires : tie.Need-with-grid-requires
+with-grid-requires c κs = search needs
+
+returns : tie.Need-returns
+returns c = c .with-grid .ensures ∙ sym (taken-grid _ _ (c .before .if1 .taken))
+
+with-offset-requires : tie.Need-with-offset-requires
+with-offset-requires c κs = c .before .before .pre .offset (c .if2 .taken)
+
+returns-2 : tie.Need-returns-2
+returns-2 c = c .with-offset .ensures ∙ sym (taken-offset _ _ (c .before .if2 .taken))
+
+with-capacity-requires : tie.Need-with-capacity-requires
+with-capacity-requires c κs = c .before .before .before .pre .capacity (c .if3 .taken)
+
+returns-3 : tie.Need-returns-3
+returns-3 c = c .with-capacity .ensures ∙ sym (taken-capacity _ _ (c .before .if3 .taken))
+
+with-kernel-requires : tie.Need-with-kernel-requires
+with-kernel-requires c κs = search needs
+
+returns-4 : tie.Need-returns-4
+unfolding taken
+returns-4 c =
+    let e3 = c .before in
+    let e2 = e3 .before in
+    rw (ne-eqb _ _ (e2 .before .if1 .left), ne-eqb _ _ (e2 .if2 .left), ne-eqb _ _ (e3 .if3 .left)) (c .with-kernel .ensures)
+
+pub take-line-spec : {M : Type 1} → statement M
+take-line-spec =
+    tie.close
+    (tie.spec
+    array-read-kind
+    with-grid-requires
+    returns
+    with-offset-requires
+    returns-2
+    with-capacity-requires
+    returns-3
+    with-kernel-requires
+    returns-4)

@@ -1,0 +1,193 @@
+// Reading a sheet, line by line.
+use model::Frame;
+use model::Grid;
+use model::KEPT;
+use model::Last;
+use model::LineStep;
+use model::Reading;
+use model::Refusal;
+use model::Verdict;
+use model::Window;
+use values::blank_chain;
+ghost use mathlib.Core.Path.{_≡_};
+ghost use Prim.Native.Nat.{_+_, _<_};
+ghost use lib.ListN.{set};
+ghost use lib.Seq.{sets};
+ghost use Rattle.model.specs.Frames.{shown};
+ghost use Rattle.model.specs.Lines.{linesOf};
+ghost use Rattle.model.specs.Reading.{withGrid, withOffset, withCapacity, withKernel, taken, stepOf, start, complete, readLines};
+ghost use Rattle.sheet_lines.specs.Room.{Room};
+
+// Before the first line.
+pub fn begin() -> Reading
+    ensures { λ r. ⌜ r ≡ start ⌝ }
+{
+    Reading {
+        last: Last::Nothing,
+        given: 0,
+        chain: blank_chain(),
+    }
+}
+
+fn with_grid(r: Reading, x: [u8; KEPT]) -> Reading
+    ensures { λ s. ⌜ s ≡ withGrid r x ⌝ }
+{
+    let sizes = sheet_fields::sizes_in(x);
+    let grid = Grid { dims: x[1], sizes };
+    Reading {
+        last: Last::Grid,
+        given: r.given,
+        chain: values::set_grid(r.chain, grid),
+    }
+}
+
+fn set_entries(offsets: [i16; 128], at: usize, entries: [i16; 4]) -> [i16; 128]
+    requires { ⌜ at < 125 ⌝ }
+    ensures { λ s. ⌜ s ≡ sets offsets at entries ⌝ }
+{
+    let mut o = offsets;
+    o[at] = entries[0];
+    o[at + 1] = entries[1];
+    o[at + 2] = entries[2];
+    o[at + 3] = entries[3];
+    o
+}
+
+fn with_offset(r: Reading, x: [u8; KEPT]) -> Reading
+    requires { ⌜ r .chain .window .count < 32 ⌝ }
+    ensures { λ s. ⌜ s ≡ withOffset r x ⌝ }
+{
+    let c = r.chain;
+    let w = c.window;
+    let count = w.count;
+    let old = w.offsets;
+    let offsets = set_entries(old, 4 * (count as usize), sheet_fields::entries_in(x));
+    let window = Window {
+        count: count + 1,
+        offsets,
+    };
+    Reading {
+        last: Last::Offset,
+        given: r.given,
+        chain: values::set_window(c, window),
+    }
+}
+
+// A capacity past the last has no place.
+fn set_capacity(capacities: [u32; 31], k: usize, places: u32) -> [u32; 31]
+    ensures { λ s. ⌜ s ≡ set capacities k places ⌝ }
+{
+    let mut c = capacities;
+    if k < 31 {
+        c[k] = places;
+        return c;
+    }
+    c
+}
+
+fn with_capacity(r: Reading, x: [u8; KEPT]) -> Reading
+    requires { ⌜ r .given + 1 < r .chain .window .count ⌝ }
+    ensures { λ s. ⌜ s ≡ withCapacity r x ⌝ }
+{
+    let c = r.chain;
+    let old = c.capacities;
+    let capacities = set_capacity(old, r.given as usize, sheet_fields::word_in(x));
+    Reading {
+        last: Last::Capacity,
+        given: r.given + 1,
+        chain: values::set_capacities(c, capacities),
+    }
+}
+
+fn with_kernel(r: Reading, x: [u8; KEPT]) -> Reading
+    ensures { λ s. ⌜ s ≡ withKernel r x ⌝ }
+{
+    let kernel = sheet_fields::kernel_in(x);
+    Reading {
+        last: Last::Kernel,
+        given: r.given,
+        chain: values::set_kernel(r.chain, kernel),
+    }
+}
+
+// A line that is not turned back.
+fn take_line(r: Reading, x: [u8; KEPT]) -> Reading
+    requires { ⌜ Room r x ⌝ }
+    ensures { λ s. ⌜ s ≡ taken r x ⌝ }
+{
+    let kind = x[0];
+    if kind == 1 {
+        return with_grid(r, x);
+    }
+    if kind == 2 {
+        return with_offset(r, x);
+    }
+    if kind == 3 {
+        return with_capacity(r, x);
+    }
+    with_kernel(r, x)
+}
+
+// One line, read.
+pub fn step(chained: bool, r: Reading, f: Frame) -> LineStep
+    ensures { λ s. ⌜ s ≡ stepOf chained r (shown f) ⌝ }
+{
+    let v = sheet_verdicts::line_verdict(chained, r, f);
+    match v {
+        Verdict::Accepted => {
+            let x = f.first;
+            LineStep {
+                verdict: Verdict::Accepted,
+                reading: take_line(r, x),
+            }
+        }
+        Verdict::Refused(n) => LineStep {
+            verdict: Verdict::Refused(n),
+            reading: r,
+        },
+    }
+}
+
+// The sheet is at its end: its `04` line was read.
+pub fn is_complete(r: Reading) -> bool
+    ensures { λ b. ⌜ b ≡ complete r ⌝ }
+{
+    let last = r.last;
+    match last {
+        Last::Kernel => true,
+        Last::Nothing => false,
+        Last::Grid => false,
+        Last::Offset => false,
+        Last::Capacity => false,
+    }
+}
+
+// The lines of a sheet from the top, up to the first that is turned back.
+pub fn read_lines(chained: bool, sheet: &[u8]) -> LineStep
+    ensures { λ s. ⌜ s ≡ readLines chained start (linesOf (now (sheet .entry))) ⌝ }
+{
+    let mut r = begin();
+    let mut at: usize = 0;
+    while at < sheet.len() {
+        let line = sheet_frames::line(sheet, at);
+        let end = at + line.len();
+        if end == sheet.len() {
+            return LineStep {
+                verdict: Verdict::Refused(Refusal::Malformed),
+                reading: r,
+            };
+        }
+        let s = step(chained, r, sheet_frames::frame(line));
+        let v = s.verdict;
+        match v {
+            Verdict::Accepted => {}
+            Verdict::Refused(_) => return s,
+        }
+        r = s.reading;
+        at = end + 1;
+    }
+    LineStep {
+        verdict: Verdict::Accepted,
+        reading: r,
+    }
+}

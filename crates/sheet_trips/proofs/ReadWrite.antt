@@ -1,0 +1,345 @@
+-- An accepted chain sheet, read and written, gives back its bytes: after each line, what was read is written as the lines so far.
+use Prim.Native.Nat.{ℕ, zero, suc, _+_, _-_, _*_, _≤_, _<_}
+use mathlib.Core.Bool.{true, false, cond}
+use mathlib.Core.List.{List, [], _∷_, _++_, append-assoc, append-nil}
+use mathlib.Core.Logic.{_⊎_, inl, inr}
+use mathlib.Core.Path.{_≡_, refl, sym, ap, subst, _∙_}
+use native.Mathlib.Omega.{arith}
+use lib.IntN.{pos}
+use lib.ListN.{length, getD, length-set}
+use lib.Seq.{sets, length-sets, getD-set-same, getD-set-other}
+use borrow.Author.Tests.{eq-eqb, ne-eqb}
+use Rattle.model.specs.declared.Chain.{Chain}
+use Rattle.model.specs.declared.Last.{Last}
+use Rattle.model.specs.declared.Last.the-variants as stood
+use Rattle.model.specs.declared.Reading.{Reading}
+use Rattle.model.specs.declared.Refusal.{Refusal}
+use Rattle.model.specs.declared.Verdict.{Verdict}
+use Rattle.model.specs.declared.Verdict.the-variants as verdict
+use Rattle.model.specs.Judging.{badFactor}
+use Rattle.model.specs.Lines.{Line, lineFeed, linesOf, into}
+use Rattle.model.specs.Frames.{framed, whole, bytesOf, padded, seenOf}
+use Rattle.model.specs.Numbers.{byteAt, wordAt}
+use Rattle.model.specs.Reading.{badKernel, entriesIn, kernelIn, lineVerdict}
+use Rattle.model.specs.Reading.{taken, withGrid, withOffset, withCapacity, withKernel, stepOf, start, closes, complete, readLines}
+use Rattle.model.specs.Writing.{gridLine, capacityLine, sheetOf}
+use Rattle.sheet_laws.specs.Rows.{offsetRow, lineAt, linesFrom}
+use Rattle.sheet_laws.proofs.Cases.{by-eq, by-lt, never, and-true}
+use Rattle.sheet_laws.proofs.AcceptedLines.{Admitted, admitted, refused-accepted, not-complete, taken-grid, taken-offset, taken-capacity, taken-kernel}
+use Rattle.sheet_laws.proofs.AcceptedLines.Admitted.{grid, offset, capacity, kernel}
+use Rattle.sheet_laws.proofs.AcceptedChains.{accepted-chain}
+use Rattle.sheet_laws.proofs.SheetRows.{line-grid, line-offset, line-capacity, line-kernel, lines-join, sheet-rows}
+use Rattle.sheet_trips.specs.RoundTrips.{ReadWrite}
+use Rattle.sheet_trips.proofs.Bytes.{Small, small-bytes, digits-back, take-padded, lineSeen}
+use Rattle.sheet_trips.proofs.Values.{sets-before, sets-at}
+use Rattle.sheet_trips.proofs.AcceptedSheets.{accepted-sheet, accepted-read}
+use Rattle.sheet_trips.proofs.LinesRead.{front, grid-row, offset-row, capacity-row, kernel-row}
+
+-- The text of a sheet's lines is the sheet.
+unfoldable text : List Line → List ℕ
+text [] = []
+text (l ∷ ls) = (l .chars ++ cond (l .ended) (lineFeed ∷ []) []) ++ text ls
+
+into-text : (b : ℕ) (ls : List Line) → text (into b ls) ≡ b ∷ text ls
+unfolding text
+into-text b [] = refl
+into-text b (l ∷ ls) = refl
+
+text-back : (s : List ℕ) → text (linesOf s) ≡ s
+unfolding linesOf text
+text-back [] = refl
+text-back (b ∷ bs) =
+    by-eq b lineFeed
+    (λ e. rw (eq-eqb _ _ e) (ap (λ t. lineFeed ∷ t) (text-back bs) ∙ ap (λ c. c ∷ bs) (sym e)))
+    (λ n. rw (ne-eqb _ _ n) (into-text b (linesOf bs) ∙ ap (λ t. b ∷ t) (text-back bs)))
+
+-- The first lines of two chains that agree there, and one line more.
+lines-same : (c d : Chain) (m k : ℕ) → ((j : ℕ) → j < m + k → lineAt c j ≡ lineAt d j) → linesFrom c m k ≡ linesFrom d m k
+unfolding linesFrom
+lines-same c d m zero h = refl
+lines-same c d m (suc k) h = rw (h m (omega arith), lines-same c d (m + 1) k (λ j l. h j (omega arith)))
+
+one-line : (c : Chain) (m : ℕ) → linesFrom c m 1 ≡ framed (lineAt c m)
+unfolding linesFrom
+one-line c m = append-nil (framed (lineAt c m))
+
+grown : (c d : Chain) (k : ℕ) (bs : List ℕ) → ((j : ℕ) → j < k → lineAt d j ≡ lineAt c j) → lineAt d k ≡ bs → linesFrom d 0 (k + 1) ≡ linesFrom c 0 k ++ framed bs
+grown c d k bs h e =
+    let z : 0 + k ≡ k = omega arith in
+    sym (lines-join d 0 k 1)
+    ∙ ap (λ t. t ++ linesFrom d (0 + k) 1) (lines-same d c 0 k (λ j l. h j (omega arith)))
+    ∙ ap (λ t. linesFrom c 0 k ++ t) (ap (λ m. linesFrom d m 1) z ∙ one-line d k ∙ ap framed e)
+
+-- How many lines were read, and what was read, written.
+unfoldable linesTo : Last → (count given : ℕ) → ℕ
+linesTo stood.Nothing count given = 0
+linesTo stood.Grid count given = 1 + count + given
+linesTo stood.Offset count given = 1 + count + given
+linesTo stood.Capacity count given = 1 + count + given
+linesTo stood.Kernel count given = 2 * count + 1
+
+unfoldable linesRead : Reading → ℕ
+linesRead r = linesTo (r .last) (r .chain .window .count) (r .given)
+
+unfoldable written : Reading → List ℕ
+written r = linesFrom (r .chain) 0 (linesRead r)
+
+Adds : Reading → Reading → List ℕ → Type 0
+Adds r t bs = written t ≡ written r ++ framed bs
+
+adds : (r t : Reading) (bs : List ℕ) (k : ℕ) → linesRead r ≡ k → linesRead t ≡ k + 1
+    → ((j : ℕ) → j < k → lineAt (t .chain) j ≡ lineAt (r .chain) j) → lineAt (t .chain) k ≡ bs → Adds r t bs
+unfolding written Adds
+adds r t bs k e f before new = rw (e, f) (grown (r .chain) (t .chain) k bs before new)
+
+-- What is known of the counts, by what stood last.
+unfoldable Counted : Last → (count given : ℕ) → Type 0
+Counted stood.Nothing count given = (count ≡ 0) × (given ≡ 0)
+Counted stood.Grid count given = given ≡ 0
+Counted stood.Offset count given = given ≡ 0
+Counted stood.Capacity count given = Unit {0}
+Counted stood.Kernel count given = 0 < count
+
+-- What a reading keeps.
+record Kept (r : Reading) : Type 0 where
+  offsets : length (r .chain .window .offsets) ≡ 128
+  capacities : length (r .chain .capacities) ≡ 31
+  dims : r .chain .grid .dims ≤ 4
+  count : r .chain .window .count ≤ 32
+  counted : Counted (r .last) (r .chain .window .count) (r .given)
+
+-- Line j of a sheet that has been read so far: the grid's, an offset's, or a capacity's.
+by-place : {A : Type 0} (n j : ℕ) → (j ≡ 0 → A) → ((i : ℕ) → i < n → j ≡ 1 + i → A) → ((i : ℕ) → j ≡ 1 + n + i → A) → A
+by-place n zero g o c = g refl
+by-place n (suc j) g o c =
+    by-lt j n
+    (λ l. o j l (omega arith))
+    (λ l. let e : suc j ≡ 1 + n + (j - n) = omega arith in c (j - n) e)
+
+same-grid : (c d : Chain) → c .grid ≡ d .grid → lineAt c 0 ≡ lineAt d 0
+unfolding lineAt
+same-grid c d e = ap gridLine e
+
+module _ (r : Reading) (keeps : Kept r) (bs : List ℕ) (small : Small bs) where
+  abbrev x : List ℕ
+  x = padded bs
+
+  abbrev c : Chain
+  c = r .chain
+
+  abbrev n : ℕ
+  n = r .chain .window .count
+
+  lines-at : (l : Last) → r .last ≡ l → linesRead r ≡ linesTo l n (r .given)
+  unfolding linesRead
+  lines-at l e = ap (λ (k : Last). linesTo k n (r .given)) e
+
+  counted-at : (l : Last) → r .last ≡ l → Counted l n (r .given)
+  counted-at l e = subst (λ (k : Last). Counted k n (r .given)) e (keeps .counted)
+
+  grid-adds : byteAt x 0 ≡ 1 → r .last ≡ stood.Nothing → byteAt x 1 ≤ 4 → length bs ≡ 2 + 4 * byteAt x 1 → Adds r (withGrid r x) bs
+  unfolding withGrid linesRead linesTo Counted
+  grid-adds e p few len =
+      let z = counted-at stood.Nothing p in
+      let q : 1 + n + r .given ≡ 0 + 1 = omega (arith, z .0, z .1) in
+      adds r (withGrid r x) bs 0 (lines-at stood.Nothing p) q (λ j l. absurd (omega arith))
+      (line-grid _ few ∙ front (2 + 4 * byteAt x 1) 18 bs _ (grid-row bs small e) (omega arith) (omega arith) len)
+
+  -- Where an `02` line may come no capacity was read; where another line behind the `01` line may come, as many lines as offsets and capacities, and one.
+  none-given : (r .last ≡ stood.Grid) ⊎ (r .last ≡ stood.Offset) → r .given ≡ 0
+  unfolding Counted
+  none-given (inl p) = counted-at stood.Grid p
+  none-given (inr p) = counted-at stood.Offset p
+
+  behind-grid : (r .last ≡ stood.Grid) ⊎ (r .last ≡ stood.Offset) → linesRead r ≡ 1 + n + r .given
+  unfolding linesTo
+  behind-grid (inl p) = lines-at stood.Grid p
+  behind-grid (inr p) = lines-at stood.Offset p
+
+  behind-offsets : (r .last ≡ stood.Offset) ⊎ (r .last ≡ stood.Capacity) → linesRead r ≡ 1 + n + r .given
+  unfolding linesTo
+  behind-offsets (inl p) = lines-at stood.Offset p
+  behind-offsets (inr p) = lines-at stood.Capacity p
+
+  offset-adds : byteAt x 0 ≡ 2 → (r .last ≡ stood.Grid) ⊎ (r .last ≡ stood.Offset) → length bs ≡ 1 + 2 * c .grid .dims → n < 32 → Adds r (withOffset r x) bs
+  unfolding withOffset linesRead linesTo entriesIn offsetRow
+  offset-adds e p len few =
+      let g = none-given p in
+      let d = withOffset r x .chain in
+      let o = c .window .offsets in
+      let es = entriesIn x in
+      let room : 4 * n + 4 ≤ length o = omega (arith, keeps .offsets) in
+      let q : 1 + n + r .given ≡ 1 + n = omega arith in
+      let q′ : 1 + (n + 1) + r .given ≡ 1 + n + 1 = omega arith in
+      let old : (i k : ℕ) → k < 4 → i < n → getD (sets o (4 * n) es) (4 * i + k) (pos 0) ≡ getD o (4 * i + k) (pos 0) =
+      λ i k l h. sets-before es o (4 * n) (4 * i + k) (pos 0) (omega arith) in
+      adds r (withOffset r x) bs (1 + n) (behind-grid p ∙ q) q′
+      (λ j l. by-place n j
+      (λ z. rw z (same-grid d c refl))
+      (λ i h z. rw z
+      (line-offset d i (omega arith)
+      ∙ rw (old i 0 (omega arith) h, old i 1 (omega arith) h, old i 2 (omega arith) h, old i 3 (omega arith) h)
+      (sym (line-offset c i h))))
+      (λ i z. absurd (omega arith)))
+      (line-offset d n (omega arith)
+      ∙ front (1 + 2 * c .grid .dims) 9 bs _
+      (rw (
+        sets-at es o (4 * n) 0 (pos 0) room (omega arith),
+        sets-at es o (4 * n) 1 (pos 0) room (omega arith),
+        sets-at es o (4 * n) 2 (pos 0) room (omega arith),
+        sets-at es o (4 * n) 3 (pos 0) room (omega arith),
+      )
+      (offset-row bs small e))
+      (omega (arith, keeps .dims)) (omega arith) len)
+
+  capacity-adds : byteAt x 0 ≡ 3 → (r .last ≡ stood.Offset) ⊎ (r .last ≡ stood.Capacity) → r .given + 1 < n → length bs ≡ 5 → Adds r (withCapacity r x) bs
+  unfolding withCapacity linesRead linesTo
+  capacity-adds e p g len =
+      let d = withCapacity r x .chain in
+      let a = c .capacities in
+      let v = r .given in
+      let q : 1 + n + (v + 1) ≡ 1 + n + v + 1 = omega arith in
+      adds r (withCapacity r x) bs (1 + n + v) (behind-offsets p) q
+      (λ j l. by-place n j
+      (λ z. rw z (same-grid d c refl))
+      (λ i h z. rw z (line-offset d i h ∙ sym (line-offset c i h)))
+      (λ i z. let y : i ≡ v → ⊥ = λ u. omega arith in
+      rw z (line-capacity d i (omega arith) ∙ ap capacityLine (getD-set-other a v i (wordAt x 1) 0 y) ∙ sym (line-capacity c i (omega arith)))))
+      (line-capacity d v g
+      ∙ ap capacityLine (getD-set-same a v (wordAt x 1) 0 (omega (arith, keeps .capacities, keeps .count)))
+      ∙ capacity-row bs small e ∙ take-padded 5 bs (sym len) (omega arith))
+
+  kernel-adds : byteAt x 0 ≡ 4 → (r .last ≡ stood.Offset) ⊎ (r .last ≡ stood.Capacity) → n ≡ r .given + 1 → badKernel (length bs) (byteAt x 1) ≡ false
+      → badFactor (kernelIn x) ≡ false → Adds r (withKernel r x) bs
+  unfolding withKernel linesRead linesTo
+  kernel-adds e p g ok finite =
+      let d = withKernel r x .chain in
+      let v = r .given in
+      let q : 2 * n + 1 ≡ 1 + n + v + 1 = omega arith in
+      let w : 1 + n + v ≡ 2 * n = omega arith in
+      adds r (withKernel r x) bs (1 + n + v) (behind-offsets p) q
+      (λ j l. by-place n j
+      (λ z. rw z (same-grid d c refl))
+      (λ i h z. rw z (line-offset d i h ∙ sym (line-offset c i h)))
+      (λ i z. rw z (line-capacity d i (omega arith) ∙ sym (line-capacity c i (omega arith)))))
+      (ap (lineAt d) w ∙ line-kernel d (omega arith) ∙ kernel-row bs small e ok finite)
+
+-- Nothing is accepted behind the kernel's line.
+ended : (r : Reading) (ls : List Line) → complete r ≡ true → readLines true r ls .verdict ≡ verdict.Accepted → readLines true r ls .reading ≡ r
+unfolding readLines stepOf
+ended r [] e h = refl
+ended r (l ∷ ls) e h = go (lineVerdict true r (seenOf (l .ended) (l .chars))) refl
+  where
+    by : Admitted true r (seenOf (l .ended) (l .chars)) → ⊥
+    by a = never (sym e ∙ not-complete true r _ a)
+
+    go : (v : Verdict) → lineVerdict true r (seenOf (l .ended) (l .chars)) ≡ v → readLines true r (l ∷ ls) .reading ≡ r
+    go verdict.Accepted q = absurd (by (admitted true r _ q .1))
+    go (verdict.Refused x) q = absurd (refused-accepted (rw q at h))
+
+-- A reading whose kernel, once it was read, has finite factors.
+Finite : Reading → Type 0
+Finite r = complete r ≡ true → badFactor (r .chain .kernel) ≡ false
+
+-- Cases by a verdict.
+by-verdict : {A : Type 0} (v : Verdict) → (v ≡ verdict.Accepted → A) → ((x : Refusal) → v ≡ verdict.Refused x → A) → A
+by-verdict verdict.Accepted a f = a refl
+by-verdict (verdict.Refused x) a f = f x refl
+
+-- Any line that is not turned back.
+step-adds : (r : Reading) → Kept r → (bs : List ℕ) → Small bs → lineVerdict true r (lineSeen bs) ≡ verdict.Accepted → Finite (taken r (padded bs))
+    → Adds r (taken r (padded bs)) bs × Kept (taken r (padded bs))
+unfolding withGrid withOffset withCapacity withKernel Finite Counted complete closes
+step-adds r k bs small h finite = go (admitted true r _ h .1)
+  where
+    go : Admitted true r (lineSeen bs) → Adds r (taken r (padded bs)) bs × Kept (taken r (padded bs))
+    go (grid e last some few len sizes) =
+        rw (taken-grid _ _ e) (
+          grid-adds r k bs small e last few len,
+          record { offsets = k .offsets; capacities = k .capacities; dims = few; count = k .count; counted = counted-at r k bs small stood.Nothing last .1 },
+        )
+    go (offset e last len count) =
+        rw (taken-offset _ _ e) (
+          offset-adds r k bs small e last len count,
+          record {
+            offsets = simp length-sets (k .offsets);
+            capacities = k .capacities;
+            dims = k .dims;
+            count = omega arith;
+            counted = none-given r k bs small last;
+          },
+        )
+    go (capacity e last chain given len) =
+        rw (taken-capacity _ _ e) (
+          capacity-adds r k bs small e last given len,
+          record {
+            offsets = k .offsets;
+            capacities = simp length-set (k .capacities);
+            dims = k .dims;
+            count = k .count;
+            counted = tt;
+          },
+        )
+    go (kernel e last given form) =
+        let counted = given refl in
+        let same = taken-kernel r (padded bs) e in
+        rw same (
+          kernel-adds r k bs small e last counted form ((rw same at finite) refl),
+          record { offsets = k .offsets; capacities = k .capacities; dims = k .dims; count = k .count; counted = omega arith },
+        )
+
+line-adds : (r : Reading) → Kept r → (l : Line) → lineVerdict true r (seenOf (l .ended) (l .chars)) ≡ verdict.Accepted
+    → Finite (taken r (padded (bytesOf (l .chars))))
+    → (written (taken r (padded (bytesOf (l .chars)))) ≡ written r ++ (l .chars ++ cond (l .ended) (lineFeed ∷ []) [])) × Kept (taken r (padded (bytesOf (l .chars))))
+unfolding Adds framed
+line-adds r k l h finite =
+    let a = admitted true r (seenOf (l .ended) (l .chars)) h .0 in
+    let p = and-true (l .ended) (whole (l .chars)) a in
+    let t = step-adds r k (bytesOf (l .chars)) (small-bytes (l .chars) (p .1)) (rw a at h) finite in
+    (rw (p .0) (t .0 ∙ ap (λ d. written r ++ (d ++ (lineFeed ∷ []))) (digits-back (l .chars) (p .1))), t .1)
+
+all-written : (r : Reading) → Kept r → complete r ≡ true → written r ≡ sheetOf (r .chain)
+unfolding written linesRead complete closes linesTo Counted
+all-written r k e = go (r .last) e (k .counted)
+  where
+    go : (l : Last) → closes l ≡ true → Counted l (r .chain .window .count) (r .given) → linesFrom (r .chain) 0 (linesTo l (r .chain .window .count) (r .given)) ≡ sheetOf (r .chain)
+    go stood.Nothing h c = absurd (never (sym h))
+    go stood.Grid h c = absurd (never (sym h))
+    go stood.Offset h c = absurd (never (sym h))
+    go stood.Capacity h c = absurd (never (sym h))
+    go stood.Kernel h c = sym (sheet-rows (r .chain) (k .dims) c)
+
+-- The lines from a reading on.
+lines-back : (ls : List Line) (r : Reading) → Kept r
+    → readLines true r ls .verdict ≡ verdict.Accepted → complete (readLines true r ls .reading) ≡ true → badFactor (readLines true r ls .reading .chain .kernel) ≡ false
+    → written r ++ text ls ≡ sheetOf (readLines true r ls .reading .chain)
+unfolding readLines text stepOf Finite
+lines-back [] r k h e f = append-nil (written r) ∙ all-written r k e
+lines-back (l ∷ ls) r k h e f =
+    by-verdict (lineVerdict true r (seenOf (l .ended) (l .chars)))
+    (λ q. let t = taken r (padded (bytesOf (l .chars))) in
+    let h′ : readLines true t ls .verdict ≡ verdict.Accepted = rw q at h in
+    let e′ : complete (readLines true t ls .reading) ≡ true = rw q at e in
+    let f′ : badFactor (readLines true t ls .reading .chain .kernel) ≡ false = rw q at f in
+    let a = line-adds r k l q (λ z. ap (λ u. badFactor (u .chain .kernel)) (sym (ended t ls z h′)) ∙ f′) in
+    rw q
+    (sym (append-assoc (written r) (l .chars ++ cond (l .ended) (lineFeed ∷ []) []) (text ls))
+    ∙ ap (λ w. w ++ text ls) (sym (a .0))
+    ∙ lines-back ls t (a .1) h′ e′ f′))
+    (λ x q. absurd (refused-accepted (rw q at h)))
+
+kept-start : Kept start
+unfolding Counted
+kept-start = record { offsets = refl; capacities = refl; dims = omega arith; count = omega arith; counted = (refl, refl) }
+
+none-written : written start ≡ []
+unfolding written linesRead linesTo linesFrom
+none-written = refl
+
+pub read-write : ReadWrite
+read-write sheet h =
+    let a = accepted-sheet sheet h in
+    ap sheetOf (accepted-read sheet h)
+    ∙ sym (lines-back (linesOf sheet) start kept-start (a .0) (a .1 .0) (accepted-chain _ (a .1 .1) .factors))
+    ∙ ap (λ w. w ++ text (linesOf sheet)) none-written
+    ∙ text-back sheet

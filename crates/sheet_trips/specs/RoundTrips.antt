@@ -1,0 +1,43 @@
+-- Sheets round-trip (document 01, "Lines of the sheet"): what is promised of writing and reading together.
+use Prim.Native.Nat.{ℕ, _<_}
+use mathlib.Core.List.{List}
+use mathlib.Core.Path.{_≡_}
+use lib.Dec.{T}
+use lib.Ieee.{fits, binary32}
+use lib.IntN.{pos}
+use lib.ListN.{getD}
+use lib.Signed.{mag}
+use Rattle.model.specs.declared.Chain.{Chain}
+use Rattle.model.specs.declared.Kernel.{Kernel}
+use Rattle.model.specs.declared.Kernel.the-variants as kernel
+use Rattle.model.specs.declared.Verdict.the-variants as verdict
+use Rattle.model.specs.Values.{trimmed, Same, chainOf}
+use Rattle.model.specs.Judging.{judgeChain}
+use Rattle.model.specs.Reading.{readChain}
+use Rattle.model.specs.Writing.{sheetOf}
+
+-- What the machine's types give of a chain's value: sizes and capacities of 32 bits, entries of 16 bits in two's complement, factors that binary32 holds.
+unfoldable pub FactorsFit : Kernel → Type 0
+FactorsFit kernel.Raw = Unit
+FactorsFit kernel.Difference = Unit
+FactorsFit (kernel.Scaled f) = T (fits binary32 f)
+FactorsFit (kernel.Blend g) = T (fits binary32 (g .a)) × T (fits binary32 (g .b))
+
+pub record InRange (c : Chain) : Type 0 where
+  pub sizes : (d : ℕ) → getD (c .grid .sizes) d 0 < 4294967296
+  pub entries : (i : ℕ) → mag (getD (c .window .offsets) i (pos 0)) < 32768
+  pub capacities : (k : ℕ) → getD (c .capacities) k 0 < 4294967296
+  pub factors : FactorsFit (c .kernel)
+
+-- A chain that no number turns back, written and read, is accepted and is the same chain, in its normal form.
+pub record Returns (c : Chain) : Type 0 where
+  pub accepted : readChain (sheetOf c) .verdict ≡ verdict.Accepted
+  pub same : Same (readChain (sheetOf c) .chain) c
+  pub normal : readChain (sheetOf c) .chain ≡ chainOf (trimmed c)
+
+abbrev pub WriteRead : Type 0
+WriteRead = (c : Chain) → InRange c → judgeChain c ≡ verdict.Accepted → Returns c
+
+-- An accepted chain sheet, read and written, gives back its bytes.
+abbrev pub ReadWrite : Type 0
+ReadWrite = (sheet : List ℕ) → readChain sheet .verdict ≡ verdict.Accepted → sheetOf (readChain sheet .chain) ≡ sheet

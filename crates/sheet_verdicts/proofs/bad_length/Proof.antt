@@ -1,0 +1,34 @@
+use borrow.Author.Needs.{needs}
+use borrow.Author.Tests.{eq-eqb, ne-eqb}
+use Rattle.model.specs.Reading.{badLength}
+use Rattle.sheet_verdicts.proofs.bad_length.Statement.{statement}
+use Rattle.sheet_verdicts.proofs.bad_length.Tie as tie
+
+mul-result : tie.Need-mul-result
+mul-result c = search needs
+
+add-result : tie.Need-add-result
+add-result c = search needs
+
+returns : tie.Need-returns
+unfolding badLength
+returns c = simp (eq-eqb _ _ (c .if1 .taken))
+
+mul-result-2 : tie.Need-mul-result-2
+mul-result-2 c = search needs
+
+add-result-2 : tie.Need-add-result-2
+add-result-2 c = search needs
+
+returns-2 : tie.Need-returns-2
+unfolding badLength
+returns-2 c = simp (ne-eqb _ _ (c .before .if1 .left), eq-eqb _ _ (c .if2 .taken))
+
+returns-3 : tie.Need-returns-3
+unfolding badLength
+returns-3 c = simp (ne-eqb _ _ (c .before .if1 .left), ne-eqb _ _ (c .if2 .left))
+
+pub bad-length-spec : {M : Type 1} → statement M
+bad-length-spec =
+    tie.close
+    (tie.spec mul-result add-result returns mul-result-2 add-result-2 returns-2 returns-3)

@@ -1,0 +1,71 @@
+use borrow.Author.Needs.{needs}
+use Rattle.model.specs.Lists.{any}
+use Rattle.model.specs.Reading.{nextInChain, among}
+use Rattle.sheet_verdicts.proofs.OrderLaws.{one-left, is-first, not-first}
+use Rattle.sheet_verdicts.proofs.comes_in_chain.Statement.{statement}
+use Rattle.sheet_verdicts.proofs.comes_in_chain.Tie as tie
+
+enum-told : tie.Need-enum-told
+enum-told c = search needs
+
+enum-told-2 : tie.Need-enum-told-2
+enum-told-2 c = search needs
+
+enum-told-3 : tie.Need-enum-told-3
+enum-told-3 c = search needs
+
+enum-told-4 : tie.Need-enum-told-4
+enum-told-4 c = search needs
+
+enum-told-5 : tie.Need-enum-told-5
+enum-told-5 c = search needs
+
+returns : tie.Need-returns
+unfolding nextInChain
+returns c = rw (c .before .enum-told3 .given .1) (is-first _ 2 _ (c .if1 .taken))
+
+returns-2 : tie.Need-returns-2
+unfolding nextInChain
+returns-2 c = let e1 = c .before in rw (e1 .before .enum-told3 .given .1) (not-first _ 2 _ (e1 .if1 .left) (is-first _ 3 _ (c .if2 .taken)))
+
+returns-3 : tie.Need-returns-3
+unfolding nextInChain
+returns-3 c = rw (c .before .enum-told4 .given .1) (is-first _ 3 _ (c .if3 .taken))
+
+returns-4 : tie.Need-returns-4
+unfolding nextInChain
+returns-4 c = rw (c .enum-told .given .1) (one-left _ 1)
+
+returns-5 : tie.Need-returns-5
+unfolding nextInChain
+returns-5 c = rw (c .enum-told2 .given .1) (one-left _ 2)
+
+returns-6 : tie.Need-returns-6
+unfolding nextInChain
+returns-6 c = let e1 = c .before in rw (e1 .before .enum-told3 .given .1) (not-first _ 2 _ (e1 .if1 .left) (not-first _ 3 _ (c .if2 .left) (one-left _ 4)))
+
+returns-7 : tie.Need-returns-7
+unfolding nextInChain
+returns-7 c = rw (c .before .enum-told4 .given .1) (not-first _ 3 _ (c .if3 .left) (one-left _ 4))
+
+returns-8 : tie.Need-returns-8
+unfolding nextInChain among any
+returns-8 c = rw (c .enum-told5 .given .1)
+
+pub comes-in-chain-spec : {M : Type 1} → statement M
+comes-in-chain-spec =
+    tie.close
+    (tie.spec
+    enum-told
+    enum-told-2
+    enum-told-3
+    returns
+    returns-2
+    enum-told-4
+    returns-3
+    enum-told-5
+    returns-4
+    returns-5
+    returns-6
+    returns-7
+    returns-8)

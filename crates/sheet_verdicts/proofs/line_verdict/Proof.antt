@@ -1,0 +1,99 @@
+use borrow.Author.Needs.{needs}
+use Rattle.model.specs.declared.Refusal.the-variants as refusal
+use Rattle.model.specs.Reading.{lineChecks, lineVerdict}
+use Rattle.sheet_verdicts.proofs.CheckLaws.{none, more}
+use Rattle.sheet_verdicts.proofs.line_verdict.Statement.{statement}
+use Rattle.sheet_verdicts.proofs.line_verdict.Tie as tie
+
+array-read-kind : tie.Need-array-read-kind
+array-read-kind c = search needs
+
+array-read-second : tie.Need-array-read-second
+array-read-second c = search needs
+
+whole-frame-requires : tie.Need-whole-frame-requires
+whole-frame-requires c κs = search needs
+
+is-malformed-requires : tie.Need-is-malformed-requires
+is-malformed-requires c κs = search needs
+
+is-misplaced-requires : tie.Need-is-misplaced-requires
+is-misplaced-requires c κs = search needs
+
+bad-dims-requires : tie.Need-bad-dims-requires
+bad-dims-requires c κs = search needs
+
+bad-length-requires : tie.Need-bad-length-requires
+bad-length-requires c κs = search needs
+
+bad-grid-requires : tie.Need-bad-grid-requires
+bad-grid-requires c κs = search needs
+
+too-many-requires : tie.Need-too-many-requires
+too-many-requires c κs = search needs
+
+refused-if-requires : tie.Need-refused-if-requires
+refused-if-requires c κs = search needs
+
+refused-if-requires-2 : tie.Need-refused-if-requires-2
+refused-if-requires-2 c κs = search needs
+
+refused-if-requires-3 : tie.Need-refused-if-requires-3
+refused-if-requires-3 c κs = search needs
+
+refused-if-requires-4 : tie.Need-refused-if-requires-4
+refused-if-requires-4 c κs = search needs
+
+refused-if-requires-5 : tie.Need-refused-if-requires-5
+refused-if-requires-5 c κs = search needs
+
+refused-if-requires-6 : tie.Need-refused-if-requires-6
+refused-if-requires-6 c κs = search needs
+
+returns : tie.Need-returns
+unfolding lineVerdict lineChecks
+returns c =
+    let v2 = c .before in
+    let v3 = v2 .before in
+    let v4 = v3 .before in
+    let v5 = v4 .before in
+    let v6 = v5 .before in
+    let t6 = v6 .before in
+    let t5 = t6 .before in
+    let t4 = t5 .before in
+    let t3 = t4 .before in
+    let t2 = t3 .before in
+    let t1 = t2 .before in
+    let form = rw (t1 .before .whole-frame .ensures) at (t1 .is-malformed .ensures) in
+    more _ refusal.Malformed _ form
+    (more _ refusal.Misplaced _ (t2 .is-misplaced .ensures)
+    (more _ refusal.BadGrid _ (t3 .bad-dims .ensures)
+    (more _ refusal.Malformed _ (t4 .bad-length .ensures)
+    (more _ refusal.BadGrid _ (t5 .bad-grid .ensures)
+    (more _ refusal.BadCount _ (t6 .too-many .ensures) none (v6 .refused-if .ensures))
+    (v5 .refused-if2 .ensures))
+    (v4 .refused-if3 .ensures))
+    (v3 .refused-if4 .ensures))
+    (v2 .refused-if5 .ensures))
+    (c .refused-if6 .ensures)
+
+pub line-verdict-spec : {M : Type 1} → statement M
+line-verdict-spec =
+    tie.close
+    (tie.spec
+    array-read-kind
+    array-read-second
+    whole-frame-requires
+    is-malformed-requires
+    is-misplaced-requires
+    bad-dims-requires
+    bad-length-requires
+    bad-grid-requires
+    too-many-requires
+    refused-if-requires
+    refused-if-requires-2
+    refused-if-requires-3
+    refused-if-requires-4
+    refused-if-requires-5
+    refused-if-requires-6
+    returns)

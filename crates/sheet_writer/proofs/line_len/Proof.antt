@@ -1,0 +1,52 @@
+use borrow.Author.Needs.{needs}
+use Rattle.sheet_laws.specs.Rows.{lenOf}
+use Rattle.sheet_writer.proofs.line_len.Statement.{statement}
+use Rattle.sheet_writer.proofs.line_len.Tie as tie
+
+enum-told : tie.Need-enum-told
+enum-told c = search needs
+
+cast-result : tie.Need-cast-result
+cast-result c = search needs
+
+mul-result : tie.Need-mul-result
+mul-result c = search needs
+
+add-result : tie.Need-add-result
+add-result c = search needs
+
+enum-told-2 : tie.Need-enum-told-2
+enum-told-2 c = search needs
+
+enum-told-3 : tie.Need-enum-told-3
+enum-told-3 c = search needs
+
+kernel-len-requires : tie.Need-kernel-len-requires
+kernel-len-requires c κs = search needs
+
+returns : tie.Need-returns
+unfolding lenOf
+returns c = rw (c .before .enum-told .given .1)
+
+returns-2 : tie.Need-returns-2
+unfolding lenOf
+returns-2 c = rw (c .enum-told2 .given .1)
+
+returns-3 : tie.Need-returns-3
+unfolding lenOf
+returns-3 c = rw (c .before .enum-told3 .given .1) (c .kernel-len .ensures)
+
+pub line-len-spec : {M : Type 1} → statement M
+line-len-spec =
+    tie.close
+    (tie.spec
+    enum-told
+    cast-result
+    mul-result
+    add-result
+    enum-told-2
+    enum-told-3
+    kernel-len-requires
+    returns
+    returns-2
+    returns-3)

@@ -1,0 +1,283 @@
+// Writing a chain sheet, line by line: a line's bytes are made by value, then laid into the lent output.
+use model::Chain;
+use model::Grid;
+use model::KEPT;
+use model::Kernel;
+use model::Refusal;
+use model::Verdict;
+use model::Window;
+use model::Wrote;
+use sheet_laws::Part;
+use values::high_digit;
+use values::low_digit;
+ghost use mathlib.Core.Path.{_≡_};
+ghost use Prim.Native.Nat.{_+_, _*_, _/_, _%_, _≤_, _<_};
+ghost use lib.ListN.{length, take, getD};
+ghost use lib.Seq.{sets};
+ghost use lib.IntN.{pos};
+ghost use Rattle.model.specs.Frames.{kept, framed, padded};
+ghost use Rattle.model.specs.Numbers.{halfBytes, wordBytes, pattern};
+ghost use Rattle.model.specs.Writing.{gridLine, capacityLine, kernelLine, sheetOf};
+ghost use Rattle.sheet_laws.specs.Rows.{gridRow, offsetRow, rowOf, lenOf, partAt};
+ghost use Rattle.sheet_writer.specs.Laying.{written, layOf, Counted, Inside};
+
+// Two and four bytes, most significant first, from byte `at` of a line on.
+
+fn put_half(x: [u8; KEPT], at: usize, w: u16) -> [u8; KEPT]
+    requires { ⌜ at + 1 < kept ⌝ }
+    ensures { λ r. ⌜ r ≡ sets x at (halfBytes w) ⌝ }
+{
+    let mut y = x;
+    y[at] = (w / 256) as u8;
+    y[at + 1] = (w % 256) as u8;
+    y
+}
+
+fn put_word(x: [u8; KEPT], at: usize, w: u32) -> [u8; KEPT]
+    requires { ⌜ at + 3 < kept ⌝ }
+    ensures { λ r. ⌜ r ≡ sets x at (wordBytes w) ⌝ }
+{
+    let mut y = x;
+    y[at] = (w / 16777216) as u8;
+    y[at + 1] = (w / 65536 % 256) as u8;
+    y[at + 2] = (w / 256 % 256) as u8;
+    y[at + 3] = (w % 256) as u8;
+    y
+}
+
+// The rows: all four sizes or entries, of which a line has as many as there are dimensions.
+
+fn grid_row(g: Grid) -> [u8; KEPT]
+    ensures { λ r. ⌜ r ≡ padded (gridRow g) ⌝ }
+{
+    let s = g.sizes;
+    let mut x = [0u8; KEPT];
+    x[0] = 1;
+    x[1] = g.dims;
+    let a = put_word(x, 2, s[0]);
+    let b = put_word(a, 6, s[1]);
+    let c = put_word(b, 10, s[2]);
+    put_word(c, 14, s[3])
+}
+
+fn pattern_at(w: Window, i: usize) -> u16
+    requires { ⌜ i < 128 ⌝ }
+    ensures { λ r. ⌜ r ≡ pattern (getD (w .offsets) i (pos 0)) ⌝ }
+{
+    let offsets = w.offsets;
+    let e = offsets[i];
+    sheet_fields::pattern_of(e)
+}
+
+fn offset_row(w: Window, k: usize) -> [u8; KEPT]
+    requires { ⌜ k < 32 ⌝ }
+    ensures { λ r. ⌜ r ≡ padded (offsetRow w k) ⌝ }
+{
+    let i = 4 * k;
+    let mut x = [0u8; KEPT];
+    x[0] = 2;
+    let a = put_half(x, 1, pattern_at(w, i));
+    let b = put_half(a, 3, pattern_at(w, i + 1));
+    let c = put_half(b, 5, pattern_at(w, i + 2));
+    put_half(c, 7, pattern_at(w, i + 3))
+}
+
+fn capacity_row(places: u32) -> [u8; KEPT]
+    ensures { λ r. ⌜ r ≡ padded (capacityLine places) ⌝ }
+{
+    let mut x = [0u8; KEPT];
+    x[0] = 3;
+    put_word(x, 1, places)
+}
+
+fn kernel_row(k: Kernel) -> [u8; KEPT]
+    ensures { λ r. ⌜ r ≡ padded (kernelLine k) ⌝ }
+{
+    let mut x = [0u8; KEPT];
+    x[0] = 4;
+    match k {
+        Kernel::Raw => x,
+        Kernel::Difference => {
+            x[1] = 1;
+            x
+        }
+        Kernel::Scaled(f) => {
+            x[1] = 2;
+            put_word(x, 2, sheet_fields::bits_of(f))
+        }
+        Kernel::Blend(g) => {
+            x[1] = 3;
+            let a = put_word(x, 2, sheet_fields::bits_of(g.a));
+            put_word(a, 6, sheet_fields::bits_of(g.b))
+        }
+    }
+}
+
+fn kernel_len(k: Kernel) -> usize
+    ensures { λ r. ⌜ r ≡ length (kernelLine k) ⌝ }
+{
+    match k {
+        Kernel::Raw => 2,
+        Kernel::Difference => 2,
+        Kernel::Scaled(_) => 6,
+        Kernel::Blend(_) => 10,
+    }
+}
+
+fn grid_len(g: Grid) -> usize
+    ensures { λ r. ⌜ r ≡ 2 + 4 * g .dims ⌝ }
+{
+    2 + 4 * (g.dims as usize)
+}
+
+// Where line `m` behind the grid's stands, of a sheet with n offsets: the sections have n, n - 1 and 1 lines.
+fn part_at(n: usize, m: usize) -> Part
+    requires { ⌜ m < 2 * n ⌝ }
+    ensures { λ r. ⌜ r ≡ partAt n m ⌝ }
+{
+    if m < n {
+        return Part::Offset(m);
+    }
+    let behind = m - n;
+    if behind + 1 < n {
+        return Part::Capacity(behind);
+    }
+    Part::Kernel
+}
+
+// How many bytes a line has.
+fn line_len(c: Chain, p: Part) -> usize
+    ensures { λ r. ⌜ r ≡ lenOf c p ⌝ }
+{
+    let grid = c.grid;
+    let k = c.kernel;
+    match p {
+        Part::Offset(_) => 1 + 2 * (grid.dims as usize),
+        Part::Capacity(_) => 5,
+        Part::Kernel => kernel_len(k),
+    }
+}
+
+// The row of a line.
+fn row(c: Chain, p: Part) -> [u8; KEPT]
+    requires { ⌜ (c .window .count ≤ 32) × Inside (c .window .count) p ⌝ }
+    ensures { λ r. ⌜ r ≡ padded (rowOf c p) ⌝ }
+{
+    let window = c.window;
+    let capacities = c.capacities;
+    let kernel = c.kernel;
+    match p {
+        Part::Offset(k) => offset_row(window, k),
+        Part::Capacity(k) => capacity_row(capacities[k]),
+        Part::Kernel => kernel_row(kernel),
+    }
+}
+
+// The frame of the first `len` bytes of x, from place `at` of the output on; the place behind it.
+fn put_frame(out: &mut [u8], at: usize, x: [u8; KEPT], len: usize) -> usize
+    requires { ⌜ (len ≤ kept) × (at + 2 * len + 1 ≤ length (now out)) ⌝ }
+    ensures { λ r. ⌜ (r ≡ at + 2 * len + 1) × (now (out .exit) ≡ sets (now (out .entry)) at (framed (take len x))) ⌝ }
+{
+    let mut p = at;
+    let mut i: usize = 0;
+    while i < len {
+        let b = x[i];
+        out[p] = high_digit(b);
+        out[p + 1] = low_digit(b);
+        p = p + 2;
+        i += 1;
+    }
+    out[p] = b'\n';
+    p + 1
+}
+
+fn sheet_len(c: Chain) -> usize
+    requires { ⌜ Counted c ⌝ }
+    ensures { λ r. ⌜ r ≡ length (sheetOf c) ⌝ }
+{
+    let grid = c.grid;
+    let window = c.window;
+    let n = window.count as usize;
+    let lines = 2 * n;
+    let mut total = 2 * grid_len(grid) + 1;
+    let mut m: usize = 0;
+    while m < lines {
+        let len = line_len(c, part_at(n, m));
+        total = total + 2 * len + 1;
+        m += 1;
+    }
+    total
+}
+
+// The grid's line, from the first place of the output on; the place behind it.
+fn put_grid(out: &mut [u8], g: Grid) -> usize
+    requires { ⌜ (g .dims ≤ 4) × (2 * (2 + 4 * g .dims) + 1 ≤ length (now out)) ⌝ }
+    ensures { λ r. ⌜ (r ≡ 2 * (2 + 4 * g .dims) + 1) × (now (out .exit) ≡ sets (now (out .entry)) 0 (framed (gridLine g))) ⌝ }
+{
+    let x = grid_row(g);
+    let len = grid_len(g);
+    put_frame(out, 0, x, len)
+}
+
+fn put_sheet(out: &mut [u8], c: Chain) -> usize
+    requires { ⌜ (Counted c) × (length (sheetOf c) ≤ length (now out)) ⌝ }
+    ensures { λ r. ⌜ (r ≡ length (sheetOf c)) × (now (out .exit) ≡ sets (now (out .entry)) 0 (sheetOf c)) ⌝ }
+{
+    let grid = c.grid;
+    let window = c.window;
+    let n = window.count as usize;
+    let lines = 2 * n;
+    let mut at = put_grid(out, grid);
+    let mut m: usize = 0;
+    while m < lines {
+        let p = part_at(n, m);
+        let len = line_len(c, p);
+        let x = row(c, p);
+        at = put_frame(out, at, x, len);
+        m += 1;
+    }
+    at
+}
+
+// A chain sheet into the lent output, or why not: the counts' 3 and 4, then 12. Nothing else of the chain is judged.
+pub fn write_sheet(c: Chain, out: &mut [u8]) -> Wrote
+    ensures { λ r. ⌜ written r (now (out .exit)) ≡ layOf c (now (out .entry)) ⌝ }
+{
+    let grid = c.grid;
+    let window = c.window;
+    if grid.dims == 0 {
+        return Wrote {
+            verdict: Verdict::Refused(Refusal::BadGrid),
+            bytes: 0,
+        };
+    }
+    if 4 < grid.dims {
+        return Wrote {
+            verdict: Verdict::Refused(Refusal::BadGrid),
+            bytes: 0,
+        };
+    }
+    if window.count == 0 {
+        return Wrote {
+            verdict: Verdict::Refused(Refusal::BadCount),
+            bytes: 0,
+        };
+    }
+    if 32 < window.count {
+        return Wrote {
+            verdict: Verdict::Refused(Refusal::BadCount),
+            bytes: 0,
+        };
+    }
+    if out.len() < sheet_len(c) {
+        return Wrote {
+            verdict: Verdict::Refused(Refusal::ShortOutput),
+            bytes: 0,
+        };
+    }
+    let bytes = put_sheet(out, c);
+    Wrote {
+        verdict: Verdict::Accepted,
+        bytes,
+    }
+}

@@ -1,0 +1,167 @@
+// Small functions on the values of document 01 and on numbers.
+use model::Chain;
+use model::Grid;
+use model::Kernel;
+use model::Refusal;
+use model::Request;
+use model::Window;
+ghost use mathlib.Core.Path.{_≡_};
+ghost use Prim.Native.Nat.{_/_, _%_, _<_, min};
+ghost use Rattle.model.specs.Answers.{numberOf};
+ghost use Rattle.model.specs.Frames.{digitOf};
+ghost use Rattle.model.specs.Values.{blankChain, requestOf, setGrid, setWindow, setCapacities, setKernel};
+
+// What a refusal hands back in place of a chain.
+pub fn blank_chain() -> Chain
+    ensures { λ r. ⌜ r ≡ blankChain ⌝ }
+{
+    Chain {
+        grid: Grid {
+            dims: 0,
+            sizes: [0u32; 4],
+        },
+        window: Window {
+            count: 0,
+            offsets: [0i16; 128],
+        },
+        capacities: [0u32; 31],
+        kernel: Kernel::Raw,
+    }
+}
+
+// The request that a chain without its capacities is.
+pub fn request_of(c: Chain) -> Request
+    ensures { λ r. ⌜ r ≡ requestOf c ⌝ }
+{
+    let grid = c.grid;
+    let window = c.window;
+    let kernel = c.kernel;
+    Request {
+        grid,
+        window,
+        kernel,
+    }
+}
+
+// A chain with one field set.
+
+pub fn set_grid(c: Chain, grid: Grid) -> Chain
+    ensures { λ r. ⌜ r ≡ setGrid grid c ⌝ }
+{
+    let window = c.window;
+    let capacities = c.capacities;
+    let kernel = c.kernel;
+    Chain {
+        grid,
+        window,
+        capacities,
+        kernel,
+    }
+}
+
+pub fn set_window(c: Chain, window: Window) -> Chain
+    ensures { λ r. ⌜ r ≡ setWindow window c ⌝ }
+{
+    let grid = c.grid;
+    let capacities = c.capacities;
+    let kernel = c.kernel;
+    Chain {
+        grid,
+        window,
+        capacities,
+        kernel,
+    }
+}
+
+pub fn set_capacities(c: Chain, capacities: [u32; 31]) -> Chain
+    ensures { λ r. ⌜ r ≡ setCapacities capacities c ⌝ }
+{
+    let grid = c.grid;
+    let window = c.window;
+    let kernel = c.kernel;
+    Chain {
+        grid,
+        window,
+        capacities,
+        kernel,
+    }
+}
+
+pub fn set_kernel(c: Chain, kernel: Kernel) -> Chain
+    ensures { λ r. ⌜ r ≡ setKernel kernel c ⌝ }
+{
+    let grid = c.grid;
+    let window = c.window;
+    let capacities = c.capacities;
+    Chain {
+        grid,
+        window,
+        capacities,
+        kernel,
+    }
+}
+
+// Document 01's number of a refusal.
+pub fn number_of(n: Refusal) -> u8
+    ensures { λ r. ⌜ r ≡ numberOf n ⌝ }
+{
+    match n {
+        Refusal::Malformed => 1,
+        Refusal::Misplaced => 2,
+        Refusal::BadGrid => 3,
+        Refusal::BadCount => 4,
+        Refusal::EqualOffsets => 5,
+        Refusal::NoIteration => 6,
+        Refusal::NoCentre => 7,
+        Refusal::BadFactor => 8,
+        Refusal::TooLarge => 9,
+        Refusal::ShortStore => 10,
+        Refusal::BadState => 11,
+        Refusal::ShortOutput => 12,
+    }
+}
+
+// A number of 32 bits as a wider one.
+pub fn wide(x: u32) -> u64
+    ensures { λ r. ⌜ (r ≡ x) × (r < 4294967296) ⌝ }
+{
+    x as u64
+}
+
+pub fn wide_usize(x: u32) -> usize
+    ensures { λ r. ⌜ (r ≡ x) × (r < 4294967296) ⌝ }
+{
+    x as usize
+}
+
+pub fn lesser(a: usize, b: usize) -> usize
+    ensures { λ r. ⌜ r ≡ min a b ⌝ }
+{
+    if a < b {
+        return a;
+    }
+    b
+}
+
+fn digit_of(v: u8) -> u8
+    requires { ⌜ v < 16 ⌝ }
+    ensures { λ r. ⌜ r ≡ digitOf v ⌝ }
+{
+    if v < 10 {
+        return v + b'0';
+    }
+    v + 55
+}
+
+// The two digits of a byte.
+pub fn high_digit(b: u8) -> u8
+    ensures { λ r. ⌜ r ≡ digitOf (b / 16) ⌝ }
+{
+    digit_of(b / 16)
+}
+
+pub fn low_digit(b: u8) -> u8
+    ensures { λ r. ⌜ r ≡ digitOf (b % 16) ⌝ }
+{
+    digit_of(b % 16)
+}

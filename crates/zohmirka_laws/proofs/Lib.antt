@@ -1,0 +1,4 @@
+pub mod ReadChains
+pub mod ThereAndBack
+pub mod Promised
+pub mod Sizes

@@ -1,0 +1,123 @@
+-- What a chain read from a sheet holds: arrays of their lengths, entries of 16 bits, factors that binary32 holds.
+use Prim.Native.Nat.{ℕ, zero, suc, _<_}
+use mathlib.Core.Bool.{Bool, true}
+use mathlib.Core.List.{List, [], _∷_}
+use mathlib.Core.Path.{_≡_, refl, _∙_}
+use native.Mathlib.Omega.{arith}
+use lib.Dec.{eqb, ltb}
+use lib.Ieee.{binary32}
+use lib.Ieee.Bits.{ofBits-fits}
+use lib.IntN.{ℤ, pos}
+use lib.ListN.{length, getD, set, length-set}
+use lib.Seq.{sets}
+use lib.Signed.{mag}
+use borrow.Author.Tests.{ltb-true, ltb-false}
+use Rattle.model.specs.Answers.{byVerdict}
+use Rattle.model.specs.Frames.{Seen, seenOf}
+use Rattle.model.specs.Lines.{Line, linesOf}
+use Rattle.model.specs.Numbers.{signed, wordAt}
+use Rattle.model.specs.Reading.{withGrid, withOffset, withCapacity, withKernel, kernelIn, entriesIn, sizesIn, taken, stepOf, start, readLines, lineVerdict}
+use Rattle.model.specs.declared.Chain.{Chain}
+use Rattle.model.specs.declared.LineStep.{LineStep}
+use Rattle.model.specs.declared.Reading.{Reading}
+use Rattle.model.specs.declared.Verdict.{Verdict}
+use Rattle.model.specs.declared.Verdict.the-variants as verdict
+use Rattle.sheet_laws.proofs.Cases.{by-bool}
+use Rattle.sheet_trips.specs.RoundTrips.{FactorsFit}
+use Rattle.sheet_trips.proofs.ReadBack.{blank-at}
+
+abbrev Each : List ℤ → Type 0
+Each l = (i : ℕ) → mag (getD l i (pos 0)) < 32768
+
+pub record Held (c : Chain) : Type 0 where
+  pub sizes : length (c .grid .sizes) ≡ 4
+  pub offsets : length (c .window .offsets) ≡ 128
+  pub entries : Each (c .window .offsets)
+  pub capacities : length (c .capacities) ≡ 31
+  pub factors : FactorsFit (c .kernel)
+
+each-set : (l : List ℤ) (k : ℕ) (v : ℤ) → mag v < 32768 → Each l → Each (set l k v)
+each-set [] k v h e i = e i
+each-set (x ∷ l) zero v h e zero = h
+each-set (x ∷ l) zero v h e (suc i) = e (suc i)
+each-set (x ∷ l) (suc k) v h e zero = e zero
+each-set (x ∷ l) (suc k) v h e (suc i) = each-set l k v h (λ j. e (suc j)) i
+
+each-sets : (vs l : List ℤ) (k : ℕ) → Each vs → Each l → Each (sets l k vs)
+each-sets [] l k d e i = e i
+each-sets (v ∷ vs) l k d e i = each-sets vs (set l k v) (suc k) (λ j. d (suc j)) (each-set l k v (d 0) e) i
+
+length-sets : {A : Type 0} (vs l : List A) (k : ℕ) → length (sets l k vs) ≡ length l
+length-sets [] l k = refl
+length-sets (v ∷ vs) l k = length-sets vs (set l k v) (suc k) ∙ length-set l k v
+
+signed-small : (w : ℕ) → mag (signed w) < 32768
+unfolding signed
+signed-small w = by-bool (ltb w 32768) (λ e. rw e (ltb-true w 32768 e)) (λ e. let h = ltb-false w 32768 e in rw e (omega arith))
+
+each-entry : (x : List ℕ) → Each (entriesIn x)
+unfolding entriesIn
+each-entry x zero = signed-small _
+each-entry x (suc zero) = signed-small _
+each-entry x (suc (suc zero)) = signed-small _
+each-entry x (suc (suc (suc zero))) = signed-small _
+each-entry x (suc (suc (suc (suc i)))) = omega arith
+
+kernel-fits : (x : List ℕ) → FactorsFit (kernelIn x)
+unfolding kernelIn FactorsFit
+kernel-fits x =
+    by-bool (eqb (getD x 1 0) 0) (λ e. rw e tt)
+    (λ e.
+    by-bool (eqb (getD x 1 0) 1) (λ d. rw (e, d) tt)
+    (λ d.
+    by-bool (eqb (getD x 1 0) 2) (λ f. rw (e, d, f) (ofBits-fits binary32 _)) (λ f. rw (e, d, f) (ofBits-fits binary32 _, ofBits-fits binary32 _))))
+
+module _ (r : Reading) (x : List ℕ) (h : Held (r .chain)) where
+  held-taken : Held (taken r x .chain)
+  unfolding taken withGrid withOffset withCapacity withKernel sizesIn
+  held-taken =
+      by-bool (eqb (getD x 0 0) 1)
+      (λ e. rw e (record { sizes = refl; offsets = h .offsets; entries = h .entries; capacities = h .capacities; factors = h .factors }))
+      (λ e.
+      by-bool (eqb (getD x 0 0) 2)
+      (λ d. rw (e, d)
+      (record {
+        sizes = h .sizes;
+        offsets = length-sets (entriesIn x) _ _ ∙ h .offsets;
+        entries = each-sets (entriesIn x) _ _ (each-entry x) (h .entries);
+        capacities = h .capacities;
+        factors = h .factors;
+      }))
+      (λ d.
+      by-bool (eqb (getD x 0 0) 3)
+      (λ f. rw (e, d, f)
+      (record { sizes = h .sizes; offsets = h .offsets; entries = h .entries; capacities = length-set (r .chain .capacities) (r .given) (wordAt x 1) ∙ h .capacities; factors = h .factors }))
+      (λ f. rw (e, d, f)
+      (record { sizes = h .sizes; offsets = h .offsets; entries = h .entries; capacities = h .capacities; factors = kernel-fits x }))))
+
+held-step : (chainSheet : Bool) (r : Reading) (l : Seen) → Held (r .chain) → Held (stepOf chainSheet r l .reading .chain)
+unfolding stepOf
+held-step chainSheet r l h = go (lineVerdict chainSheet r l)
+  where
+    go : (v : Verdict) → Held (byVerdict v (taken r (l .first)) (λ x. r) .chain)
+    go verdict.Accepted = held-taken r (l .first) h
+    go (verdict.Refused x) = h
+
+held-either : (v : Verdict) (a b : LineStep) → Held (a .reading .chain) → Held (b .reading .chain) → Held (byVerdict v a (λ x. b) .reading .chain)
+held-either verdict.Accepted a b h k = h
+held-either (verdict.Refused x) a b h k = k
+
+held-lines : (chainSheet : Bool) (r : Reading) (ls : List Line) → Held (r .chain) → Held (readLines chainSheet r ls .reading .chain)
+unfolding readLines
+held-lines chainSheet r [] h = h
+held-lines chainSheet r (l ∷ ls) h =
+    let s = stepOf chainSheet r (seenOf (l .ended) (l .chars)) in
+    let k = held-step chainSheet r (seenOf (l .ended) (l .chars)) h in
+    held-either (s .verdict) (readLines chainSheet (s .reading) ls) s (held-lines chainSheet (s .reading) ls k) k
+
+pub held-read : (sheet : List ℕ) → Held (readLines true start (linesOf sheet) .reading .chain)
+unfolding FactorsFit
+held-read sheet = held-lines true start (linesOf sheet) held-start
+  where
+    held-start : Held (start .chain)
+    held-start = record { sizes = refl; offsets = refl; entries = λ i. rw (blank-at 128 i (pos 0)) (omega arith); capacities = refl; factors = tt }

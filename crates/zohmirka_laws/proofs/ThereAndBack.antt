@@ -1,0 +1,121 @@
+-- A chain's words give back the chain.
+use Prim.Native.Nat.{ℕ, _+_, _-_, _%_, _≤_, _<_}
+use mathlib.Core.List.{List, [], _∷_}
+use mathlib.Core.Path.{_≡_, refl, sym, _∙_, ap}
+use native.Mathlib.Omega.{arith}
+use lib.Ieee.{binary32}
+use lib.Ieee.Bits.{ofBits-toBits}
+use lib.IntN.{pos}
+use lib.ListN.{length, getD, drop, length-append, List·getD-append}
+use borrow.Author.Tests.{lt-ltb, le-ltb}
+use Rattle.model.specs.Lists.{tabulate}
+use Rattle.model.specs.Numbers.{signed, pattern}
+use Rattle.model.specs.declared.Chain.{Chain}
+use Rattle.model.specs.declared.Kernel.{Kernel}
+use Rattle.model.specs.declared.Kernel.the-variants as kernel
+use Rattle.model.proofs.ListLaws.{length-tabulate, getD-tabulate, tabulate-back}
+use Rattle.sheet_trips.specs.RoundTrips.{FactorsFit}
+use Rattle.sheet_trips.proofs.Values.{signed-pattern, pattern-small}
+use Rattle.zohmirka_words.specs.Words.{wordAt, laid, kernelWords, chainWord, chainWords, countIn, kernelIn, chainIn}
+use Rattle.zohmirka_words.proofs.WordLaws.{chain-of-words}
+use Rattle.zohmirka_laws.proofs.ReadChains.{Held}
+
+kernel-back : (k : Kernel) → FactorsFit k → kernelIn (getD (kernelWords k) 0 0) (getD (kernelWords k) 1 0) (getD (kernelWords k) 2 0) ≡ k
+unfolding kernelIn kernelWords FactorsFit
+kernel-back kernel.Raw h = refl
+kernel-back kernel.Difference h = refl
+kernel-back (kernel.Scaled f) h = ap kernel.Scaled (ofBits-toBits binary32 f h)
+kernel-back (kernel.Blend g) (a, b) = rw (ofBits-toBits binary32 (g .a) a, ofBits-toBits binary32 (g .b) b)
+
+count-back : (n : ℕ) → n < 255 → n ≡ countIn n
+unfolding countIn
+count-back n h = rw (lt-ltb _ _ h)
+
+module _ (c : Chain) where
+  at-dims : chainWord c 0 ≡ c .grid .dims
+  unfolding chainWord
+  at-dims = refl
+
+  at-count : chainWord c 5 ≡ c .window .count
+  unfolding chainWord
+  at-count = refl
+
+  at-kernel : (chainWord c 165 ≡ getD (kernelWords (c .kernel)) 0 0)
+      × (chainWord c 166 ≡ getD (kernelWords (c .kernel)) 1 0)
+      × (chainWord c 167 ≡ getD (kernelWords (c .kernel)) 2 0)
+  unfolding chainWord
+  at-kernel = (refl, refl, refl)
+
+  at-size : (d : ℕ) → d < 4 → chainWord c (1 + d) ≡ getD (c .grid .sizes) d 0
+  unfolding chainWord
+  at-size d h =
+      let a : 1 ≤ 1 + d = omega arith in
+      let b : 1 + d < 5 = omega arith in
+      let e : 1 + d - 1 ≡ d = omega arith in
+      rw (le-ltb _ _ a, lt-ltb _ _ b, e)
+
+  at-entry : (i : ℕ) → i < 128 → chainWord c (6 + i) ≡ pattern (getD (c .window .offsets) i (pos 0))
+  unfolding chainWord
+  at-entry i h =
+      let a : 1 ≤ 6 + i = omega arith in
+      let b : 5 ≤ 6 + i = omega arith in
+      let d : 6 ≤ 6 + i = omega arith in
+      let f : 6 + i < 134 = omega arith in
+      let e : 6 + i - 6 ≡ i = omega arith in
+      rw (le-ltb _ _ a, le-ltb _ _ b, le-ltb _ _ d, lt-ltb _ _ f, e)
+
+  at-capacity : (k : ℕ) → k < 31 → chainWord c (134 + k) ≡ getD (c .capacities) k 0
+  unfolding chainWord
+  at-capacity k h =
+      let a : 1 ≤ 134 + k = omega arith in
+      let b : 5 ≤ 134 + k = omega arith in
+      let d : 6 ≤ 134 + k = omega arith in
+      let f : 134 ≤ 134 + k = omega arith in
+      let g : 134 + k < 165 = omega arith in
+      let e : 134 + k - 134 ≡ k = omega arith in
+      rw (le-ltb _ _ a, le-ltb _ _ b, le-ltb _ _ d, le-ltb _ _ f, lt-ltb _ _ g, e)
+
+  module _ (old : List ℕ) where
+    abbrev ws : List ℕ
+    ws = laid (chainWords c) old
+
+    long : 168 ≤ length ws
+    unfolding chainWords
+    long = omega (arith, length-append (chainWords c) (drop (length (chainWords c)) old), length-tabulate 168 (chainWord c))
+
+    at : (i : ℕ) → i < 168 → wordAt ws i ≡ chainWord c i
+    unfolding chainWords
+    at i h =
+        List·getD-append (chainWords c) (drop (length (chainWords c)) old) 0 i (rw (length-tabulate 168 (chainWord c)) h) ∙ getD-tabulate 168 (chainWord c) i 0 h
+
+    pub chain-back : Held c → c .grid .dims ≤ 4 → c .window .count ≤ 32 → c ≡ chainIn ws
+    unfolding tabulate
+    chain-back h few some =
+        chain-of-words ws (c .grid .dims) (c .window .count) (c .grid .sizes) (c .capacities) (c .window .offsets) (c .kernel) long dims sizes count offsets capacities kernels
+      where
+        dims : c .grid .dims ≡ countIn (wordAt ws 0)
+        dims = count-back (c .grid .dims) (omega arith) ∙ ap countIn (sym (at 0 (omega arith) ∙ at-dims))
+
+        sizes : c .grid .sizes ≡ wordAt ws 1 ∷ wordAt ws 2 ∷ wordAt ws 3 ∷ wordAt ws 4 ∷ []
+        sizes = sym (tabulate-back 0 (c .grid .sizes) 4 (λ d. wordAt ws (1 + d)) (h .sizes) (λ d b. at (1 + d) (omega arith) ∙ at-size d b))
+
+        count : c .window .count ≡ countIn (wordAt ws 5)
+        count = count-back (c .window .count) (omega arith) ∙ ap countIn (sym (at 5 (omega arith) ∙ at-count))
+
+        offsets : c .window .offsets ≡ tabulate 128 (λ i. signed (wordAt ws (6 + i) % 65536))
+        offsets =
+            sym
+            (tabulate-back (pos 0) (c .window .offsets) 128 (λ i. signed (wordAt ws (6 + i) % 65536)) (h .offsets)
+            (λ i b.
+            let e = getD (c .window .offsets) i (pos 0) in
+            rw (at (6 + i) (omega arith), at-entry i b, mod-small (pattern e) (pattern-small e (h .entries i))) (signed-pattern e (h .entries i))))
+          where
+            mod-small : (w : ℕ) → w < 65536 → w % 65536 ≡ w
+            mod-small w b = omega arith
+
+        capacities : c .capacities ≡ tabulate 31 (λ k. wordAt ws (134 + k))
+        capacities = sym (tabulate-back 0 (c .capacities) 31 (λ k. wordAt ws (134 + k)) (h .capacities) (λ k b. at (134 + k) (omega arith) ∙ at-capacity k b))
+
+        kernels : c .kernel ≡ kernelIn (wordAt ws 165) (wordAt ws 166) (wordAt ws 167)
+        kernels =
+            rw (at 165 (omega arith) ∙ at-kernel .0, at 166 (omega arith) ∙ at-kernel .1, at 167 (omega arith) ∙ at-kernel .2) (sym (kernel-back (c .kernel) (h .factors)))

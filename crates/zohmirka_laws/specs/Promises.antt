@@ -1,0 +1,69 @@
+-- What is promised of the calls beside what each answers.
+use Prim.Native.Nat.{ℕ, _≤_, _<_}
+use mathlib.Core.List.{List}
+use mathlib.Core.Path.{_≡_}
+use lib.ListN.{length}
+use Rattle.model.specs.Values.{trimmed}
+use Rattle.model.specs.Judging.{judgeChain}
+use Rattle.model.specs.Reading.{readRequest}
+use Rattle.model.specs.Running.{widthOf}
+use Rattle.model.specs.Writing.{longestSheet}
+use Rattle.model.specs.declared.Chain.{Chain}
+use Rattle.model.specs.declared.Verdict.the-variants.{Accepted}
+use Rattle.zohmirka_words.specs.Words.{stateSize, chainSize}
+use Rattle.zohmirka_runs.specs.Runs.{Runs}
+use Rattle.zohmirka.specs.Calls.{planCall, readCall, runSheet, runChain}
+
+-- "buffers untouched on refusal": a call that answers a number left every slice as it was, and counts nothing.
+abbrev pub PlanRefused : Type 0
+PlanRefused =
+    (request sheet : List ℕ) → (planCall request sheet .answer .refusal ≡ 0 → ⊥)
+    → (planCall request sheet .sheet ≡ sheet) × (planCall request sheet .answer .bytes ≡ 0)
+
+abbrev pub ReadRefused : Type 0
+ReadRefused = (sheet chain : List ℕ) → (readCall sheet chain .refusal ≡ 0 → ⊥) → readCall sheet chain .chain ≡ chain
+
+pub record Untouched (state store out : List ℕ) (ran : Runs) : Type 0 where
+  pub state-stays : ran .state ≡ state
+  pub store-stays : ran .store ≡ store
+  pub out-stays : ran .out ≡ out
+  pub refused : ran .report .outcome ≡ 5
+  pub no-cells : ran .report .cells ≡ 0
+  pub no-firings : ran .report .firings ≡ 0
+  pub no-clocks : ran .report .clocks ≡ 0
+
+module _ (P : List ℕ → Runs) where
+  abbrev OfRun : (state store out : List ℕ) → Type 0
+  OfRun state store out = (from : List ℕ) → (P from .report .refusal ≡ 0 → ⊥) → Untouched state store out (P from)
+
+abbrev pub RunRefused : Type 0
+RunRefused =
+    (state store cells out : List ℕ) (allowance : ℕ)
+    → OfRun (runSheet state store cells out allowance) state store out × OfRun (runChain state store cells out allowance) state store out
+
+-- On the words that reading a sheet wrote, a run call does what it does on that sheet.
+abbrev pub SameRuns : Type 0
+SameRuns =
+    (sheet chain state store cells out : List ℕ) (allowance : ℕ) → readCall sheet chain .refusal ≡ 0
+    → runChain state store cells out allowance (readCall sheet chain .chain) ≡ runSheet state store cells out allowance sheet
+
+-- Too few words of a state are refused on every chain, and too few words of a chain are refused by 3.
+abbrev pub ShortState : Type 0
+ShortState =
+    (state store cells out : List ℕ) (allowance : ℕ) (chain : List ℕ) → length state < stateSize → runChain state store cells out allowance chain .report .refusal ≡ 0 → ⊥
+
+abbrev pub ShortChain : Type 0
+ShortChain =
+    (state store cells out : List ℕ) (allowance : ℕ) (chain : List ℕ) → length chain < chainSize → runChain state store cells out allowance chain .report .refusal ≡ 3
+
+-- The sizes of the C header are enough: in `ZOHMIRKA_SHEET_BYTES` every accepted request is planned, with `ZOHMIRKA_STORE_WORDS` no run is refused by 10, and no firing of an
+-- accepted chain writes more than `ZOHMIRKA_FIRING_WORDS`.
+abbrev pub LongSheet : Type 0
+LongSheet = (request sheet : List ℕ) → readRequest request .verdict ≡ Accepted → longestSheet ≤ length sheet → planCall request sheet .answer .refusal ≡ 0
+
+abbrev pub LongStore : Type 0
+LongStore =
+    (state store cells out : List ℕ) (allowance : ℕ) (chain : List ℕ) → 16384 ≤ length store → runChain state store cells out allowance chain .report .refusal ≡ 10 → ⊥
+
+abbrev pub FewWords : Type 0
+FewWords = (c : Chain) → judgeChain c ≡ Accepted → widthOf (trimmed c) ≤ 32

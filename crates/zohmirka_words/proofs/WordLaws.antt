@@ -1,0 +1,108 @@
+-- Lists whose first entries are set one after the other; states and chains by their words.
+use Prim.Native.Nat.{ℕ, zero, suc, _+_, _%_, _≤_, _<_}
+use mathlib.Core.List.{List, [], _∷_, _++_}
+use mathlib.Core.Path.{_≡_, refl, sym, _∙_, ap}
+use native.Mathlib.Nat.{le-of-suc-le-suc}
+use native.Mathlib.Numerals.{add-one}
+use native.Mathlib.Omega.{arith}
+use lib.IntN.{ℤ}
+use lib.ListN.{length, getD, drop, set, replicate}
+use borrow.Author.Tests.{lt-ltb, le-ltb}
+use Rattle.model.specs.Lists.{tabulate}
+use Rattle.model.specs.Numbers.{signed}
+use Rattle.model.specs.Values.{blankChain}
+use Rattle.model.specs.declared.CellsPassed.{CellsPassed}
+use Rattle.model.specs.declared.Chain.{Chain}
+use Rattle.model.specs.declared.Kernel.{Kernel}
+use Rattle.model.specs.declared.State.{State}
+use Rattle.model.proofs.ListLaws.{length-tabulate}
+use Rattle.zohmirka_words.specs.Words.{wordAt, laid, counter, stateWord, stateWords, stateIn, stateInto, chainWord, chainWords, chainInto, countIn, kernelIn, chainIn}
+
+-- The first k entries f's, the others as they were.
+abbrev pub front : {A : Type 0} → (ℕ → A) → ℕ → List A → List A
+front f k old = tabulate k f ++ drop k old
+
+module _ {A : Type 0} where
+  pub front-none : (f : ℕ → A) (old : List A) → old ≡ front f 0 old
+  unfolding tabulate
+  front-none f old = refl
+
+  length-front : (f : ℕ → A) (k : ℕ) (old : List A) → k ≤ length old → length (front f k old) ≡ length old
+  unfolding tabulate
+  length-front f zero old h = refl
+  length-front f (suc k) [] h = absurd (omega arith)
+  length-front f (suc k) (y ∷ ys) h = ap suc (length-front (λ i. f (suc i)) k ys (le-of-suc-le-suc h))
+
+  pub front-long : (f : ℕ → A) (k : ℕ) (old xs : List A) → k ≤ length old → xs ≡ front f k old → length xs ≡ length old
+  front-long f k old xs h r = rw r (length-front f k old h)
+
+  set-front : (f : ℕ → A) (k : ℕ) (old : List A) → k < length old → set (front f k old) k (f k) ≡ front f (suc k) old
+  unfolding tabulate
+  set-front f k [] h = absurd (omega arith)
+  set-front f zero (y ∷ ys) h = refl
+  set-front f (suc k) (y ∷ ys) h = ap (λ (l : List A). f 0 ∷ l) (set-front (λ i. f (suc i)) k ys (le-of-suc-le-suc h))
+
+  -- One entry more.
+  pub front-more : (f : ℕ → A) (k : ℕ) (old xs : List A) (x : A) → k < length old → x ≡ f k → xs ≡ front f k old → set xs k x ≡ front f (k + 1) old
+  front-more f k old xs x h e r = rw (e, r, add-one) (set-front f k old h)
+
+  whole : (f : ℕ → A) (n : ℕ) (rest : A) → front f n (replicate n rest) ≡ tabulate n f
+  unfolding tabulate
+  whole f zero rest = refl
+  whole f (suc n) rest = ap (λ (l : List A). f 0 ∷ l) (whole (λ i. f (suc i)) n rest)
+
+  -- An array that is set to its end.
+  pub front-whole : (f : ℕ → A) (n : ℕ) (rest : A) (k : ℕ) (xs : List A) → n ≤ k → k ≤ n → xs ≡ front f k (replicate n rest) → xs ≡ tabulate n f
+  front-whole f n rest k xs h g r = let e : k ≡ n = omega arith in r ∙ rw e (whole f n rest)
+
+-- Words that are laid into a list from its first place on.
+front-laid : (f : ℕ → ℕ) (n : ℕ) (old : List ℕ) → front f n old ≡ laid (tabulate n f) old
+front-laid f n old = rw length-tabulate
+
+module _ (ws : List ℕ) where
+  pub few-state : length ws < 33 → _≡_ {A = State} (record { passed = replicate 32 (counter 0); fired = record { 0 = 4294967295 } }) (stateIn ws)
+  unfolding stateIn
+  few-state h = rw (lt-ltb _ _ h)
+
+  pub state-of-words : (ps : List CellsPassed) (fired : ℕ) → 33 ≤ length ws → ps ≡ tabulate 32 (λ k. counter (wordAt ws k)) → fired ≡ wordAt ws 32
+      → _≡_ {A = State} (record { passed = ps; fired = record { 0 = fired } }) (stateIn ws)
+  unfolding stateIn
+  state-of-words ps fired h e d = rw (le-ltb _ _ h, e, d)
+
+  pub few-words : (s : State) → length ws < 33 → ws ≡ stateInto s ws
+  unfolding stateInto
+  few-words s h = rw (lt-ltb _ _ h)
+
+  -- One counter more, and the firings made.
+  pub counter-more : (s : State) (k : ℕ) (xs : List ℕ) → k < 32 → k < length ws → xs ≡ front (stateWord s) k ws
+      → set xs k (getD (s .passed) k (counter 0) .0) ≡ front (stateWord s) (k + 1) ws
+  unfolding stateWord
+  counter-more s k xs h g r = front-more (stateWord s) k ws xs _ g (rw (lt-ltb _ _ h)) r
+
+  pub fired-more : (s : State) (k : ℕ) (xs : List ℕ) → 32 ≤ k → k ≤ 32 → 33 ≤ length ws → xs ≡ front (stateWord s) k ws → set xs 32 (s .fired .0) ≡ stateInto s ws
+  unfolding stateWord stateInto stateWords
+  fired-more s k xs h g l r =
+      let e : k ≡ 32 = omega arith in
+      rw (le-ltb _ _ l) (front-more (stateWord s) 32 ws xs (s .fired .0) l refl (rw e at r) ∙ front-laid (stateWord s) 33 ws)
+
+  pub few-places : (c : Chain) → length ws < 168 → ws ≡ chainInto c ws
+  unfolding chainInto
+  few-places c h = rw (lt-ltb _ _ h)
+
+  pub words-of-chain : (c : Chain) (k : ℕ) (xs : List ℕ) → 168 ≤ k → k ≤ 168 → 168 ≤ length ws → xs ≡ front (chainWord c) k ws → xs ≡ chainInto c ws
+  unfolding chainInto chainWords
+  words-of-chain c k xs h g l r =
+      let e : k ≡ 168 = omega arith in
+      rw (le-ltb _ _ l) (r ∙ rw e (front-laid (chainWord c) 168 ws))
+
+  pub few-chain : length ws < 168 → blankChain ≡ chainIn ws
+  unfolding chainIn
+  few-chain h = rw (lt-ltb _ _ h)
+
+  pub chain-of-words : (dims count : ℕ) (sizes capacities : List ℕ) (offsets : List ℤ) (k : Kernel) → 168 ≤ length ws
+      → dims ≡ countIn (wordAt ws 0) → sizes ≡ wordAt ws 1 ∷ wordAt ws 2 ∷ wordAt ws 3 ∷ wordAt ws 4 ∷ [] → count ≡ countIn (wordAt ws 5)
+      → offsets ≡ tabulate 128 (λ i. signed (wordAt ws (6 + i) % 65536)) → capacities ≡ tabulate 31 (λ i. wordAt ws (134 + i))
+      → k ≡ kernelIn (wordAt ws 165) (wordAt ws 166) (wordAt ws 167)
+      → record { grid = record { dims = dims; sizes = sizes }; window = record { count = count; offsets = offsets }; capacities = capacities; kernel = k } ≡ chainIn ws
+  unfolding chainIn
+  chain-of-words dims count sizes capacities offsets k h e1 e2 e3 e4 e5 e6 = rw (le-ltb _ _ h, e1, e2, e3, e4, e5, e6)

@@ -1,0 +1,99 @@
+-- A state and a chain as words.
+use Prim.Native.Nat.{ℕ, _+_, _-_, _%_}
+use mathlib.Core.Bool.{cond}
+use mathlib.Core.List.{List, [], _∷_, _++_}
+use lib.Dec.{eqb, ltb}
+use lib.IntN.{pos}
+use lib.ListN.{length, getD, drop, replicate}
+use Rattle.model.specs.Lists.{tabulate}
+use Rattle.model.specs.Numbers.{signed, pattern}
+use Rattle.model.specs.Kernels.{float, word}
+use Rattle.model.specs.Values.{blankChain}
+use Rattle.model.specs.declared.CellsPassed.{CellsPassed}
+use Rattle.model.specs.declared.Chain.{Chain}
+use Rattle.model.specs.declared.Kernel.{Kernel}
+use Rattle.model.specs.declared.Kernel.the-variants as kernel
+use Rattle.model.specs.declared.State.{State}
+
+abbrev pub wordAt : List ℕ → ℕ → ℕ
+wordAt ws i = getD ws i 0
+
+-- The words of a list of words, from the first place on; later places stay.
+abbrev pub laid : (ws old : List ℕ) → List ℕ
+laid ws old = ws ++ drop (length ws) old
+
+-- States: the input counters, then the firings made.
+
+abbrev pub stateSize : ℕ
+stateSize = 33
+
+abbrev pub counter : ℕ → CellsPassed
+counter p = record { 0 = p }
+
+unfoldable pub stateWord : State → ℕ → ℕ
+stateWord s i = cond (ltb i 32) (getD (s .passed) i (counter 0) .0) (s .fired .0)
+
+unfoldable pub stateWords : State → List ℕ
+stateWords s = tabulate stateSize (stateWord s)
+
+-- Too few words stay as they are.
+unfoldable pub stateInto : State → List ℕ → List ℕ
+stateInto s ws = cond (ltb (length ws) stateSize) ws (laid (stateWords s) ws)
+
+-- Too few words are taken for a state with more firings than any accepted chain has iterations, which 11 turns back.
+unfoldable pub stateIn : List ℕ → State
+stateIn ws =
+    cond (ltb (length ws) stateSize)
+    (record { passed = replicate 32 (counter 0); fired = record { 0 = 4294967295 } })
+    (record { passed = tabulate 32 (λ k. counter (wordAt ws k)); fired = record { 0 = wordAt ws 32 } })
+
+-- Chains: dimension count, sizes, number of references, entries, capacities, kernel and factors.
+
+abbrev pub chainSize : ℕ
+chainSize = 168
+
+unfoldable pub kernelWords : Kernel → List ℕ
+kernelWords kernel.Raw = 0 ∷ 0 ∷ 0 ∷ []
+kernelWords kernel.Difference = 1 ∷ 0 ∷ 0 ∷ []
+kernelWords (kernel.Scaled f) = 2 ∷ word f ∷ 0 ∷ []
+kernelWords (kernel.Blend g) = 3 ∷ word (g .a) ∷ word (g .b) ∷ []
+
+unfoldable pub chainWord : Chain → ℕ → ℕ
+chainWord c i =
+    cond (ltb i 1) (c .grid .dims)
+    (cond (ltb i 5) (getD (c .grid .sizes) (i - 1) 0)
+    (cond (ltb i 6) (c .window .count)
+    (cond (ltb i 134) (pattern (getD (c .window .offsets) (i - 6) (pos 0)))
+    (cond (ltb i 165) (getD (c .capacities) (i - 134) 0)
+    (getD (kernelWords (c .kernel)) (i - 165) 0)))))
+
+unfoldable pub chainWords : Chain → List ℕ
+chainWords c = tabulate chainSize (chainWord c)
+
+-- A count of 8 bits; 255, which 3 and 4 turn back, for all that are greater.
+unfoldable pub countIn : ℕ → ℕ
+countIn w = cond (ltb w 255) w 255
+
+-- A kernel that is none of the four is taken for one with a factor that is not a number, which 8 turns back.
+unfoldable pub kernelIn : (which a b : ℕ) → Kernel
+kernelIn which a b =
+    cond (eqb which 0) kernel.Raw
+    (cond (eqb which 1) kernel.Difference
+    (cond (eqb which 2) (kernel.Scaled (float a))
+    (cond (eqb which 3) (kernel.Blend (record { a = float a; b = float b }))
+    (kernel.Scaled (float 0x7FC00000)))))
+
+-- Too few words are taken for the blank chain, which 3 turns back.
+unfoldable pub chainIn : List ℕ → Chain
+chainIn ws =
+    cond (ltb (length ws) chainSize) blankChain
+    (record {
+      grid = record { dims = countIn (wordAt ws 0); sizes = wordAt ws 1 ∷ wordAt ws 2 ∷ wordAt ws 3 ∷ wordAt ws 4 ∷ [] };
+      window = record { count = countIn (wordAt ws 5); offsets = tabulate 128 (λ i. signed (wordAt ws (6 + i) % 65536)) };
+      capacities = tabulate 31 (λ k. wordAt ws (134 + k));
+      kernel = kernelIn (wordAt ws 165) (wordAt ws 166) (wordAt ws 167);
+    })
+
+-- Too few words stay as they are.
+unfoldable pub chainInto : Chain → List ℕ → List ℕ
+chainInto c ws = cond (ltb (length ws) chainSize) ws (laid (chainWords c) ws)

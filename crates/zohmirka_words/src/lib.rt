@@ -1,0 +1,197 @@
+// A state and a chain as words (specs/Words.antt).
+use model::CellsPassed;
+use model::Chain;
+use model::Factors;
+use model::FiringsMade;
+use model::Grid;
+use model::Kernel;
+use model::State;
+use model::Window;
+ghost use mathlib.Core.Path.{_≡_};
+ghost use Prim.Native.Nat.{_+_, _%_, _≤_, _<_};
+ghost use lib.ListN.{length};
+ghost use Rattle.model.specs.Lists.{tabulate};
+ghost use Rattle.model.specs.Numbers.{signed};
+ghost use Rattle.zohmirka_words.specs.Words.{wordAt, stateIn, stateInto, kernelWords, chainWord, chainInto, countIn, kernelIn, chainIn};
+
+// The state of its words.
+pub fn state_in(words: &[u32]) -> State
+    ensures { λ r. ⌜ r ≡ stateIn (now (words .entry)) ⌝ }
+{
+    let mut passed = [CellsPassed(0); 32];
+    if words.len() < 33 {
+        return State {
+            passed,
+            fired: FiringsMade(4294967295),
+        };
+    }
+    let mut k: usize = 0;
+    while k < 32 {
+        passed[k] = CellsPassed(words[k]);
+        k += 1;
+    }
+    State {
+        passed,
+        fired: FiringsMade(words[32]),
+    }
+}
+
+// The words of a state.
+pub fn state_out(state: State, words: &mut [u32])
+    ensures { λ _. ⌜ now (words .exit) ≡ stateInto state (now (words .entry)) ⌝ }
+{
+    if words.len() < 33 {
+        return;
+    }
+    let passed = state.passed;
+    let fired = state.fired;
+    let mut k: usize = 0;
+    while k < 32 {
+        let p = passed[k];
+        words[k] = p.0;
+        k += 1;
+    }
+    words[32] = fired.0;
+}
+
+fn count_in(w: u32) -> u8
+    ensures { λ r. ⌜ r ≡ countIn w ⌝ }
+{
+    if w < 255 {
+        return w as u8;
+    }
+    255
+}
+
+fn low_half(w: u32) -> u16
+    ensures { λ r. ⌜ r ≡ w % 65536 ⌝ }
+{
+    (w % 65536) as u16
+}
+
+fn kernel_in(which: u32, a: u32, b: u32) -> Kernel
+    ensures { λ r. ⌜ r ≡ kernelIn which a b ⌝ }
+{
+    if which == 0 {
+        return Kernel::Raw;
+    }
+    if which == 1 {
+        return Kernel::Difference;
+    }
+    if which == 2 {
+        return Kernel::Scaled(kernel::float_of(a));
+    }
+    if which == 3 {
+        return Kernel::Blend(Factors {
+            a: kernel::float_of(a),
+            b: kernel::float_of(b),
+        });
+    }
+    Kernel::Scaled(kernel::float_of(0x7FC00000))
+}
+
+fn offsets_in(words: &[u32]) -> [i16; 128]
+    requires { ⌜ 168 ≤ length (now words) ⌝ }
+    ensures { λ r. ⌜ r ≡ tabulate 128 (λ i. signed (wordAt (now (words .entry)) (6 + i) % 65536)) ⌝ }
+{
+    let mut offsets = [0i16; 128];
+    let mut i: usize = 0;
+    while i < 128 {
+        let x = sheet_fields::entry(low_half(words[6 + i]));
+        offsets[i] = x;
+        i += 1;
+    }
+    offsets
+}
+
+fn capacities_in(words: &[u32]) -> [u32; 31]
+    requires { ⌜ 168 ≤ length (now words) ⌝ }
+    ensures { λ r. ⌜ r ≡ tabulate 31 (λ k. wordAt (now (words .entry)) (134 + k)) ⌝ }
+{
+    let mut capacities = [0u32; 31];
+    let mut k: usize = 0;
+    while k < 31 {
+        capacities[k] = words[134 + k];
+        k += 1;
+    }
+    capacities
+}
+
+// The chain of its words.
+pub fn chain_in(words: &[u32]) -> Chain
+    ensures { λ r. ⌜ r ≡ chainIn (now (words .entry)) ⌝ }
+{
+    if words.len() < 168 {
+        return values::blank_chain();
+    }
+    let grid = Grid {
+        dims: count_in(words[0]),
+        sizes: [words[1], words[2], words[3], words[4]],
+    };
+    let window = Window {
+        count: count_in(words[5]),
+        offsets: offsets_in(words),
+    };
+    Chain {
+        grid,
+        window,
+        capacities: capacities_in(words),
+        kernel: kernel_in(words[165], words[166], words[167]),
+    }
+}
+
+fn kernel_words(k: Kernel) -> [u32; 3]
+    ensures { λ r. ⌜ r ≡ kernelWords k ⌝ }
+{
+    match k {
+        Kernel::Raw => [0, 0, 0],
+        Kernel::Difference => [1, 0, 0],
+        Kernel::Scaled(f) => [2, kernel::word_of(f), 0],
+        Kernel::Blend(g) => [3, kernel::word_of(g.a), kernel::word_of(g.b)],
+    }
+}
+
+// Word i of a chain.
+fn chain_word(c: Chain, i: usize) -> u32
+    requires { ⌜ i < 168 ⌝ }
+    ensures { λ r. ⌜ r ≡ chainWord c i ⌝ }
+{
+    let grid = c.grid;
+    let window = c.window;
+    if i < 1 {
+        return grid.dims as u32;
+    }
+    if i < 5 {
+        let sizes = grid.sizes;
+        return sizes[i - 1];
+    }
+    if i < 6 {
+        return window.count as u32;
+    }
+    if i < 134 {
+        let offsets = window.offsets;
+        let x = offsets[i - 6];
+        return sheet_fields::pattern_of(x) as u32;
+    }
+    if i < 165 {
+        let capacities = c.capacities;
+        return capacities[i - 134];
+    }
+    let kernel = c.kernel;
+    let last = kernel_words(kernel);
+    last[i - 165]
+}
+
+// The words of a chain.
+pub fn chain_out(c: Chain, words: &mut [u32])
+    ensures { λ _. ⌜ now (words .exit) ≡ chainInto c (now (words .entry)) ⌝ }
+{
+    if words.len() < 168 {
+        return;
+    }
+    let mut i: usize = 0;
+    while i < 168 {
+        words[i] = chain_word(c, i);
+        i += 1;
+    }
+}
