@@ -1,6 +1,5 @@
 // The two printed listings of document 01.
-use crate::calls::fresh;
-use crate::calls::lend;
+use case_runs::fresh;
 use libc::STDOUT_FILENO;
 use model::Answer;
 use model::Chain;
@@ -30,7 +29,7 @@ fn run(chain: Chain) {
     let cells = [1u32, 2, 3, 4, 5];
     let mut store = [0u32; 3];
     let mut out = [0u32; 4];
-    let r = lend(chain, fresh(), &cells, 0, 5, &mut store, &mut out, 4, 100);
+    let r = runner::run(chain, fresh(), &mut store, &cells, &mut out, 100);
     let answer = r.answer;
     if let Answer::Ended(o) = answer {
         if let Outcome::Done(c) = o {

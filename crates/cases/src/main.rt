@@ -1,16 +1,13 @@
 // Cases 1 to 5 of document 01, the totals of the paper's Table 4 and the two printed listings: the library's plans and runs, and every word of the runs
 // compared with a plain nested loop.
-mod calls;
 mod cells;
-mod compare;
 mod listings;
 mod report;
 
 fn main() {
     let mut cells = [0u32; 786432];
     let mut out = [0u32; 786432];
-    let mut store = [0u32; 16384];
     cells::fill(&mut cells);
-    report::cases(&cells, &mut store, &mut out);
+    report::cases(&cells, &mut out);
     listings::listings();
 }

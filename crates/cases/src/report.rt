@@ -1,21 +1,18 @@
 // What is written of each case.
-use crate::calls::Run;
-use crate::calls::counts;
-use crate::calls::fresh;
-use crate::calls::lend;
-use crate::calls::plus;
-use crate::compare::Compared;
-use crate::compare::compare;
+use case_runs::compare::Compared;
+use case_runs::compare::compare;
 use libc::STDOUT_FILENO;
 use model::Chain;
 use model::Counts;
 use model::Factors;
 use model::Kernel;
+use model::Refusal;
 use model::Verdict;
 use nested::requests::request;
 use nested::windows::Loops;
 use nested::windows::flat;
 use nested::windows::solid;
+use std::num::wrapping_add_usize;
 use values::wide_usize;
 
 fn text(s: &[u8]) {
@@ -38,7 +35,7 @@ fn capacities(places: &[u32; 31], fifos: usize) -> usize {
         if k < 31 {
             let c = wide_usize(places[k]);
             capacity(c);
-            sum = plus(sum, c);
+            sum = wrapping_add_usize(sum, c);
         }
     }
     sum
@@ -76,186 +73,152 @@ fn first_clock(before: Counts, next: Counts) {
     }
 }
 
-// Without an output place a fresh run makes all clocks before its first firing; then it gets places and one clock more.
-fn first_firing(chain: Chain, cells: &[u32], store: &mut [u32], out: &mut [u32]) {
-    let r = lend(chain, fresh(), cells, 0, 1048576, store, out, 0, 4294967295);
-    let answer = r.answer;
-    let before = counts(answer);
-    let state = r.state;
-    let s = lend(
-        chain,
-        state,
-        cells,
-        wide_usize(before.cells),
-        1,
-        store,
-        out,
-        32,
-        1,
-    );
-    let answer = s.answer;
-    first_clock(before, counts(answer));
+fn first_firing(chain: Chain, cells: &[u32]) {
+    let mut store = [0u32; 16384];
+    let mut out = [0u32; 32];
+    let f = case_runs::first_firing(chain, cells, &mut store, &mut out);
+    let before = f.before;
+    let next = f.next;
+    first_clock(before, next);
 }
 
-fn end(r: Run) {
-    if r.done {
-        text(b"done, ");
-    } else {
-        text(b"not done, ");
+fn text_if(holds: bool, s: &[u8]) {
+    if holds {
+        text(s);
     }
-    number(r.firings);
+}
+
+fn end(done: bool, firings: usize, clocks: usize) {
+    text_if(!done, b"not ");
+    text(b"done, ");
+    number(firings);
     text(b" firings, ");
-    number(r.clocks);
+    number(clocks);
     text(b" clocks, ");
 }
 
-// How a run ended, and how many words were compared up to the first that differs.
-fn comparison(c: Compared) {
-    let r = c.run;
-    end(r);
-    number(c.words);
-    if c.same {
-        text(b" words, all the same");
-    } else {
-        text(b" words the same, the next differs");
-    }
+// Which outcomes were met on the way.
+fn met(spent: bool, starved: bool, full: bool) {
+    text(b"; met");
+    text_if(spent, b" Spent,");
+    text_if(starved, b" Starved,");
+    text_if(full, b" Full");
 }
 
-// Which outcomes were met on the way.
-fn met(r: Run) {
-    text(b"; met");
-    if r.spent {
-        text(b" Spent,");
-    }
-    if r.starved {
-        text(b" Starved,");
-    }
-    if r.full {
-        text(b" Full");
+// How a run ended, and how many words were compared up to the first that differs.
+fn comparison(c: Compared, pieces: bool) {
+    let r = c.run;
+    text_if(!pieces, b"  whole: ");
+    text_if(pieces, b"  pieces: ");
+    end(r.done, r.firings, r.clocks);
+    number(c.words);
+    text_if(c.same, b" words, all the same");
+    text_if(!c.same, b" words the same, the next differs");
+    if pieces {
+        met(r.spent, r.starved, r.full);
     }
     text(b"\n");
 }
 
-// Lent whole, and lent in pieces.
-fn runs(
+fn compared(
     l: Loops,
     kernel: Kernel,
     chain: Chain,
+    pieces: bool,
     window: &[u8],
     cells: &[u32],
-    store: &mut [u32],
     out: &mut [u32],
 ) {
-    text(b"  whole: ");
-    let whole = compare(l, kernel, chain, false, window, cells, store, out);
-    comparison(whole);
-    text(b"\n  pieces: ");
-    let pieces = compare(l, kernel, chain, true, window, cells, store, out);
-    comparison(pieces);
-    let run = pieces.run;
-    met(run);
+    let mut store = [0u32; 16384];
+    let c = compare(l, kernel, chain, pieces, window, cells, &mut store, out);
+    comparison(c, pieces);
 }
 
-fn with_kernel(
-    l: Loops,
-    kernel: Kernel,
-    window: &[u8],
-    cells: &[u32],
-    store: &mut [u32],
-    out: &mut [u32],
-) {
-    let p = planner::plan(request(l, window, kernel));
-    let verdict = p.verdict;
-    let chain = p.chain;
-    match verdict {
-        Verdict::Accepted => runs(l, kernel, chain, window, cells, store, out),
-        Verdict::Refused(r) => {
-            text(b"  refusal ");
-            number(values::number_of(r) as usize);
-            text(b"\n");
-        }
+fn refused(r: Refusal) {
+    text(b"  refusal ");
+    number(values::number_of(r) as usize);
+    text(b"\n");
+}
+
+fn name(kernel: Kernel) {
+    match kernel {
+        Kernel::Raw => text(b"raw\n"),
+        Kernel::Difference => text(b"difference\n"),
+        Kernel::Scaled(_) => text(b"scaled\n"),
+        Kernel::Blend(_) => text(b"blend\n"),
     }
 }
 
-fn without_factors(l: Loops, window: &[u8], cells: &[u32], store: &mut [u32], out: &mut [u32]) {
-    text(b"raw\n");
-    with_kernel(l, Kernel::Raw, window, cells, store, out);
-    text(b"difference\n");
-    with_kernel(l, Kernel::Difference, window, cells, store, out);
+// Lent whole, and lent in pieces.
+fn with_kernel(l: Loops, kernel: Kernel, window: &[u8], cells: &[u32], out: &mut [u32]) {
+    let p = planner::plan(request(l, window, kernel));
+    let verdict = p.verdict;
+    let chain = p.chain;
+    name(kernel);
+    match verdict {
+        Verdict::Accepted => {
+            compared(l, kernel, chain, false, window, cells, out);
+            compared(l, kernel, chain, true, window, cells, out);
+        }
+        Verdict::Refused(r) => refused(r),
+    }
 }
 
-fn with_factors(l: Loops, window: &[u8], cells: &[u32], store: &mut [u32], out: &mut [u32]) {
+fn with_kernels(l: Loops, window: &[u8], cells: &[u32], out: &mut [u32]) {
     let f = Factors { a: 0.6, b: 0.1 };
-    text(b"scaled\n");
-    with_kernel(l, Kernel::Scaled(0.2), window, cells, store, out);
-    text(b"blend\n");
-    with_kernel(l, Kernel::Blend(f), window, cells, store, out);
+    with_kernel(l, Kernel::Raw, window, cells, out);
+    with_kernel(l, Kernel::Difference, window, cells, out);
+    with_kernel(l, Kernel::Scaled(0.2), window, cells, out);
+    with_kernel(l, Kernel::Blend(f), window, cells, out);
 }
 
-fn case(name: &[u8], l: Loops, window: &[u8], cells: &[u32], store: &mut [u32], out: &mut [u32]) {
+fn case(name: &[u8], l: Loops, window: &[u8], cells: &[u32], out: &mut [u32]) {
     let p = planner::plan(request(l, window, Kernel::Raw));
     let chain = p.chain;
     text(name);
     fifos(chain);
-    first_firing(chain, cells, store, out);
-    without_factors(l, window, cells, store, out);
-    with_factors(l, window, cells, store, out);
+    first_firing(chain, cells);
+    with_kernels(l, window, cells, out);
 }
 
-fn flat_cases(cells: &[u32], store: &mut [u32], out: &mut [u32]) {
+fn flat_cases(cells: &[u32], out: &mut [u32]) {
     let l = flat(2);
-    case(
-        b"case 1, DENOISE\n",
-        l,
-        b"0+0 00+ 000 00- 0-0",
-        cells,
-        store,
-        out,
-    );
+    case(b"case 1, DENOISE\n", l, b"0+0 00+ 000 00- 0-0", cells, out);
     let l = flat(4);
-    case(
-        b"case 2, RICIAN\n",
-        l,
-        b"0+0 00+ 00- 0-0",
-        cells,
-        store,
-        out,
-    );
+    case(b"case 2, RICIAN\n", l, b"0+0 00+ 00- 0-0", cells, out);
     case(
         b"case 3, SOBEL\n",
         l,
         b"0++ 0+0 0+- 00+ 000 00- 0-+ 0-0 0--",
         cells,
-        store,
         out,
     );
 }
 
-fn solid_cases(cells: &[u32], store: &mut [u32], out: &mut [u32]) {
+fn solid_cases(cells: &[u32], out: &mut [u32]) {
     let l = solid(3);
     case(
         b"case 4, DENOISE_3D\n",
         l,
         b"+00 0+0 00+ 000 00- 0-0 -00",
         cells,
-        store,
         out,
     );
     let l = solid(9);
     let nineteen = b"++0 +0+ +00 +0- +-0 0++ 0+0 0+- 00+ 000 00- 0-+ 0-0 0-- -+0 -0+ -00 -0- --0";
-    case(b"case 5, SEGMENTATION\n", l, nineteen, cells, store, out);
+    case(b"case 5, SEGMENTATION\n", l, nineteen, cells, out);
 }
 
 // The smaller grid takes the first `count` cells.
-fn on_front(count: usize, cells: &[u32], store: &mut [u32], out: &mut [u32]) {
+fn on_front(count: usize, cells: &[u32], out: &mut [u32]) {
     if cells.len() < count {
         return;
     }
-    solid_cases(&cells[..count], store, out);
+    solid_cases(&cells[..count], out);
 }
 
 // Cases 1 to 5.
-pub(crate) fn cases(cells: &[u32; 786432], store: &mut [u32; 16384], out: &mut [u32; 786432]) {
-    flat_cases(cells, store, out);
-    on_front(40960, cells, store, out);
+pub(crate) fn cases(cells: &[u32; 786432], out: &mut [u32; 786432]) {
+    flat_cases(cells, out);
+    on_front(40960, cells, out);
 }

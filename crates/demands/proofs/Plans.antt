@@ -9,7 +9,7 @@ use Rattle.model.specs.Values.{Trimmed, sizesOf, offsetsOf}
 use Rattle.model.specs.Iterations.{iterationsOf, readsOf, distanceOf}
 use Rattle.model.specs.Judging.{judgeChain}
 use Rattle.model.specs.Running.{layout}
-use Rattle.model.specs.Planning.{distances, arranged, trimmedRequest, judgeRequest, sorted, planOf}
+use Rattle.model.specs.Planning.{distances, trimmedRequest, judgeRequest, sorted, planOf}
 use Rattle.model.specs.declared.Request.{Request}
 use Rattle.model.specs.declared.Verdict.the-variants as verdict
 use Rattle.model.proofs.ListLaws.{getD-tabulate}
@@ -42,7 +42,7 @@ module _ (t : Trimmed) (proper : Proper t) (ok : Accepted t) (p : Planned t) whe
 
 module _ (r : Request) (ok : judgeRequest r ≡ verdict.Accepted) where
   planned-pairs : Planned (sorted (trimmedRequest r))
-  unfolding judgeRequest trimmedRequest sorted distances arranged distanceOf
+  unfolding judgeRequest trimmedRequest sorted distances distanceOf
   planned-pairs k g =
       let p = request-proper r in
       let os = offsetsOf (r .grid .dims) (r .window) in

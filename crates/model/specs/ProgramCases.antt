@@ -15,7 +15,7 @@ use Rattle.model.specs.Values.{sizesOf, offsetOf, offsetsOf, capacitiesO
 use Rattle.model.specs.Iterations.{cellsOf, iterationsOf, readsOf, distanceOf}
 use Rattle.model.specs.Answers.{numberOf, verdictNumber, firstOf}
 use Rattle.model.specs.Judging.{badDims, badSizes, badGrid, badCount, repeats, noIteration, needsCentre, lacksCentre, notFinite, badFactor, tooLarge, windowChecks, kernelChecks, capacityChecks, valueChecks, judged, judgeChain}
-use Rattle.model.specs.Planning.{insert, falling, distances, arranged, trimmedRequest, judgeRequest, sorted, plannedChain}
+use Rattle.model.specs.Planning.{insert, falling, distances, trimmedRequest, judgeRequest, sorted, plannedChain}
 use Rattle.model.specs.Kernels.{sumFrom, sumOf, centreOf, others, squared, difference, scaled, blend, written, width}
 use Rattle.model.specs.Clock.{fresh, ready, fires, turn, limit, turns, next, moves}
 use Rattle.model.specs.Store.{firstPlace, placeIn, presented, stored}
@@ -102,7 +102,7 @@ unfolding bytesIn plans runs sameBytes planRight runRight flatMap ofBits toBits 
     cellCount place natural position firstEntry otherEntries leastFrom least lows extent extents iterationCount indices fromLows iteration reads distance cellsOf iterationsOf readsOf distanceOf
     sizesOf offsetOf offsetsOf capacitiesOf chainOf numberOf verdictNumber firstOf
     badDims badSizes badGrid badCount repeats noIteration needsCentre lacksCentre notFinite badFactor tooLarge windowChecks kernelChecks capacityChecks valueChecks judged judgeChain
-    insert falling distances arranged trimmedRequest judgeRequest sorted trimmed plannedChain
+    insert falling distances trimmedRequest judgeRequest sorted trimmed plannedChain
     sumFrom sumOf centreOf others squared difference scaled blend written width
     fresh ready fires turn limit turns next moves firstPlace placeIn presented stored
     layout words clocked look call writtenBy widthOf

@@ -18,7 +18,7 @@ use Rattle.model.specs.Values.{sizesOf, offsetOf, offsetsOf, capacitiesO
 use Rattle.model.specs.Iterations.{distanceOf}
 use Rattle.model.specs.Answers.{numberOf, verdictNumber, firstOf, byVerdict}
 use Rattle.model.specs.Judging.{badDims, badSizes, badGrid, badCount, repeats, noIteration, needsCentre, lacksCentre, notFinite, badFactor, tooLarge, windowChecks, kernelChecks, capacityChecks, valueChecks, judged, judgeChain}
-use Rattle.model.specs.Planning.{insert, falling, distances, arranged, trimmedRequest, judgeRequest}
+use Rattle.model.specs.Planning.{insert, falling, sorted, distances, trimmedRequest, judgeRequest}
 use Rattle.model.specs.Lines.{linesOf}
 use Rattle.model.specs.Frames.{isDigit, valueOf, digitOf, whole, bytesOf, digitsOf, framed, padded, seenOf}
 use Rattle.model.specs.Numbers.{halfAt, wordAt, halfBytes, wordBytes, signed, pattern}
@@ -208,7 +208,7 @@ unfolding bytesIn times requests chains cells sameBytes requestRight writesBack 
     cellCount place natural position firstEntry otherEntries leastFrom least lows extent extents iterationCount indices fromLows iteration reads distance distanceOf
     sizesOf offsetOf offsetsOf capacitiesOf numberOf verdictNumber firstOf
     badDims badSizes badGrid badCount repeats noIteration needsCentre lacksCentre notFinite badFactor tooLarge windowChecks kernelChecks capacityChecks valueChecks judged judgeChain
-    insert falling distances arranged trimmedRequest judgeRequest trimmed
+    insert falling sorted distances trimmedRequest judgeRequest trimmed
     linesOf isDigit valueOf digitOf whole bytesOf digitsOf framed padded halfAt wordAt halfBytes wordBytes signed pattern
     badKernel badForm malformed nextInRequest nextInChain miscounted among misplaced badLength sizesIn lineChecks lineVerdict
     withGrid entriesIn withOffset withCapacity kernelIn withKernel taken stepOf closes complete readLines endVerdict readChain readRequest cellVerdict

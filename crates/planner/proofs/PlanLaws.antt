@@ -8,11 +8,11 @@ use lib.IntN.{ℤ, pos}
 use lib.ListN.{length, getD, List·getD-eq-default}
 use Rattle.model.specs.Lists.{tabulate}
 use Rattle.model.specs.Geometry.{distance}
-use Rattle.model.specs.Values.{sizesOf, offsetOf, offsetsOf, chainOf}
+use Rattle.model.specs.Values.{sizesOf, offsetOf, offsetsOf, trimmedOf, chainOf}
 use Rattle.model.specs.Iterations.{distanceOf}
 use Rattle.model.specs.Answers.{firstOf, byVerdict}
 use Rattle.model.specs.Judging.{tooLarge, windowChecks, capacityChecks}
-use Rattle.model.specs.Planning.{falling, distances, arranged, trimmedRequest, judgeRequest, sorted, plannedChain, planOf}
+use Rattle.model.specs.Planning.{falling, distances, trimmedRequest, judgeRequest, sorted, plannedChain, planOf}
 use Rattle.model.specs.declared.Grid.{Grid}
 use Rattle.model.specs.declared.Window.{Window}
 use Rattle.model.specs.declared.Kernel.{Kernel}
@@ -87,7 +87,7 @@ module _ (g : Grid) (w : Window) (k : Kernel) (e : judgedWindow g w k ≡ verdic
   planning = requestOf g w k
 
   abbrev planned-distances : List ℕ
-  planned-distances = distances (arranged planning)
+  planned-distances = distances (sorted (trimmedOf g w [] k))
 
   pub is-arranged : Arranged g (arrangedOf (g .dims) w)
   unfolding arrangedOf
@@ -105,11 +105,11 @@ module _ (g : Grid) (w : Window) (k : Kernel) (e : judgedWindow g w k ≡ verdic
   -- The capacities in an array, of which as many count as there are distances.
   module _ (xs : List ℕ) (c : xs ≡ capacityArray (distances (onGrid g (arrangedOf (g .dims) w)))) where
     capacities-are : xs ≡ capacityArray planned-distances
-    unfolding distances distanceOf arranged arrangedOf
+    unfolding sorted distances distanceOf arrangedOf
     capacities-are = c ∙ ap (λ (os : List (List ℤ)). capacityArray (tabulate (w .count - 1) (λ i. distance (sizesOf g) os i))) (arranged-offsets (g .dims) w few held)
 
     counted : tabulate (w .count - 1) (numberAt xs) ≡ planned-distances
-    unfolding distances arranged
+    unfolding sorted distances
     counted =
         tabulate-same (w .count - 1) (numberAt xs) (λ i. getD planned-distances i 0)
         (λ i h. ap (λ (ys : List ℕ). getD ys i 0) capacities-are ∙ getD-tabulate 31 (λ j. getD planned-distances j 0) i 0 (omega (arith, held)))

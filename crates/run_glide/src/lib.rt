@@ -271,8 +271,117 @@ pub struct Slid {
     pub firings: usize,
 }
 
-// The clocks of a call whose filters are aligned: every filter moves in each. Filter 0 waits for its wanted cell, `left` iterations are left in the row. Tables that are out of place make no
-// clock, and nothing changes.
+// The clocks of a call whose filters are aligned: every filter moves in each. Filter 0 waits for its wanted cell, `left` iterations are left in the row.
+fn slide(
+    kernel: Kernel,
+    centre: usize,
+    n: usize,
+    at: &[usize; 32],
+    wants: &[usize; 32],
+    caps: &[usize; 32],
+    bases: &[usize; 32],
+    tops: &[usize; 32],
+    dims: usize,
+    spans: &[usize; 4],
+    strides: &[usize; 4],
+    row: usize,
+    iterations: usize,
+    passed: &[usize; 32],
+    fired0: usize,
+    puts: &mut [usize; 32],
+    gets: &mut [usize; 32],
+    store: &mut [u32],
+    cells: &[u32],
+    out: &mut [u32],
+    allowance: usize,
+) -> Slid
+    requires { ⌜ (length (now puts) ≡ 32) × (length (now gets) ≡ 32) ⌝ }
+    requires { ⌜ Sound n dims row iterations (length (now store)) (now at) (now wants) (now bases) (now tops) (now spans) (now strides) (now passed) (now puts) (now gets) ⌝ }
+    ensures { λ r. ⌜ ((t : Trimmed) (size : ℕ)
+        → Glides t kernel n row iterations size centre (widthFor kernel n) fired0 dims (now (at .entry)) (now (wants .entry)) (now (caps .entry)) (now (bases .entry)) (now (tops .entry)) (now (spans .entry)) (now (strides .entry)) (now (passed .entry)) (now (puts .entry)) (now (gets .entry)) (now (store .entry))
+        → GlidesTo r t n iterations size fired0 (now (passed .entry)) (now (store .entry)) (now (store .exit)) (now (out .entry)) (now (out .exit)) (now (cells .entry)) allowance) ⌝ }
+{
+    let first = at[0];
+    let wanted = wants[0];
+    let position = passed[0];
+    let width = kernel::width(kernel, n);
+    let full = run_fill::full_fifos(n, caps, passed);
+    let mut spare = [0u32; 32];
+    let mut fired = fired0;
+    let mut wait = wanted - position;
+    let mut left = row - fired0 % row;
+    let mut taken = 0;
+    let mut o = 0;
+    while fired < iterations {
+        if taken == allowance {
+            return Slid {
+                how: Way::Spent,
+                clocks: taken,
+                firings: fired - fired0,
+            };
+        }
+        if cells.len() <= taken {
+            return Slid {
+                how: Way::Starved,
+                clocks: taken,
+                firings: fired - fired0,
+            };
+        }
+        let word = cells[taken];
+        if 0 < wait {
+            pass(full, n, bases, tops, puts, gets, store, word, &mut spare);
+            wait -= 1;
+            taken += 1;
+            continue;
+        }
+        if out.len() - o < width {
+            return Slid {
+                how: Way::Full,
+                clocks: taken,
+                firings: fired - fired0,
+            };
+        }
+        fire(
+            full,
+            kernel,
+            centre,
+            n,
+            bases,
+            tops,
+            puts,
+            gets,
+            store,
+            word,
+            &mut spare,
+            out,
+            o,
+        );
+        o += width;
+        fired += 1;
+        taken += 1;
+        left -= 1;
+        if 0 < left {
+            continue;
+        }
+        left = row;
+        wait = wait_for(
+            dims,
+            spans,
+            strides,
+            iterations,
+            fired,
+            first,
+            position + taken,
+        );
+    }
+    Slid {
+        how: Way::Done,
+        clocks: taken,
+        firings: fired - fired0,
+    }
+}
+
+// The clocks of a call whose filters are aligned. Tables that are out of place make no clock, and nothing changes.
 pub fn glide(
     kernel: Kernel,
     centre: usize,
@@ -330,89 +439,27 @@ pub fn glide(
             firings: 0,
         };
     }
-    let width = kernel::width(kernel, n);
-    let full = run_fill::full_fifos(n, caps, passed);
-    let mut spare = [0u32; 32];
-    let mut fired = fired0;
-    let mut wait = wanted - position;
-    let mut left = row - fired0 % row;
-    let mut taken = 0;
-    let mut o = 0;
-    while fired < iterations {
-        if taken == allowance {
-            return Slid {
-                how: Way::Spent,
-                clocks: taken,
-                firings: fired - fired0,
-            };
-        }
-        if cells.len() <= taken {
-            return Slid {
-                how: Way::Starved,
-                clocks: taken,
-                firings: fired - fired0,
-            };
-        }
-        let word = cells[taken];
-        if 0 < wait {
-            pass(
-                full,
-                n,
-                bases,
-                tops,
-                &mut puts,
-                &mut gets,
-                store,
-                word,
-                &mut spare,
-            );
-            wait -= 1;
-            taken += 1;
-            continue;
-        }
-        if out.len() - o < width {
-            return Slid {
-                how: Way::Full,
-                clocks: taken,
-                firings: fired - fired0,
-            };
-        }
-        fire(
-            full,
-            kernel,
-            centre,
-            n,
-            bases,
-            tops,
-            &mut puts,
-            &mut gets,
-            store,
-            word,
-            &mut spare,
-            out,
-            o,
-        );
-        o += width;
-        fired += 1;
-        taken += 1;
-        left -= 1;
-        if 0 < left {
-            continue;
-        }
-        left = row;
-        wait = wait_for(
-            dims,
-            spans,
-            strides,
-            iterations,
-            fired,
-            first,
-            position + taken,
-        );
-    }
-    Slid {
-        how: Way::Done,
-        clocks: taken,
-        firings: fired - fired0,
-    }
+    slide(
+        kernel,
+        centre,
+        n,
+        at,
+        wants,
+        caps,
+        bases,
+        tops,
+        dims,
+        spans,
+        strides,
+        row,
+        iterations,
+        passed,
+        fired0,
+        &mut puts,
+        &mut gets,
+        store,
+        cells,
+        out,
+        allowance,
+    )
 }

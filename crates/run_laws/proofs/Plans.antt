@@ -9,7 +9,7 @@ use Rattle.model.specs.Vectors.{isZero}
 use Rattle.model.specs.Values.{Trimmed, trimmed, sizesOf}
 use Rattle.model.specs.Answers.{firstOf}
 use Rattle.model.specs.Judging.{badDims, badSizes, badGrid, repeats, noIteration, windowChecks, valueChecks, judged, judgeChain}
-use Rattle.model.specs.Planning.{falling, distances, arranged, trimmedRequest, judgeRequest, sorted, plannedChain, planOf}
+use Rattle.model.specs.Planning.{falling, distances, trimmedRequest, judgeRequest, sorted, plannedChain, planOf}
 use Rattle.model.specs.declared.Request.{Request}
 use Rattle.model.specs.declared.Verdict.the-variants as verdict
 use Rattle.model.proofs.ListLaws.{length-tabulate}
@@ -44,7 +44,7 @@ unfolding judged
 no-repeats t e = value-passes t e .window .distinct
 
 pub request-proper : (r : Request) → Proper (trimmedRequest r)
-unfolding trimmedRequest trimmed distances arranged
+unfolding trimmedRequest trimmed sorted distances
 request-proper r =
     let p = trimmed-proper (record { grid = r .grid; window = r .window; capacities = []; kernel = r .kernel }) in
     record {

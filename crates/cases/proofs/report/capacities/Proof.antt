@@ -25,8 +25,8 @@ wide-usize-requires c κs = search needs
 capacity-requires : tie.Need-capacity-requires Inv-loop μ-loop
 capacity-requires c κs = search needs
 
-plus-requires : tie.Need-plus-requires Inv-loop μ-loop
-plus-requires c κs = search needs
+wrapping-add-usize-requires : tie.Need-wrapping-add-usize-requires Inv-loop μ-loop
+wrapping-add-usize-requires c κs = search needs
 
 add-k : tie.Need-add-k Inv-loop μ-loop
 add-k c = search needs
@@ -51,7 +51,7 @@ capacities-spec =
     element-copy-out-wide-usize
     wide-usize-requires
     capacity-requires
-    plus-requires
+    wrapping-add-usize-requires
     add-k
     loop-less
     loop-again

@@ -17,9 +17,6 @@ solid-cases-requires c κs = search needs
 same-length : tie.Need-same-length
 same-length c = search needs
 
-same-length-2 : tie.Need-same-length-2
-same-length-2 c = search needs
-
 returns-2 : tie.Need-returns-2
 returns-2 c = search needs
 
@@ -31,5 +28,4 @@ on-front-spec =
     slice-aggregate-solid-cases
     solid-cases-requires
     same-length
-    same-length-2
     returns-2)

@@ -1,12 +1,13 @@
--- `compare` ends: three loops that count, over slices that keep their lengths. Assumes nothing.
+-- Three loops that count, over slices that keep their lengths. Assumes nothing.
 use Prim.Native.Nat.{_-_}
 use borrow.Author.Needs.{needs}
+use lib.Dec.{eqb→eq}
 use lib.ListN.{length}
 use mathlib.Core.Logic.{⊎-elim}
 use mathlib.Core.Path.{_≡_, ap, _∙_}
 use native.Mathlib.Omega.{arith}
-use Rattle.cases.proofs.compare.compare.Statement.{statement}
-use Rattle.cases.proofs.compare.compare.Tie as tie
+use Rattle.case_runs.proofs.compare.compare.Statement.{statement}
+use Rattle.case_runs.proofs.compare.compare.Tie as tie
 
 abbrev Inv-loop3 : tie.InvT-loop3
 Inv-loop3 l kernel chain pieces window cells store₀ out₀ width run₀ at₀ seen₀ z-end y-end x-end z y x₀ store out run at seen x =
@@ -71,8 +72,8 @@ agreeing-at-requires :
     tie.Need-agreeing-at-requires Inv-loop3 μ-loop3 Inv-loop2 μ-loop2 Inv-loop μ-loop
 agreeing-at-requires c κs = search needs
 
-plus-requires : tie.Need-plus-requires Inv-loop3 μ-loop3 Inv-loop2 μ-loop2 Inv-loop μ-loop
-plus-requires c κs = search needs
+wrapping-add-usize-requires : tie.Need-wrapping-add-usize-requires Inv-loop3 μ-loop3 Inv-loop2 μ-loop2 Inv-loop μ-loop
+wrapping-add-usize-requires c κs = search needs
 
 same-length : tie.Need-same-length Inv-loop3 μ-loop3 Inv-loop2 μ-loop2 Inv-loop μ-loop
 same-length c =
@@ -87,10 +88,10 @@ same-length-2 c =
     kept j .1 ∙ l .loop3 .inv .1 ∙ l .before .before .loop2 .inv .1 ∙ l .before .before .before .before .loop .inv .1
 
 returns : tie.Need-returns Inv-loop3 μ-loop3 Inv-loop2 μ-loop2 Inv-loop μ-loop
-returns c = search needs
+returns c = λ e. absurd e
 
-plus-requires-2 : tie.Need-plus-requires-2 Inv-loop3 μ-loop3 Inv-loop2 μ-loop2 Inv-loop μ-loop
-plus-requires-2 c κs = search needs
+wrapping-add-usize-requires-2 : tie.Need-wrapping-add-usize-requires-2 Inv-loop3 μ-loop3 Inv-loop2 μ-loop2 Inv-loop μ-loop
+wrapping-add-usize-requires-2 c κs = search needs
 
 add-x : tie.Need-add-x Inv-loop3 μ-loop3 Inv-loop2 μ-loop2 Inv-loop μ-loop
 add-x c = omega (arith, start (c .before .before .before .before .before .before .before .before .before .before .before .before) .good .0 .1 .1 .1 .1 .1 .1 .1 .1 .1 .1 .1 .0)
@@ -128,7 +129,7 @@ same-length-4 : tie.Need-same-length-4 Inv-loop3 μ-loop3 Inv-loop2 μ-loop2 Inv
 same-length-4 c = search needs
 
 returns-2 : tie.Need-returns-2 Inv-loop3 μ-loop3 Inv-loop2 μ-loop2 Inv-loop μ-loop
-returns-2 c = search needs
+returns-2 c = λ e. eqb→eq _ _ e
 
 pub compare-spec : {M : Type 1} → statement M
 compare-spec =
@@ -148,11 +149,11 @@ compare-spec =
     loop3-holds
     more-requires
     agreeing-at-requires
-    plus-requires
+    wrapping-add-usize-requires
     same-length
     same-length-2
     returns
-    plus-requires-2
+    wrapping-add-usize-requires-2
     add-x
     loop3-less
     loop3-again

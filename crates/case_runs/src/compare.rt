@@ -1,8 +1,7 @@
 // The plain nested loop over a grid's iterations, beside a run of the library.
-use crate::calls::Run;
-use crate::calls::begin;
-use crate::calls::more;
-use crate::calls::plus;
+use crate::Run;
+use crate::begin;
+use crate::more;
 use model::Chain;
 use model::Kernel;
 use nested::agreeing;
@@ -11,11 +10,14 @@ use nested::gather;
 use nested::width;
 use nested::windows::Loops;
 use nested::windows::references;
+use std::num::wrapping_add_usize;
+ghost use Rattle.case_runs.specs.CaseRuns.{AllCompared};
 
-// How far a run's words were compared, and whether all of them are the nested loop's.
+// How far a run's words were compared, of them in the last call's output, and whether all are the nested loop's.
 pub struct Compared {
     pub run: Run,
     pub words: usize,
+    pub at: usize,
     pub same: bool,
 }
 
@@ -40,7 +42,7 @@ fn agreeing_at(
 }
 
 // Every word of a run, in order, beside what the nested loop reads.
-pub(crate) fn compare(
+pub fn compare(
     l: Loops,
     kernel: Kernel,
     chain: Chain,
@@ -49,7 +51,9 @@ pub(crate) fn compare(
     cells: &[u32],
     store: &mut [u32],
     out: &mut [u32],
-) -> Compared {
+) -> Compared
+    ensures { λ r. ⌜ AllCompared r ⌝ }
+{
     let width = width(kernel, references(window));
     let mut run = begin();
     let mut at: usize = 0;
@@ -77,21 +81,23 @@ pub(crate) fn compare(
                     at,
                     run.words,
                 );
-                seen = plus(seen, same);
+                seen = wrapping_add_usize(seen, same);
                 if same != width {
                     return Compared {
                         run,
                         words: seen,
+                        at,
                         same: false,
                     };
                 }
-                at = plus(at, width);
+                at = wrapping_add_usize(at, width);
             }
         }
     }
     Compared {
         run,
         words: seen,
+        at,
         same: at == run.words,
     }
 }
