@@ -1,11 +1,16 @@
 /* Plans and runs the sample of document 01, and prints what `plan` and `run` write for it. Build and run, from the repository's top:
- *   rt staticlib zohmirka && cc -std=c99 -Wall -Wextra -o target/example c/example.c target/staticlib/libzohmirka.a && target/example */
+ *   rt staticlib zohmirka && cc -std=c99 -Wall -Wextra -o target/example c/example.c target/staticlib/libzohmirka.a && target/example
+ * rust/test compares what it prints with c/example.out. */
 #include "zohmirka.h"
 
 #include <stdio.h>
 #include <string.h>
 
 int main(void) {
+    if (zohmirka_version() != ZOHMIRKA_VERSION) {
+        printf("the library is of another version\n");
+        return 1;
+    }
     const char *request = "010100000005\n020000\n020003\n0400\n";
     uint8_t sheet[ZOHMIRKA_SHEET_BYTES];
     struct zohmirka_sheet planned = zohmirka_plan((const uint8_t *)request, strlen(request), sheet, sizeof sheet);

@@ -1,9 +1,13 @@
 /* Zohmirka: plans and runs reuse chains. The functions of target/staticlib/libzohmirka.a, which `rt staticlib zohmirka` writes, for x86-64 Linux.
  *
  * Rules for all functions:
- * - A slice is a pointer and a number of elements. The pointer is never NULL, also where the number is 0, and is aligned for its type. The elements are there and
- *   hold any values. A slice that is written overlaps no other slice of the call, and nobody else reads or writes it meanwhile.
- * - Nothing else is asked: any bytes, words, lengths and allowances are taken. Each function returns, and keeps nothing: what there is to keep is in the slices.
+ * - A slice is a pointer and a number of elements. The pointer is aligned for its type, and so many elements stand there, of any values. The pointer of a slice of
+ *   0 elements may be NULL: nothing is read or written through it.
+ * - While a call runs, nobody else writes what it is lent to read, nor reads or writes what it is lent to write: no other thread, and no other call. A slice that is
+ *   written overlaps no other slice of the call; slices that are only read may overlap, and may be lent to several calls at the same time.
+ * - Nothing else is asked: any bytes, words, lengths and allowances are taken. Each function returns, and keeps nothing: what there is to keep is in the slices. The
+ *   library has no state of its own, allocates nothing and makes no system call; calls may run in several threads at the same time, by the rule above.
+ * - A call needs at most ZOHMIRKA_STACK_BYTES of stack, and the usual floating-point environment: rounding to nearest, subnormals kept (-ffast-math may change it).
  * - `refusal` is document 01's number of what turned the input back first, or 0. After a refusal every slice is as before.
  *
  * Numbers: 1 a malformed line, 2 a line out of its order or missing, 3 dimension count, sizes or number of cells, 4 number of references, 5 two equal offsets,
@@ -22,6 +26,9 @@ extern "C" {
 
 /* The version of this interface. */
 #define ZOHMIRKA_VERSION 1
+
+/* No call needs more bytes of stack, what it calls included. Measured, not proved. */
+#define ZOHMIRKA_STACK_BYTES 16384
 
 /* No chain sheet has more bytes. */
 #define ZOHMIRKA_SHEET_BYTES 1007
@@ -78,10 +85,11 @@ struct zohmirka_sheet zohmirka_plan(const uint8_t *request, size_t request_len, 
 uint32_t zohmirka_judge(const uint8_t *sheet, size_t sheet_len);
 
 /* A run call on the chain of a sheet. Refusals: 1 to 9 of the sheet, then 10, then 11.
- *   state      33 words or more, as the last call left them; later words play no part and stay
- *   store      as many words as the capacities' sum or more, as the last call left them; later words play no part and stay
+ *   state      33 words or more: all 0 before the first call, then as the last call left them; later words play no part and stay
+ *   store      as many words as the capacities' sum or more: of any content before the first call, then as the last call left them; later words play no part and stay
  *   cells      cells of the stream, the first one at the position that word 0 of the state says
- *   out        gets what the firings of this call write, from the first place on; later places stay
+ *   out        gets what the firings of this call write, from the first place on; later places stay. A firing needs as many places as it writes words, raw of n
+ *              references n: lent fewer in every call, a run ends ZOHMIRKA_FULL for ever. ZOHMIRKA_FIRING_WORDS places are enough for a firing of any chain.
  *   allowance  the most clocks that this call may make */
 struct zohmirka_report zohmirka_run(const uint8_t *sheet, size_t sheet_len, uint32_t *state, size_t state_len, uint32_t *store, size_t store_len,
                                     const uint32_t *cells, size_t cells_len, uint32_t *out, size_t out_len, uint32_t allowance);
@@ -94,6 +102,13 @@ uint32_t zohmirka_read_chain(const uint8_t *sheet, size_t sheet_len, uint32_t *c
  * above 255 count as 255; of an entry the low 16 bits count; a kernel above 3 is refused by 8. */
 struct zohmirka_report zohmirka_run_chain(const uint32_t *chain, size_t chain_len, uint32_t *state, size_t state_len, uint32_t *store, size_t store_len,
                                           const uint32_t *cells, size_t cells_len, uint32_t *out, size_t out_len, uint32_t allowance);
+
+/* Judges a chain given as words, as zohmirka_run_chain takes them: 3 to 9, or 0 if it is accepted. */
+uint32_t zohmirka_judge_chain(const uint32_t *chain, size_t chain_len);
+
+/* Writes the sheet of a chain given as words, as zohmirka_run_chain takes them: it goes to the first places of `sheet`, later places stay. Of what zohmirka_read_chain
+ * wrote of a sheet it is that sheet. Refusals: 3 to 9 of the chain, then 12 if the chain sheet has more bytes than `sheet`. */
+struct zohmirka_sheet zohmirka_write_chain(const uint32_t *chain, size_t chain_len, uint8_t *sheet, size_t sheet_len);
 
 #ifdef __cplusplus
 }

@@ -19,13 +19,14 @@ use Rattle.model.specs.declared.Answer.the-variants as answer
 use Rattle.flow.specs.Machine.{live}
 use Rattle.model.specs.Reports.{Reports, clocksOf}
 use Rattle.demands.specs.Demand3.{ListOfCalls, handedOn, oneMore}
-use Rattle.demands.specs.Promises.{MakesClock, Again, again, againStore}
+use Rattle.demands.specs.Promises.{Piece, Over, MakesClock, Again, again, againStore}
 use Rattle.run_laws.proofs.Looks.{Looked, is-done, is-spent, is-starved, is-stalled, is-full}
 use Rattle.run_laws.proofs.Traces.{still-traced}
 use Rattle.run_laws.proofs.Ends.{no-clock}
 use Rattle.run_laws.proofs.Between.{Setting, Reached, now, beginning, ending, clocks, ran, counted-call, lent-length, after-reached, now-after}
-use Rattle.run_laws.proofs.CallEnds.{call-clocks, why, not-short, not-short-events, enough-ends, reported, Over}
-use Rattle.demands.proofs.Finishing.{setting, reached}
+use Rattle.run_laws.proofs.CallEnds.{call-clocks, why, not-short, not-short-events, enough-ends, reported}
+use Rattle.run_laws.proofs.CallEnds as call
+use Rattle.demands.proofs.Finishing.{reports, setting, reached}
 
 module _ (S : Setting) (l : Lending) (b : Between) {es : List Bool} (r : Reached S b es) where
   open Setting S using (trimmed as t, proper as p, accepted as a, stream)
@@ -50,24 +51,21 @@ module _ (S : Setting) (l : Lending) (b : Between) {es : List Bool} (r : Reached
         (omega (arith, w .allowed)) stays (w .why)
 
   -- A call lent a clock, a cell and places makes a clock unless it ends Done or Stalled.
-  pub makes : 0 < l .allowance → 0 < l .cells → widthOf t ≤ length (l .output) → shortStore t (take (l .front) (b .store)) ≡ false
-      → (0 < clocksOf (callRun t stream l b)) ⊎ (Reports outcome.Done (callRun t stream l b) ⊎ Reports outcome.Stalled (callRun t stream l b))
+  pub makes : Piece t l b → (0 < clocksOf (callRun t stream l b)) ⊎ Over (callRun t stream l b)
   unfolding outcomeOf beginning begun
-  makes h c w s = go (length (clocks S l b)) refl
+  makes lent = go (length (clocks S l b)) refl
     where
       stop : length (clocks S l b) ≡ 0 → (e : Ending) → ending S l b .ending ≡ e
-          → Looked (layout t) (writtenBy t) (widthOf t) (lentCells t stream l b) (l .allowance) (beginning S l b) (ends e)
-          → Reports outcome.Done (callRun t stream l b) ⊎ Reports outcome.Stalled (callRun t stream l b)
-      stop z Done x v = inl (record { counts = noCounts; answer = answers s z ∙ ap (λ (e : Ending). answer.Ended (outcomeOf e noCounts)) x })
-      stop z Stalled x v = inr (record { counts = noCounts; answer = answers s z ∙ ap (λ (e : Ending). answer.Ended (outcomeOf e noCounts)) x })
-      stop z Spent x (is-spent _ n) = absurd (omega arith)
-      stop z Starved x (is-starved _ _ n) = absurd (omega (arith, lent-length S l b))
-      stop z Full x (is-full _ _ _ _ _ n) = absurd (omega (arith, zero-mul (widthOf t)))
+          → Looked (layout t) (writtenBy t) (widthOf t) (lentCells t stream l b) (l .allowance) (beginning S l b) (ends e) → Over (callRun t stream l b)
+      stop z Done x v = inl (record { counts = noCounts; answer = answers (lent .store) z ∙ ap (λ (e : Ending). answer.Ended (outcomeOf e noCounts)) x })
+      stop z Stalled x v = inr (record { counts = noCounts; answer = answers (lent .store) z ∙ ap (λ (e : Ending). answer.Ended (outcomeOf e noCounts)) x })
+      stop z Spent x (is-spent _ n) = absurd (omega (arith, lent .clock))
+      stop z Starved x (is-starved _ _ n) = absurd (omega (arith, lent .cell, lent-length S l b))
+      stop z Full x (is-full _ _ _ _ _ n) = absurd (omega (arith, lent .places, zero-mul (widthOf t)))
 
-      go : (n : ℕ) → length (clocks S l b) ≡ n
-          → (0 < clocksOf (callRun t stream l b)) ⊎ (Reports outcome.Done (callRun t stream l b) ⊎ Reports outcome.Stalled (callRun t stream l b))
-      go zero z = inr (stop z (ending S l b .ending) refl (first-look s z))
-      go (suc n) z = inl (omega (arith, call-clocks S l b r, ap length (not-short-events S l b r s)))
+      go : (n : ℕ) → length (clocks S l b) ≡ n → (0 < clocksOf (callRun t stream l b)) ⊎ Over (callRun t stream l b)
+      go zero z = inr (stop z (ending S l b .ending) refl (first-look (lent .store) z))
+      go (suc n) z = inl (omega (arith, call-clocks S l b r, ap length (not-short-events S l b r (lent .store))))
 
   -- A call where there is no clock to make.
   module _ (s : shortStore t (take (l .front) (b .store)) ≡ false) (dead : live (layout t) (now S b) ≡ false) where
@@ -110,11 +108,11 @@ module _ (S : Setting) (l : Lending) (b : Between) {es : List Bool} (r : Reached
         go Full x (is-full _ _ _ m _ _) = absurd (false≢true (sym still ∙ m))
 
 -- There is no clock to make where all firings are made, or nothing would move.
-done-dead : (t : Trimmed) (s : Counters) → layout t .iterations ≤ s .fired → live (layout t) s ≡ false
+pub done-dead : (t : Trimmed) (s : Counters) → layout t .iterations ≤ s .fired → live (layout t) s ≡ false
 unfolding live
 done-dead t s h = rw (le-ltb (s .fired) (layout t .iterations) h)
 
-stalled-dead : (t : Trimmed) (s : Counters) → moves (layout t) s ≡ false → live (layout t) s ≡ false
+pub stalled-dead : (t : Trimmed) (s : Counters) → moves (layout t) s ≡ false → live (layout t) s ≡ false
 unfolding live
 stalled-dead t s e = rw e (and-false (ltb (s .fired) (layout t .iterations)))
 
@@ -140,14 +138,18 @@ module _ (S : Setting) (l : Lending) (b : Between) {es : List Bool} (r : Reached
           → (now S (after t stream l b) .fired < layout t .iterations) × (moves (layout t) (now S (after t stream l b)) ≡ false)
       go s (is-stalled f _ _ m) = rw (now-after S l b r s) (f, m)
 
-  -- A call that is lent enough leaves no clock to make.
-  pub call-stops : LentEnough t l b → live (layout t) (now S (after t stream l b)) ≡ false
-  call-stops h = rw (now-after S l b r (h .store)) (go (enough-ends S l b r h))
+  -- A call that ends Done or Stalled leaves no clock to make, and one that is lent enough ends so.
+  pub over-dead : Over (callRun t stream l b) → live (layout t) (now S (after t stream l b)) ≡ false
+  over-dead (inl x) = done-dead t _ (done-at x)
+  over-dead (inr x) = stalled-dead t _ (stalled-at x .1)
+
+  pub enough-over : LentEnough t l b → Over (callRun t stream l b)
+  unfolding outcomeOf
+  enough-over h = go (enough-ends S l b r h)
     where
-      go : Over S l b r
-          → live (layout t) (ending S l b .standing .counters) ≡ false
-      go (inl (_, f)) = done-dead t (ending S l b .standing .counters) f
-      go (inr (_, _, m)) = stalled-dead t (ending S l b .standing .counters) m
+      go : call.Over S l b r → Over (callRun t stream l b)
+      go (inl (x, _)) = inl (record { counts = ending S l b .standing .done; answer = reports S l b r h Done x })
+      go (inr (x, _, _)) = inr (record { counts = ending S l b .standing .done; answer = reports S l b r h Stalled x })
 
 module _ (q : ListOfCalls) where
   pub makes-clock : MakesClock q

@@ -1,14 +1,23 @@
 -- The demands and the other promises hold.
+use Rattle.demands.specs.Iterations.{Geometry}
 use Rattle.demands.specs.Demand3.{ListOfCalls, Demand3}
 use Rattle.demands.specs.Demand2.{Demand2}
 use Rattle.demands.specs.Plan.{PlanDemand}
 use Rattle.demands.specs.Promises.{Promises}
+use Rattle.demands.specs.AnyState.{AnyStates}
+use Rattle.demands.proofs.Iterations.{geometry}
 use Rattle.demands.proofs.Finishing.{finishes, stalls, numbered}
-use Rattle.demands.proofs.Timing.{on-time, not-earlier}
+use Rattle.demands.proofs.HandedOn.{hands-on}
+use Rattle.demands.proofs.Timing.{indexed, on-time, not-earlier}
 use Rattle.demands.proofs.Words.{demand-2}
 use Rattle.demands.proofs.Plans.{plan-demand}
 use Rattle.demands.proofs.Again.{makes-clock, called-again}
+use Rattle.demands.proofs.Pieces.{small-pieces}
+use Rattle.demands.proofs.AnyState.{any-states}
 use Rattle.demands.proofs.Promised.{clocks-few, never-stale, split, refused-keeps, past-count, alike}
+
+pub grid-window-distances : Geometry
+grid-window-distances = geometry
 
 pub demand-2-plans : PlanDemand
 demand-2-plans = plan-demand
@@ -17,7 +26,7 @@ pub demand-2-runs : (q : ListOfCalls) → Demand2 q
 demand-2-runs = demand-2
 
 pub demand-3 : Demand3
-demand-3 = record { finishes = finishes; stalls = stalls; numbered = numbered; on-time = on-time; not-earlier = not-earlier }
+demand-3 = record { finishes = finishes; stalls = stalls; numbered = numbered; hands-on = hands-on; indexed = indexed; on-time = on-time; not-earlier = not-earlier }
 
 pub promises : Promises
 promises = record {
@@ -26,7 +35,11 @@ promises = record {
   makes-clock = makes-clock;
   again = called-again;
   split = split;
+  small-pieces = small-pieces;
   refused-keeps = refused-keeps;
   past-count = past-count;
   alike = alike;
 }
+
+pub on-any-state : AnyStates
+on-any-state = any-states

@@ -43,7 +43,7 @@ module _ (S : Setting) where
       omega (arith, call-firings S l b r, wrong-fires-not wrong (after-reached S l b r), firings-append es (callEvents t stream l b))
 
   module _ (l : Lending) (b : Between) {es : List Bool} (r : Reached S b es) (h : LentEnough t l b) where
-    reports : (e : Ending) → ending S l b .ending ≡ e
+    pub reports : (e : Ending) → ending S l b .ending ≡ e
         → callRun t stream l b .answer ≡ answer.Ended (outcomeOf e (ending S l b .standing .done))
     unfolding ran
     reports e x =

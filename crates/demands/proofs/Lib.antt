@@ -1,7 +1,14 @@
+pub mod Iterations
 pub mod Finishing
+pub mod HandedOn
 pub mod Timing
 pub mod Words
 pub mod Again
+pub mod Stores
+pub mod SameHandedOn
+pub mod Pieces
 pub mod Plans
+pub mod AnyState
 pub mod Promised
+pub mod PastCounts
 pub mod Demands

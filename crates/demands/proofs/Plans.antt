@@ -5,7 +5,7 @@ use mathlib.Core.Path.{_≡_, refl}
 use native.Mathlib.Omega.{arith}
 use lib.ListN.{length, getD}
 use Rattle.model.specs.Lists.{sum}
-use Rattle.model.specs.Values.{Trimmed, sizesOf, offsetsOf}
+use Rattle.model.specs.Values.{Trimmed, sizesOf, offsetsOf, trimmed}
 use Rattle.model.specs.Iterations.{iterationsOf, readsOf, distanceOf}
 use Rattle.model.specs.Judging.{judgeChain}
 use Rattle.model.specs.Running.{layout}
@@ -13,11 +13,12 @@ use Rattle.model.specs.Planning.{distances, trimmedRequest, judgeRequest, sorte
 use Rattle.model.specs.declared.Request.{Request}
 use Rattle.model.specs.declared.Verdict.the-variants as verdict
 use Rattle.model.proofs.ListLaws.{getD-tabulate}
+use Rattle.model.proofs.SameWindows.{fewest-places}
 use Rattle.model.proofs.SortLaws.{length-falling, falling-each, falling-no-other, falling-falls}
 use Rattle.model.specs.Sized.{Proper}
 use Rattle.run_laws.specs.Accepted.{Accepted}
 use Rattle.model.specs.Right.{Planned}
-use Rattle.run_laws.proofs.Accepts.{accepted}
+use Rattle.run_laws.proofs.Accepts.{trimmed-proper, accepted}
 use Rattle.run_laws.proofs.Layouts.{wants-read, planned-layout}
 use Rattle.run_laws.proofs.Plans.{sorted-proper, no-repeats, request-proper, planned-lists, planned-judged, plan-accepted}
 use Rattle.demands.specs.Plan.{PlanRight, PlanDemand}
@@ -69,6 +70,9 @@ module _ (r : Request) (ok : judgeRequest r ≡ verdict.Accepted) where
         planned = planned-pairs;
         every = every-iteration t proper good planned-pairs;
         total = total-distance t proper good planned-pairs;
+        least = λ c same right.
+            fewest-places t (trimmed c) (same .sizes) (same .each) (same .no-other) proper (trimmed-proper c) right 0 (good .iterates) (good .some)
+            (total-distance t proper good planned-pairs 0 (good .iterates));
       }
 
 pub plan-demand : PlanDemand

@@ -11,10 +11,12 @@ use Rattle.model.specs.Clock.{Counters, fires, fresh}
 use Rattle.model.specs.Running.{layout}
 use Rattle.model.specs.CallLists.{FiresIn}
 use Rattle.model.proofs.Iterations.{newest-most, newest-read, same-newest}
+use Rattle.model.proofs.SameWindows.{same-count, same-iteration}
 use Rattle.flow.specs.Machine.{live, clock, Flows, Ran}
 use Rattle.flow.proofs.Laws.{live-yes, clock-live, still, step, join, not-early, just-in-time, fires-when, newest-first}
 use Rattle.model.specs.Right.{Planned}
-use Rattle.demands.specs.Demand3.{ListOfCalls, eventsOf, OnTime, SameWindow, NotEarlier}
+use Rattle.demands.specs.Plan.{SameWindow}
+use Rattle.demands.specs.Demand3.{ListOfCalls, eventsOf, Indexed, OnTime, NotEarlier}
 use Rattle.model.specs.Sized.{Proper}
 use Rattle.run_laws.specs.Accepted.{Accepted}
 use Rattle.run_laws.proofs.Layouts.{lawful, wants-read, right-flows, planned-right, planned-layout}
@@ -91,6 +93,9 @@ module _ (t : Trimmed) (proper : Proper t) (ok : Accepted t) where
               (omega (arith, lawful t proper ok .rises i 0 (omega arith) (ok .some)))
 
 module _ (q : ListOfCalls) where
+  pub indexed : Indexed q
+  indexed j u f = firing (trimmed (q .chain)) (setting q .proper) (setting q .accepted) (reached q .traced) u j f .left
+
   pub on-time : OnTime q
   on-time =
       let t = trimmed (q .chain) in
@@ -98,7 +103,7 @@ module _ (q : ListOfCalls) where
       record {
         fired = λ planned j h. (
           λ f. omega (arith, fires-on-time t (setting q .proper) (setting q .accepted) tr planned (f .0) j (f .1), f .1 .made, numbered q .clocks),
-          λ due. (newestOf (trimmed (q .chain)) j, due-fires t (setting q .proper) (setting q .accepted) tr planned j h (omega (arith, numbered q .clocks))),
+          λ due. (newestOf (trimmed (q .chain)) j, due-fires t (setting q .proper) (setting q .accepted) tr planned j h (rw (numbered q .clocks) due)),
         );
         clock = λ planned j u f. fires-on-time t (setting q .proper) (setting q .accepted) tr planned u j f;
       }
@@ -108,11 +113,17 @@ module _ (q : ListOfCalls) where
 
 pub not-earlier : (p q : ListOfCalls) → NotEarlier p q
 not-earlier p q = record {
+  same-count = λ same. same-count t u (same .sizes) (same .each) (same .no-other);
+  same-iteration = λ same. same-iteration t u (same .sizes) (same .each) (same .no-other);
   newest-first = first;
   planned-first = λ same planned j u v f g. rw (on-time p .clock planned j u f) (first same j v g);
 }
   where
-    first : SameWindow p q → (j u : ℕ) → FiresIn (eventsOf q) u j → newestOf (trimmed (p .chain)) j ≤ u
-    first same j u f =
-        rw (same-newest (trimmed (p .chain)) (trimmed (q .chain)) (same .sizes) (same .each) (same .no-other) j)
-        (newest-not-early q j u f)
+    t : Trimmed
+    t = trimmed (p .chain)
+
+    u : Trimmed
+    u = trimmed (q .chain)
+
+    first : SameWindow t u → (j v : ℕ) → FiresIn (eventsOf q) v j → newestOf t j ≤ v
+    first same j v f = rw (same-newest t u (same .sizes) (same .each) (same .no-other) j) (newest-not-early q j v f)

@@ -4,18 +4,18 @@ use mathlib.Core.Bool.{Bool}
 use mathlib.Core.List.{List}
 use mathlib.Core.Logic.{_↔_}
 use mathlib.Core.Path.{_≡_}
-use lib.ListN.{length}
-use Rattle.model.specs.Windows.{Members}
+use lib.ListN.{length, getD}
 use Rattle.model.specs.Values.{trimmed}
-use Rattle.model.specs.Iterations.{iterationsOf, newestOf}
+use Rattle.model.specs.Iterations.{iterationsOf, iterationOf, newestOf}
 use Rattle.model.specs.Judging.{judgeChain}
 use Rattle.model.specs.Running.{Run}
-use Rattle.model.specs.CallLists.{Lending, Between, Fresh, LentEnough, FiresIn, firingsAmong, callRun, afterAll, runs, allEvents, clocksMade, firingsMade}
+use Rattle.model.specs.CallLists.{Lending, Between, Fresh, LentEnough, FiresIn, firingsAmong, callRun, afterAll, runs, allEvents, clocksMade, firingsMade, cellsTaken}
 use Rattle.model.specs.declared.Chain.{Chain}
 use Rattle.model.specs.declared.Outcome.the-variants as outcome
 use Rattle.model.specs.declared.Verdict.the-variants as verdict
 use Rattle.model.specs.Right.{Right, Planned}
 use Rattle.model.specs.Reports.{Reports, firingsOf, Each}
+use Rattle.demands.specs.Plan.{SameWindow}
 
 -- A list of calls, perhaps empty, on one accepted chain: one that, handed over as a value, no number turns back. `stream` is the word of each position. At `start` the state is fresh,
 -- its counters past n and the store are as they may be. Each call lends what it likes; refused ones stay in the list and add 0.
@@ -58,26 +58,34 @@ module _ (q : ListOfCalls) where
     pub clocks : length eventsOf ≡ clocksMade runsOf
     pub firings : firingsAmong eventsOf ≡ firingsMade runsOf
 
+  -- The state that is handed on counts the firings made and, at filter 0, the cells taken: both are sums over the list.
+  pub record HandsOn : Type 0 where
+    pub firings : handedOn .state .fired .0 ≡ firingsMade runsOf
+    pub cells : getD (handedOn .state .passed) 0 (record { 0 = 0 }) .0 ≡ cellsTaken runsOf
+
+  -- What fires is an iteration: the firing's index is below their number.
+  abbrev pub Indexed : Type 0
+  Indexed = (j u : ℕ) → FiresIn eventsOf u j → j < iterationsOf (trimmed (q .chain))
+
   -- On a planned chain the iterations fired by the list are exactly those whose newest cell has a position below the clocks made, and each fires in the clock that equals this position.
   pub record OnTime : Type 0 where
     pub fired : Planned (trimmed (q .chain)) → (j : ℕ) → j < iterationsOf (trimmed (q .chain)) → ((u : ℕ) × FiresIn eventsOf u j) ↔ (newestOf (trimmed (q .chain)) j < clocksMade runsOf)
     pub clock : Planned (trimmed (q .chain)) → (j u : ℕ) → FiresIn eventsOf u j → u ≡ newestOf (trimmed (q .chain)) j
 
--- Two lists on chains of the same grid and window: the same sizes, and the same offsets in any order; capacities, kernels, streams and calls as they like.
-pub record SameWindow (p q : ListOfCalls) : Type 0 where
-  pub sizes : trimmed (p .chain) .sizes ≡ trimmed (q .chain) .sizes
-  pub each : Members (trimmed (p .chain) .offsets) (trimmed (q .chain) .offsets)
-  pub no-other : Members (trimmed (q .chain) .offsets) (trimmed (p .chain) .offsets)
-
--- No chain of the same grid and window fires an iteration earlier than the planned one: "in that clock, later or never".
+-- No chain of the same grid and window fires an iteration earlier than the planned one: "in that clock, later or never". Streams and calls of the two lists are as they like.
 pub record NotEarlier (p q : ListOfCalls) : Type 0 where
-  pub newest-first : SameWindow p q → (j u : ℕ) → FiresIn (eventsOf q) u j → newestOf (trimmed (p .chain)) j ≤ u
-  pub planned-first : SameWindow p q → Planned (trimmed (p .chain)) → (j u v : ℕ) → FiresIn (eventsOf p) u j → FiresIn (eventsOf q) v j → u ≤ v
+  -- An index is that of one iteration, the same vector, in both lists.
+  pub same-count : SameWindow (trimmed (p .chain)) (trimmed (q .chain)) → iterationsOf (trimmed (p .chain)) ≡ iterationsOf (trimmed (q .chain))
+  pub same-iteration : SameWindow (trimmed (p .chain)) (trimmed (q .chain)) → (j : ℕ) → iterationOf (trimmed (p .chain)) j ≡ iterationOf (trimmed (q .chain)) j
+  pub newest-first : SameWindow (trimmed (p .chain)) (trimmed (q .chain)) → (j u : ℕ) → FiresIn (eventsOf q) u j → newestOf (trimmed (p .chain)) j ≤ u
+  pub planned-first : SameWindow (trimmed (p .chain)) (trimmed (q .chain)) → Planned (trimmed (p .chain)) → (j u v : ℕ) → FiresIn (eventsOf p) u j → FiresIn (eventsOf q) v j → u ≤ v
 
 -- Demand 3.
 pub record Demand3 : Type 0 where
   pub finishes : (q : ListOfCalls) → Finishes q
   pub stalls : (q : ListOfCalls) → Stalls q
   pub numbered : (q : ListOfCalls) → Numbered q
+  pub hands-on : (q : ListOfCalls) → HandsOn q
+  pub indexed : (q : ListOfCalls) → Indexed q
   pub on-time : (q : ListOfCalls) → OnTime q
   pub not-earlier : (p q : ListOfCalls) → NotEarlier p q

@@ -1,5 +1,5 @@
 -- Demand 2, of a plan: the sorted window and the reuse distances.
-use Prim.Native.Nat.{ℕ, suc, _+_, _-_, _<_}
+use Prim.Native.Nat.{ℕ, suc, _+_, _-_, _≤_, _<_}
 use mathlib.Core.Path.{_≡_}
 use lib.ListN.{getD}
 use Rattle.model.specs.Lists.{sum}
@@ -8,9 +8,16 @@ use Rattle.model.specs.Values.{Trimmed, sizesOf, offsetsOf, trimmed}
 use Rattle.model.specs.Iterations.{iterationsOf, readsOf}
 use Rattle.model.specs.Judging.{judgeChain}
 use Rattle.model.specs.Planning.{judgeRequest, planOf}
+use Rattle.model.specs.declared.Chain.{Chain}
 use Rattle.model.specs.declared.Request.{Request}
 use Rattle.model.specs.declared.Verdict.the-variants as verdict
-use Rattle.model.specs.Right.{Planned}
+use Rattle.model.specs.Right.{Right, Planned}
+
+-- Values of the same grid and window: the same sizes, and the same offsets in any order; capacities and kernels as they like.
+pub record SameWindow (t u : Trimmed) : Type 0 where
+  pub sizes : t .sizes ≡ u .sizes
+  pub each : Members (t .offsets) (u .offsets)
+  pub no-other : Members (u .offsets) (t .offsets)
 
 -- t: the planned chain of the request r, trimmed.
 pub record PlanRight (r : Request) (t : Trimmed) : Type 0 where
@@ -30,6 +37,8 @@ pub record PlanRight (r : Request) (t : Trimmed) : Type 0 where
   -- their sum is the reuse distance of the first and the last reference.
   pub total : (j : ℕ) → j < iterationsOf t
       → readsOf t j 0 ≡ readsOf t j (t .count - 1) + sum (t .capacities)
+  -- No chain of the same grid and window, accepted or not, whose order and capacities are right has fewer places.
+  pub least : (c : Chain) → SameWindow t (trimmed c) → Right (trimmed c) → sum (t .capacities) ≤ sum (trimmed c .capacities)
 
 -- What planning gives.
 pub record PlanGives (r : Request) : Type 0 where

@@ -1,22 +1,33 @@
 -- The other promises of document 01, "Running" and "Turned back".
 use Prim.Native.Nat.{ℕ, _+_, _*_, _≤_, _<_}
 use mathlib.Core.Bool.{true, false}
-use mathlib.Core.List.{List}
+use mathlib.Core.List.{List, [], _∷_}
 use mathlib.Core.Logic.{_⊎_}
 use mathlib.Core.Path.{_≡_}
 use lib.ListN.{length, take, drop}
-use Rattle.model.specs.Values.{trimmed, Same}
+use Rattle.model.specs.Values.{Trimmed, trimmed, Same}
 use Rattle.model.specs.Answers.{noCounts, answerNumber, answerCounts}
 use Rattle.model.specs.Judging.{judgeChain}
-use Rattle.model.specs.Running.{layout, countersOf, widthOf, shortStore, Run, runOf}
-use Rattle.model.specs.CallLists.{Lending, LentEnough, callRun, after, allWords, clocksMade, firingsMade}
+use Rattle.model.specs.Running.{layout, countersOf, widthOf, shortStore, Ending, outcomeOf, Run, runOf}
+use Rattle.model.specs.CallLists.{Lending, Between, LentEnough, callRun, after, allWords, clocksMade, firingsMade}
 use Rattle.model.specs.declared.Chain.{Chain}
 use Rattle.model.specs.declared.State.{State}
 use Rattle.model.specs.declared.Refusal.{Refusal}
 use Rattle.model.specs.declared.Outcome.the-variants as outcome
 use Rattle.model.specs.declared.Answer.the-variants as answer
-use Rattle.model.specs.Reports.{Reports, clocksOf}
+use Rattle.model.specs.Reports.{Reports, firingsOf, clocksOf}
 use Rattle.demands.specs.Demand3.{ListOfCalls, runsOf, handedOn, oneMore}
+
+-- A call's lending has a clock, a cell, places for a firing and a store that 10 does not refuse.
+pub record Piece (t : Trimmed) (l : Lending) (b : Between) : Type 0 where
+  pub clock : 0 < l .allowance
+  pub cell : 0 < l .cells
+  pub places : widthOf t ≤ length (l .output)
+  pub store : shortStore t (take (l .front) (b .store)) ≡ false
+
+-- The run ends Done or Stalled.
+abbrev pub Over : Run → Type 0
+Over r = Reports outcome.Done r ⊎ Reports outcome.Stalled r
 
 module _ (q : ListOfCalls) where
   -- Clocks made is "over a whole run at most n times the number of cells".
@@ -30,9 +41,7 @@ module _ (q : ListOfCalls) where
 
   -- "A call lent a clock, a cell, places for a firing and such a store makes a clock unless it ends Done or Stalled".
   abbrev pub MakesClock : Type 0
-  MakesClock = (l : Lending) → 0 < l .allowance → 0 < l .cells → widthOf (trimmed (q .chain)) ≤ length (l .output)
-      → shortStore (trimmed (q .chain)) (take (l .front) (handedOn q .store)) ≡ false
-      → (0 < clocksOf (oneMore q l)) ⊎ (Reports outcome.Done (oneMore q l) ⊎ Reports outcome.Stalled (oneMore q l))
+  MakesClock = (l : Lending) → Piece (trimmed (q .chain)) l (handedOn q) → (0 < clocksOf (oneMore q l)) ⊎ Over (oneMore q l)
 
   -- The call m after the call l.
   abbrev pub again : (l m : Lending) → Run
@@ -57,16 +66,47 @@ pub record SameRun (p q : ListOfCalls) : Type 0 where
   pub chain : trimmed (p .chain) ≡ trimmed (q .chain)
   pub stream : p .stream ≡ q .stream
 
+-- Both report the same of the five outcomes.
+pub record SameOutcome (r x : Run) : Type 0 where
+  pub ending : Ending
+  pub first : Reports (outcomeOf ending) r
+  pub second : Reports (outcomeOf ending) x
+
+-- Two lists, each with one more call, end alike.
+pub record EndAlike (p q : ListOfCalls) (l m : Lending) : Type 0 where
+  pub clocks : clocksMade (runsOf p) + clocksOf (oneMore p l) ≡ clocksMade (runsOf q) + clocksOf (oneMore q m)
+  pub firings : firingsMade (runsOf p) + firingsOf (oneMore p l) ≡ firingsMade (runsOf q) + firingsOf (oneMore q m)
+  pub counters : countersOf (trimmed (p .chain) .count) (oneMore p l .state) ≡ countersOf (trimmed (q .chain) .count) (oneMore q m .state)
+  pub outcome : SameOutcome (oneMore p l) (oneMore q m)
+
+-- Two lists that start with the same state, which has a counter for each filter, and the same store.
+pub record SameStart (p q : ListOfCalls) : Type 0 where
+  pub start : p .start ≡ q .start
+  pub long : trimmed (p .chain) .count ≤ length (p .start .state .passed)
+
 -- "A run split over calls makes the same firings, clocks and end state as one call": two lists that made equally many clocks stand at the same counters, and made the same firings and
--- words; and two lists, each with one more call that is lent enough, made equally many clocks. (One of them may be empty, so that its one more call is the whole run.)
+-- words; if they started alike, they hand on the same state, counters past n among it, and the same store; and two lists, each with one more call that is lent enough, end alike. (One of
+-- them may be empty, so that its one more call is the whole run.)
 pub record Split (p q : ListOfCalls) : Type 0 where
   pub counters : SameRun p q → clocksMade (runsOf p) ≡ clocksMade (runsOf q)
       → countersOf (trimmed (p .chain) .count) (handedOn p .state) ≡ countersOf (trimmed (q .chain) .count) (handedOn q .state)
   pub firings : SameRun p q → clocksMade (runsOf p) ≡ clocksMade (runsOf q) → firingsMade (runsOf p) ≡ firingsMade (runsOf q)
   pub words : SameRun p q → clocksMade (runsOf p) ≡ clocksMade (runsOf q)
       → allWords (trimmed (p .chain)) (p .stream) (p .calls) (p .start) ≡ allWords (trimmed (q .chain)) (q .stream) (q .calls) (q .start)
-  pub clocks : SameRun p q → (l m : Lending) → LentEnough (trimmed (p .chain)) l (handedOn p) → LentEnough (trimmed (q .chain)) m (handedOn q)
-      → clocksMade (runsOf p) + clocksOf (oneMore p l) ≡ clocksMade (runsOf q) + clocksOf (oneMore q m)
+  pub handed-on : SameRun p q → SameStart p q → clocksMade (runsOf p) ≡ clocksMade (runsOf q) → handedOn p ≡ handedOn q
+  pub ends : SameRun p q → (l m : Lending) → LentEnough (trimmed (p .chain)) l (handedOn p) → LentEnough (trimmed (q .chain)) m (handedOn q) → EndAlike p q l m
+
+module _ (t : Trimmed) (stream : ℕ → ℕ) where
+  -- Each call of a list has such a lending.
+  abbrev pub Pieces : List Lending → Between → Type 0
+  Pieces [] b = Unit {0}
+  Pieces (l ∷ ls) b = Piece t l b × Pieces ls (after t stream l b)
+
+-- "so runs fed in small pieces end alike": two lists, each with one more call that ends Done or Stalled, end alike; and after n times the number of cells such calls one more does end so.
+pub record SmallPieces : Type 0 where
+  pub alike : (p q : ListOfCalls) → SameRun p q → (l m : Lending) → Over (oneMore p l) → Over (oneMore q m) → EndAlike p q l m
+  pub over : (q : ListOfCalls) → Pieces (trimmed (q .chain)) (q .stream) (q .calls) (q .start) → trimmed (q .chain) .count * layout (trimmed (q .chain)) .cells ≤ length (q .calls)
+      → (l : Lending) → Piece (trimmed (q .chain)) l (handedOn q) → Over (oneMore q l)
 
 -- A refused call, of any chain and any state, changes nothing and counts 0.
 abbrev pub RefusedKeeps : Type 0
@@ -94,6 +134,7 @@ pub record Promises : Type 0 where
   pub makes-clock : (q : ListOfCalls) → MakesClock q
   pub again : (q : ListOfCalls) (l m : Lending) → Again q l m
   pub split : (p q : ListOfCalls) → Split p q
+  pub small-pieces : SmallPieces
   pub refused-keeps : RefusedKeeps
   pub past-count : PastCount
   pub alike : Alike

@@ -1,3 +1,4 @@
 pub mod FloatLaws
 pub mod SumLaws
+pub mod TableLaws
 pub mod AppliedLaws

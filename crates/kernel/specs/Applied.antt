@@ -9,7 +9,7 @@ use Rattle.model.specs.Kernels.{written, width}
 use Rattle.model.specs.declared.Kernel.{Kernel}
 
 -- A firing whose cells have the words `ws` in chain order, its result written from place `at` on; where it does not fit, nothing changes.
-unfoldable pub applied : Kernel → (centre : ℕ) (ws : List ℕ) (at : ℕ) (output : List ℕ) → List ℕ
-applied k c ws at output =
-    let after = sets output at (written k c ws) in
-    cond (leb (at + width k (length ws)) (length output)) after output
+unfoldable pub applied : Kernel → (centre : ℕ) (terms writes ws : List ℕ) (at : ℕ) (output : List ℕ) → List ℕ
+applied k c ks us ws at output =
+    let after = sets output at (written k c ks us ws) in
+    cond (leb (at + width k (length us)) (length output)) after output

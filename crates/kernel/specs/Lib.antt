@@ -1,2 +1,3 @@
+pub mod Tables
 pub mod Sums
 pub mod Applied

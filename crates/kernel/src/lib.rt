@@ -2,12 +2,14 @@
 use model::Factors;
 use model::Kernel;
 ghost use mathlib.Core.Path.{_≡_};
-ghost use Prim.Native.Nat.{_+_, _≤_};
+ghost use Prim.Native.Nat.{_+_, _≤_, min};
 ghost use lib.ListN.{length, getD};
 ghost use lib.Seq.{sets};
+ghost use Rattle.model.specs.Lists.{upTo, without};
 ghost use Rattle.model.specs.Judging.{notFinite, badFactor, needsCentre};
-ghost use Rattle.model.specs.Kernels.{float, word, width as widthOf, squared as squaredOf, difference as differenceOf, scaled as scaledOf, blend as blendOf};
-ghost use Rattle.kernel.specs.Sums.{sumOfOthers, sumOfSquares, FirstOther};
+ghost use Rattle.model.specs.Kernels.{float, word, width as widthOf, wordsAt, terms as termsOf, squared as squaredOf, difference as differenceOf, scaled as scaledOf, blend as blendOf};
+ghost use Rattle.kernel.specs.Tables.{tableOf};
+ghost use Rattle.kernel.specs.Sums.{sumOfTerms, sumOfSquares};
 ghost use Rattle.kernel.specs.Applied.{applied};
 
 // The value of a word.
@@ -73,7 +75,7 @@ pub fn needs_centre(k: Kernel) -> bool
     }
 }
 
-// How many words a firing of n references writes.
+// How many words a firing writes, where raw writes those of n filters.
 pub fn width(k: Kernel, n: usize) -> usize
     ensures { λ r. ⌜ r ≡ widthOf k n ⌝ }
 {
@@ -85,42 +87,77 @@ pub fn width(k: Kernel, n: usize) -> usize
     }
 }
 
-// Reference k's word; 0 where there is none.
-fn word_at(words: &[u32], k: usize) -> u32
-    ensures { λ r. ⌜ r ≡ getD (now (words .entry)) k 0 ⌝ }
-{
-    if k < words.len() {
-        return words[k];
-    }
-    0
+// Filter numbers in a table: the first `count` of it.
+pub struct Terms {
+    pub filters: [u8; 32],
+    pub count: usize,
 }
 
-// The first reference that is not the centre.
-fn first_other(centre: usize) -> usize
-    ensures { λ r. ⌜ FirstOther centre r ⌝ }
+// Filters 0 .. n - 1 but the centre, where n is at most 32.
+fn all_but(centre: usize, n: usize) -> Terms
+    ensures { λ r. ⌜ r ≡ tableOf (without centre (upTo (min n 32))) ⌝ }
 {
-    if centre == 0 {
-        return 1;
+    let mut filters = [0u8; 32];
+    let mut count = 0;
+    let mut k = 0;
+    while k < 32 {
+        if n <= k {
+            return Terms { filters, count };
+        }
+        if k == centre {
+            k += 1;
+            continue;
+        }
+        filters[count] = k as u8;
+        count += 1;
+        k += 1;
+    }
+    Terms { filters, count }
+}
+
+// The filters whose words the kernel adds, of filters 0 .. n - 1; n counts no further than 32.
+pub fn terms_of(k: Kernel, centre: u8, n: usize) -> Terms
+    ensures { λ r. ⌜ r ≡ tableOf (termsOf k centre (upTo (min n 32))) ⌝ }
+{
+    match k {
+        Kernel::Raw => Terms {
+            filters: [0; 32],
+            count: 0,
+        },
+        Kernel::Difference => all_but(centre as usize, n),
+        Kernel::Scaled(_) => all_but(32, n),
+        Kernel::Blend(_) => all_but(centre as usize, n),
+    }
+}
+
+// Filter k's word.
+fn word_at(words: &[u32; 256], k: u8) -> u32
+    ensures { λ r. ⌜ r ≡ getD (now (words .entry)) k 0 ⌝ }
+{
+    words[k as usize]
+}
+
+// The word of the filter at place i of the list; 0 where there is none.
+fn listed(filters: &[u8], words: &[u32; 256], i: usize) -> u32
+    ensures { λ r. ⌜ r ≡ getD (wordsAt (now (filters .entry)) (now (words .entry))) i 0 ⌝ }
+{
+    if i < filters.len() {
+        return word_at(words, filters[i]);
     }
     0
 }
 
 // "terms added in chain order starting from the first term; a sum of no terms is +0"
-fn sum_of_others(centre: usize, words: &[u32]) -> f32
-    ensures { λ r. ⌜ r ≡ sumOfOthers centre (now (words .entry)) ⌝ }
+fn sum_of_terms(terms: &[u8], words: &[u32; 256]) -> f32
+    ensures { λ r. ⌜ r ≡ sumOfTerms (now (terms .entry)) (now (words .entry)) ⌝ }
 {
-    let first = first_other(centre);
-    if words.len() <= first {
+    if terms.len() == 0 {
         return 0.0;
     }
-    let mut sum = float_of(words[first]);
-    let mut i = first + 1;
-    while i < words.len() {
-        if i == centre {
-            i += 1;
-            continue;
-        }
-        sum = sum + float_of(words[i]);
+    let mut sum = float_of(listed(terms, words, 0));
+    let mut i = 1;
+    while i < terms.len() {
+        sum = sum + float_of(listed(terms, words, i));
         i += 1;
     }
     sum
@@ -134,92 +171,96 @@ fn squared(centre: u32, other: u32) -> f32
     d * d
 }
 
-// As `sum_of_others`, of the squares.
-fn sum_of_squares(centre: usize, words: &[u32]) -> f32
-    ensures { λ r. ⌜ r ≡ sumOfSquares centre (now (words .entry)) ⌝ }
+// As `sum_of_terms`, of the squares.
+fn sum_of_squares(centre: u8, terms: &[u8], words: &[u32; 256]) -> f32
+    ensures { λ r. ⌜ r ≡ sumOfSquares centre (now (terms .entry)) (now (words .entry)) ⌝ }
 {
-    let first = first_other(centre);
-    if words.len() <= first {
+    if terms.len() == 0 {
         return 0.0;
     }
     let c = word_at(words, centre);
-    let mut squares = squared(c, words[first]);
-    let mut k = first + 1;
-    while k < words.len() {
-        if k == centre {
-            k += 1;
-            continue;
-        }
-        squares = squares + squared(c, words[k]);
-        k += 1;
+    let mut squares = squared(c, listed(terms, words, 0));
+    let mut i = 1;
+    while i < terms.len() {
+        squares = squares + squared(c, listed(terms, words, i));
+        i += 1;
     }
     squares
 }
 
 // "sums the squares of centre less each other reference"
-fn difference(centre: usize, words: &[u32]) -> u32
-    ensures { λ r. ⌜ r ≡ differenceOf centre (now (words .entry)) ⌝ }
+fn difference(centre: u8, terms: &[u8], words: &[u32; 256]) -> u32
+    ensures { λ r. ⌜ r ≡ differenceOf centre (now (terms .entry)) (now (words .entry)) ⌝ }
 {
-    word_of(sum_of_squares(centre, words))
+    word_of(sum_of_squares(centre, terms, words))
 }
 
-// The sum of all references first, one multiplication last.
-fn scaled(factor: f32, words: &[u32]) -> u32
-    ensures { λ r. ⌜ r ≡ scaledOf factor (now (words .entry)) ⌝ }
+// The sum of the terms first, one multiplication last.
+fn scaled(factor: f32, terms: &[u8], words: &[u32; 256]) -> u32
+    ensures { λ r. ⌜ r ≡ scaledOf factor (now (terms .entry)) (now (words .entry)) ⌝ }
 {
-    if words.len() == 0 {
+    if terms.len() == 0 {
         return word_of(0.0 * factor);
     }
-    let mut all = float_of(words[0]);
+    let mut all = float_of(listed(terms, words, 0));
     let mut i = 1;
-    while i < words.len() {
-        all = all + float_of(words[i]);
+    while i < terms.len() {
+        all = all + float_of(listed(terms, words, i));
         i += 1;
     }
     word_of(all * factor)
 }
 
 // "a times the centre plus b times the sum of the others"
-fn blend(g: Factors, centre: usize, words: &[u32]) -> u32
-    ensures { λ r. ⌜ r ≡ blendOf g centre (now (words .entry)) ⌝ }
+fn blend(g: Factors, centre: u8, terms: &[u8], words: &[u32; 256]) -> u32
+    ensures { λ r. ⌜ r ≡ blendOf g centre (now (terms .entry)) (now (words .entry)) ⌝ }
 {
     let c = float_of(word_at(words, centre));
-    let others = sum_of_others(centre, words);
+    let others = sum_of_terms(terms, words);
     word_of(g.a * c + g.b * others)
 }
 
-// The words as they are, from place `at` on.
-fn copy(words: &[u32], out: &mut [u32], at: usize)
-    requires { ⌜ at + length (now words) ≤ length (now out) ⌝ }
-    ensures { λ _. ⌜ now (out .exit) ≡ sets (now (out .entry)) at (now (words .entry)) ⌝ }
+// The words of these filters, from place `at` on.
+fn copy(filters: &[u8], words: &[u32; 256], out: &mut [u32], at: usize)
+    requires { ⌜ at + length (now filters) ≤ length (now out) ⌝ }
+    ensures { λ _. ⌜ now (out .exit) ≡ sets (now (out .entry)) at (wordsAt (now (filters .entry)) (now (words .entry))) ⌝ }
 {
     let mut i = 0;
-    while i < words.len() {
-        out[at + i] = words[i];
+    while i < filters.len() {
+        out[at + i] = listed(filters, words, i);
         i += 1;
     }
 }
 
-// A firing: `words` are its cells in chain order, reference `centre` is the centre. What it writes goes to `out` from place `at` on, if it fits.
-pub fn apply(k: Kernel, centre: usize, words: &[u32], out: &mut [u32], at: usize)
-    ensures { λ _. ⌜ now (out .exit) ≡ applied k centre (now (words .entry)) at (now (out .entry)) ⌝ }
+// A firing: `words` are its cells in chain order, reference `centre` is the centre; `terms` are the filters that the kernel adds, in their order, `writes` those
+// that raw writes. What it writes goes to `out` from place `at` on, if it fits.
+pub fn apply(
+    k: Kernel,
+    centre: u8,
+    terms: &[u8],
+    writes: &[u8],
+    words: &[u32; 256],
+    out: &mut [u32],
+    at: usize,
+)
+    ensures { λ _. ⌜ now (out .exit) ≡ applied k centre (now (terms .entry)) (now (writes .entry)) (now (words .entry)) at (now (out .entry)) ⌝ }
 {
     if out.len() < at {
         return;
     }
-    if out.len() - at < width(k, words.len()) {
+    if out.len() - at < width(k, writes.len()) {
         return;
     }
     match k {
-        Kernel::Raw => copy(words, out, at),
+        Kernel::Raw => copy(writes, words, out, at),
         Kernel::Difference => {
-            out[at] = difference(centre, words);
+            out[at] = difference(centre, terms, words);
         }
         Kernel::Scaled(f) => {
-            out[at] = scaled(f, words);
+            out[at] = scaled(f, terms, words);
         }
         Kernel::Blend(g) => {
-            out[at] = blend(g, centre, words);
+            out[at] = blend(g, centre, terms, words);
         }
     }
 }

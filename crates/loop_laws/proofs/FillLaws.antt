@@ -17,6 +17,7 @@ use Rattle.flow.specs.Machine.{Invariant}
 use Rattle.flow.proofs.Tests.{fires-yes}
 use Rattle.flow.proofs.Invariant.{next-invariant}
 use Rattle.run_laws.proofs.Held.{Steps, next-steps}
+use Rattle.run_laws.proofs.Lengths.{length-turns}
 use Rattle.loop_laws.specs.Passes.{of, Aligned}
 use Rattle.loop_laws.specs.Sweeps.{swept, Lined, Ringed, Turns, Turned}
 use Rattle.loop_laws.specs.Standings.{counting, stand, endedAt}
@@ -53,11 +54,6 @@ some-moved true e = refl
 some-moved false e = absurd (false≢true (sym e))
 
 -- ---- lists
-
-length-turns : (w c : ℕ → ℕ) (k source : ℕ) (ps : List ℕ) → length (turns w c k source ps) ≡ length ps
-unfolding turns
-length-turns w c k source [] = refl
-length-turns w c k source (p ∷ ps) = ap suc (length-turns w c (suc k) p ps)
 
 pub first-take : (n : ℕ) (l : List ℕ) → 0 < n → n ≤ length l → first (take n l) ≡ getD l 0 0
 first-take zero l h g = absurd (omega arith)

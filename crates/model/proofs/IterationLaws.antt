@@ -44,7 +44,7 @@ sum-of-entries [] (next h m) = refl
 sum-of-entries (u ∷ us) none = refl
 sum-of-entries (u ∷ us) (next {l} {x} h m) = ap₂ _∷_ (above-sum u x l h ∙ ap pos (omega arith)) (sum-of-entries us m)
 
-natural-of-pos : (xs : List ℕ) → map natural (map pos xs) ≡ xs
+pub natural-of-pos : (xs : List ℕ) → map natural (map pos xs) ≡ xs
 unfolding natural
 natural-of-pos [] = refl
 natural-of-pos (x ∷ xs) = ap (_∷_ x) (natural-of-pos xs)

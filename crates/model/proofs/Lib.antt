@@ -5,9 +5,13 @@ pub mod PlaceLaws
 pub mod WindowLaws
 pub mod IterationLaws
 pub mod Distances
+pub mod CellLaws
 pub mod Iterations
+pub mod SameWindows
 pub mod WordLaws
 pub mod OrderLaws
 pub mod SortLaws
 pub mod ChainLaws
 pub mod CheckLaws
+pub mod KernelLaws
+pub mod FirstChecks

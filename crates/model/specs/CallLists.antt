@@ -67,6 +67,10 @@ clocksMade rs = sum (map (λ r. answerCounts (r .answer) .clocks) rs)
 unfoldable pub firingsMade : List Run → ℕ
 firingsMade rs = sum (map (λ r. answerCounts (r .answer) .firings) rs)
 
+-- Cells taken, likewise.
+unfoldable pub cellsTaken : List Run → ℕ
+cellsTaken rs = sum (map (λ r. answerCounts (r .answer) .cells) rs)
+
 -- How many of some clocks fire.
 unfoldable pub firingsAmong : List Bool → ℕ
 firingsAmong [] = 0

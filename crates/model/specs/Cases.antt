@@ -5,7 +5,7 @@ use mathlib.Core.List.{List, [], _∷_, map}
 use mathlib.Core.Path.{_≡_, refl}
 use lib.IntN.{ℤ, pos, negsuc}
 use lib.ListN.{length, take, replicate}
-use Rattle.model.specs.Lists.{tabulate, sum, product, greatest, any}
+use Rattle.model.specs.Lists.{tabulate, upTo, sum, product, greatest, any}
 use Rattle.model.specs.Vectors.{same, above, plus, equal, before, isZero}
 use Rattle.model.specs.Geometry.{cellCount, place, natural, position, firstEntry, otherEntries, leastFrom, least, lows, extent, extents, iterationCount, indices, fromLows, iteration, reads, distance}
 use Rattle.model.specs.Values.{sizesOf, offsetOf, offsetsOf, capacitiesOf, trimmed, chainOf, requestOf}
@@ -13,10 +13,10 @@ use Rattle.model.specs.Iterations.{cellsOf, iterationsOf, readsOf, dista
 use Rattle.model.specs.Answers.{numberOf, verdictNumber, outcomeCase, outcomeCounts, answerCounts, answerNumber, firstOf}
 use Rattle.model.specs.Judging.{badDims, badSizes, badGrid, badCount, repeats, noIteration, needsCentre, lacksCentre, notFinite, badFactor, tooLarge, windowChecks, kernelChecks, capacityChecks, valueChecks, judged}
 use Rattle.model.specs.Planning.{insert, falling, distances, trimmedRequest, judgeRequest, sorted, plannedChain, planOf}
-use Rattle.model.specs.Kernels.{written, width, centreOf}
+use Rattle.model.specs.Kernels.{wordsAt, terms, written, width, centreOf}
 use Rattle.model.specs.Clock.{turn, limit, turns, ready, fires, next, moves}
 use Rattle.model.specs.Store.{firstPlace, placeIn, presented, stored}
-use Rattle.model.specs.Running.{layout, countersOf, withCounters, outcomeOf, words, clocked, look, call, events, shortStore, notPast, badCounter, badFifo, badFilters, badState, judgeRun, begun, writtenBy, widthOf, ended, runTrimmed, eventsTrimmed}
+use Rattle.model.specs.Running.{layout, countersOf, withCounters, outcomeOf, words, clocked, look, call, events, shortStore, notPast, badCounter, badFifo, badFilters, badState, judgeRun, begun, termsOf, writesOf, writtenBy, widthOf, ended, runTrimmed, eventsTrimmed}
 use Rattle.model.specs.declared.Chain.{Chain}
 use Rattle.model.specs.declared.State.{State}
 use Rattle.model.specs.declared.Answer.{Answer}
@@ -142,5 +142,5 @@ cases =
     ∷ []
 
 pub table : map answered cases ≡ map expected cases
-unfolding answered expected cases cross crossByRows planned ran start endOf firingClocks tabulate sum product greatest any same above plus equal before isZero cellCount place natural position firstEntry otherEntries leastFrom least lows extent extents iterationCount indices fromLows iteration reads distance cellsOf iterationsOf readsOf distanceOf sizesOf offsetOf offsetsOf capacitiesOf trimmed chainOf numberOf verdictNumber outcomeCase outcomeCounts answerCounts answerNumber firstOf badDims badSizes badGrid badCount repeats noIteration needsCentre lacksCentre notFinite badFactor tooLarge windowChecks kernelChecks capacityChecks valueChecks judged insert falling distances trimmedRequest judgeRequest sorted plannedChain planOf written width centreOf turn limit turns ready fires next moves firstPlace placeIn presented stored layout countersOf withCounters outcomeOf words clocked look call events shortStore notPast badCounter badFifo badFilters badState judgeRun begun writtenBy widthOf ended runTrimmed eventsTrimmed
+unfolding answered expected cases cross crossByRows planned ran start endOf firingClocks tabulate upTo sum product greatest any same above plus equal before isZero cellCount place natural position firstEntry otherEntries leastFrom least lows extent extents iterationCount indices fromLows iteration reads distance cellsOf iterationsOf readsOf distanceOf sizesOf offsetOf offsetsOf capacitiesOf trimmed chainOf numberOf verdictNumber outcomeCase outcomeCounts answerCounts answerNumber firstOf badDims badSizes badGrid badCount repeats noIteration needsCentre lacksCentre notFinite badFactor tooLarge windowChecks kernelChecks capacityChecks valueChecks judged insert falling distances trimmedRequest judgeRequest sorted plannedChain planOf wordsAt terms written width centreOf turn limit turns ready fires next moves firstPlace placeIn presented stored layout countersOf withCounters outcomeOf words clocked look call events shortStore notPast badCounter badFifo badFilters badState judgeRun begun termsOf writesOf writtenBy widthOf ended runTrimmed eventsTrimmed
 table = refl

@@ -1,7 +1,9 @@
 -- Cells, iterations and what is read, of a request or a chain as a value (document 01, "Grid, window, distances"). What is said of a chain goes by these names.
 use Prim.Native.Nat.{ℕ}
+use mathlib.Core.Bool.{Bool}
 use mathlib.Core.List.{List}
-use Rattle.model.specs.Geometry.{cellCount, extents, iterationCount, reads, distance, newest}
+use lib.IntN.{ℤ}
+use Rattle.model.specs.Geometry.{cellCount, position, inside, isIteration, extents, iterationCount, iteration, reads, distance, newest}
 use Rattle.model.specs.Values.{Trimmed}
 
 module _ (t : Trimmed) where
@@ -9,12 +11,27 @@ module _ (t : Trimmed) where
   unfoldable pub cellsOf : ℕ
   cellsOf = cellCount (t .sizes)
 
+  -- The vector is the index of a cell, and the position of that cell.
+  unfoldable pub isCellOf : List ℤ → Bool
+  isCellOf v = inside (t .sizes) v
+
+  unfoldable pub positionOf : List ℤ → ℕ
+  positionOf v = position (t .sizes) v
+
+  -- "An iteration is every whole-number vector .. that added to each offset stays inside the grid."
+  unfoldable pub isIterationOf : List ℤ → Bool
+  isIterationOf v = isIteration (t .sizes) (t .offsets) v
+
   -- How many iterations there are, and how many indices they have in each dimension.
   unfoldable pub iterationsOf : ℕ
   iterationsOf = iterationCount (t .sizes) (t .offsets)
 
   unfoldable pub extentsOf : List ℕ
   extentsOf = extents (t .sizes) (t .offsets)
+
+  -- Iteration j.
+  unfoldable pub iterationOf : ℕ → List ℤ
+  iterationOf j = iteration (t .sizes) (t .offsets) j
 
   -- The position that reference k reads in iteration j.
   unfoldable pub readsOf : (j k : ℕ) → ℕ

@@ -1,11 +1,12 @@
 -- The kernels on words (document 01, "Kernels"). "Arithmetic is f32, each operation rounded once"; `toBits` writes what is not a number as 7FC00000.
 use Prim.Native.Nat.{ℕ, suc}
 use mathlib.Core.Bool.{cond}
-use mathlib.Core.List.{List, [], _∷_, _++_, map}
+use mathlib.Core.List.{List, [], _∷_, map}
 use mathlib.Core.Path.{_≡_, refl}
 use lib.IntN.{ℤ}
 use lib.Ieee.{Float, nan, binary32, ofBits, toBits, add, sub, mul}
-use lib.ListN.{take, drop, getD}
+use lib.ListN.{getD}
+use Rattle.model.specs.Lists.{without}
 use Rattle.model.specs.Vectors.{isZero}
 use Rattle.model.specs.declared.Factors.{Factors}
 use Rattle.model.specs.declared.Kernel.{Kernel}
@@ -31,31 +32,39 @@ unfoldable pub centreOf : List (List ℤ) → ℕ
 centreOf [] = 0
 centreOf (o ∷ os) = let behind = suc (centreOf os) in cond (isZero o) 0 behind
 
--- The words of the other references.
-unfoldable pub others : (centre : ℕ) → List ℕ → List ℕ
-others c ws = take c ws ++ drop (suc c) ws
+-- The words of these filters, in their order; `ws` has the words in chain order.
+unfoldable pub wordsAt : (filters : List ℕ) → List ℕ → List ℕ
+wordsAt ks ws = map (λ k. getD ws k 0) ks
+
+-- The filters whose words a kernel adds, of filters that stand in some order: difference and blend add "the others", scaled "all references"; raw adds nothing.
+unfoldable pub terms : Kernel → (centre : ℕ) → List ℕ → List ℕ
+terms kernel.Raw c ks = []
+terms kernel.Difference c ks = without c ks
+terms (kernel.Scaled f) c ks = ks
+terms (kernel.Blend g) c ks = without c ks
 
 -- The square of the centre less another reference.
 unfoldable pub squared : (centre other : ℕ) → Float
 squared c w = let d = sub binary32 (float c) (float w) in mul binary32 d d
 
--- What a firing writes: `centre` is the centre's number, `ws` the cells' words in chain order.
-unfoldable pub difference : (centre : ℕ) → List ℕ → ℕ
-difference c ws = word (sumOf (map (λ w. squared (getD ws c 0) w) (others c ws)))
+-- What a firing writes: `centre` is the centre's number, `terms` are the filters whose words are added, in their order, `ws` the cells' words in chain order.
+unfoldable pub difference : (centre : ℕ) (terms : List ℕ) → List ℕ → ℕ
+difference c ks ws = word (sumOf (map (λ w. squared (getD ws c 0) w) (wordsAt ks ws)))
 
-unfoldable pub scaled : Float → List ℕ → ℕ
-scaled f ws = word (mul binary32 (sumOf (map float ws)) f)
+unfoldable pub scaled : Float → (terms : List ℕ) → List ℕ → ℕ
+scaled f ks ws = word (mul binary32 (sumOf (map float (wordsAt ks ws))) f)
 
-unfoldable pub blend : Factors → (centre : ℕ) → List ℕ → ℕ
-blend g c ws = word (add binary32 (mul binary32 (g .a) (float (getD ws c 0))) (mul binary32 (g .b) (sumOf (map float (others c ws)))))
+unfoldable pub blend : Factors → (centre : ℕ) (terms : List ℕ) → List ℕ → ℕ
+blend g c ks ws = word (add binary32 (mul binary32 (g .a) (float (getD ws c 0))) (mul binary32 (g .b) (sumOf (map float (wordsAt ks ws)))))
 
-unfoldable pub written : Kernel → (centre : ℕ) → List ℕ → List ℕ
-written kernel.Raw c ws = ws
-written kernel.Difference c ws = difference c ws ∷ []
-written (kernel.Scaled f) c ws = scaled f ws ∷ []
-written (kernel.Blend g) c ws = blend g c ws ∷ []
+-- `writes`: the filters whose words raw writes.
+unfoldable pub written : Kernel → (centre : ℕ) (terms writes : List ℕ) → List ℕ → List ℕ
+written kernel.Raw c ks us ws = wordsAt us ws
+written kernel.Difference c ks us ws = difference c ks ws ∷ []
+written (kernel.Scaled f) c ks us ws = scaled f ks ws ∷ []
+written (kernel.Blend g) c ks us ws = blend g c ks ws ∷ []
 
--- How many words a firing of n references writes.
+-- How many words a firing writes, where raw writes those of n filters.
 unfoldable pub width : Kernel → ℕ → ℕ
 width kernel.Raw n = n
 width kernel.Difference n = 1

@@ -23,6 +23,10 @@ pub mod Reading
 pub mod Writing
 pub mod Arriving
 pub mod Programs
+pub mod FirstChecks
 pub mod Cases
+pub mod JudgingCases
+pub mod RunCases
+pub mod KernelCases
 pub mod SheetCases
 pub mod ProgramCases

@@ -7,7 +7,7 @@ use mathlib.Core.List.{List, [], _∷_, flatMap}
 use lib.Dec.{eqb}
 use lib.ListN.{length, take, drop, replicate}
 use lib.Ieee.{ofBits, toBits, add, sub, mul}
-use Rattle.model.specs.Lists.{tabulate, sum, product, greatest, all, any}
+use Rattle.model.specs.Lists.{tabulate, upTo, without, sum, product, greatest, all, any}
 use Rattle.model.specs.Vectors.{same, above, plus, equal, before, isZero}
 use Rattle.model.specs.Geometry.{cellCount, place, natural, position, firstEntry, otherEntries, leastFrom, least, lows, extent, extents, iterationCount}
 use Rattle.model.specs.Geometry.{indices, fromLows, iteration, reads, distance}
@@ -16,10 +16,10 @@ use Rattle.model.specs.Iterations.{cellsOf, iterationsOf, readsOf, dista
 use Rattle.model.specs.Answers.{numberOf, verdictNumber, firstOf}
 use Rattle.model.specs.Judging.{badDims, badSizes, badGrid, badCount, repeats, noIteration, needsCentre, lacksCentre, notFinite, badFactor, tooLarge, windowChecks, kernelChecks, capacityChecks, valueChecks, judged, judgeChain}
 use Rattle.model.specs.Planning.{insert, falling, distances, trimmedRequest, judgeRequest, sorted, plannedChain}
-use Rattle.model.specs.Kernels.{sumFrom, sumOf, centreOf, others, squared, difference, scaled, blend, written, width}
+use Rattle.model.specs.Kernels.{sumFrom, sumOf, centreOf, wordsAt, terms, squared, difference, scaled, blend, written, width}
 use Rattle.model.specs.Clock.{fresh, ready, fires, turn, limit, turns, next, moves}
 use Rattle.model.specs.Store.{firstPlace, placeIn, presented, stored}
-use Rattle.model.specs.Running.{layout, words, clocked, look, call, writtenBy, widthOf}
+use Rattle.model.specs.Running.{layout, words, clocked, look, call, termsOf, writesOf, writtenBy, widthOf}
 use Rattle.model.specs.Lines.{linesOf}
 use Rattle.model.specs.Frames.{isDigit, valueOf, digitOf, whole, bytesOf, digitsOf, framed, padded, seenOf}
 use Rattle.model.specs.Numbers.{halfAt, wordAt, halfBytes, wordBytes, signed, pattern}
@@ -98,14 +98,14 @@ runRight l = sameBytes (runText (bytesIn (l .input))) (bytesIn (l .output))
 
 pub table : (all planRight plans && all runRight runs) ≡ true
 unfolding bytesIn plans runs sameBytes planRight runRight flatMap ofBits toBits add sub mul
-    tabulate sum product greatest all any same above plus equal before isZero
+    tabulate upTo without sum product greatest all any same above plus equal before isZero
     cellCount place natural position firstEntry otherEntries leastFrom least lows extent extents iterationCount indices fromLows iteration reads distance cellsOf iterationsOf readsOf distanceOf
     sizesOf offsetOf offsetsOf capacitiesOf chainOf numberOf verdictNumber firstOf
     badDims badSizes badGrid badCount repeats noIteration needsCentre lacksCentre notFinite badFactor tooLarge windowChecks kernelChecks capacityChecks valueChecks judged judgeChain
     insert falling distances trimmedRequest judgeRequest sorted trimmed plannedChain
-    sumFrom sumOf centreOf others squared difference scaled blend written width
+    sumFrom sumOf centreOf wordsAt terms squared difference scaled blend written width
     fresh ready fires turn limit turns next moves firstPlace placeIn presented stored
-    layout words clocked look call writtenBy widthOf
+    layout words clocked look call termsOf writesOf writtenBy widthOf
     linesOf isDigit valueOf digitOf whole bytesOf digitsOf framed padded halfAt wordAt halfBytes wordBytes signed pattern
     badKernel badForm malformed nextInRequest nextInChain miscounted among misplaced badLength sizesIn lineChecks lineVerdict
     withGrid entriesIn withOffset withCapacity kernelIn withKernel taken stepOf closes complete readLines endVerdict readRequest cellVerdict

@@ -5,12 +5,12 @@ use mathlib.Core.List.{List, [], _∷_, _++_, map}
 use lib.Dec.{eqb, ltb, leb}
 use lib.ListN.{length, getD, drop}
 use lib.Seq.{sets}
-use Rattle.model.specs.Lists.{tabulate, sum}
+use Rattle.model.specs.Lists.{tabulate, upTo, sum}
 use Rattle.model.specs.Values.{Trimmed, trimmed}
 use Rattle.model.specs.Iterations.{cellsOf, iterationsOf, readsOf}
 use Rattle.model.specs.Answers.{check, firstOf, byVerdict}
 use Rattle.model.specs.Judging.{valueChecks}
-use Rattle.model.specs.Kernels.{written, width, centreOf}
+use Rattle.model.specs.Kernels.{written, width, terms, centreOf}
 use Rattle.model.specs.Clock.{Layout, Counters, first, fires, next, moves}
 use Rattle.model.specs.Store.{presented, stored}
 use Rattle.model.specs.declared.CellsPassed.{CellsPassed}
@@ -172,9 +172,16 @@ pub record Run : Type 0 where
 unfoldable pub begun : Trimmed → State → (store output : List ℕ) → Standing
 begun t s store output = record { counters = countersOf (t .count) s; store = store; output = output; done = record { cells = 0; firings = 0; clocks = 0 } }
 
+-- The filters whose words the kernel adds, and those whose words raw writes: all of them "in chain order".
+unfoldable pub termsOf : Trimmed → List ℕ
+termsOf t = terms (t .kernel) (centreOf (t .offsets)) (upTo (t .count))
+
+unfoldable pub writesOf : Trimmed → List ℕ
+writesOf t = upTo (t .count)
+
 -- What a firing writes of its cells' words.
 unfoldable pub writtenBy : Trimmed → List ℕ → List ℕ
-writtenBy t ws = written (t .kernel) (centreOf (t .offsets)) ws
+writtenBy t ws = written (t .kernel) (centreOf (t .offsets)) (termsOf t) (writesOf t) ws
 
 -- How many words that is.
 unfoldable pub widthOf : Trimmed → ℕ

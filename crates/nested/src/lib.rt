@@ -5,13 +5,13 @@ pub mod windows;
 use crate::windows::Loops;
 use model::Kernel;
 ghost use mathlib.Core.Path.{_≡_};
-ghost use Prim.Native.Nat.{_+_, _/_, _≤_};
-ghost use lib.ListN.{length, drop};
-ghost use Rattle.model.specs.Kernels.{width as widthOf};
-ghost use Rattle.nested.specs.Nested.{Agrees};
+ghost use Rattle.model.specs.Kernels.{float, word as wordOf, width as widthOf};
+ghost use Rattle.nested.specs.Nested.{noTerms, added, wordIn, values, squares, fired, movedBy, indexIn, cellOf, gathered, agreed};
 
 // The value of a word.
-fn value(w: u32) -> f32 {
+fn value(w: u32) -> f32
+    ensures { λ r. ⌜ r ≡ float w ⌝ }
+{
     if 0x7F800000 < w % 0x80000000 {
         let zero = 0.0f32;
         return zero / zero;
@@ -20,7 +20,9 @@ fn value(w: u32) -> f32 {
 }
 
 // The word of a result.
-fn result(x: f32) -> u32 {
+fn result(x: f32) -> u32
+    ensures { λ r. ⌜ r ≡ wordOf x ⌝ }
+{
     if x != x {
         return 0x7FC00000;
     }
@@ -33,14 +35,18 @@ struct Sum {
     total: f32,
 }
 
-fn no_terms() -> Sum {
+fn no_terms() -> Sum
+    ensures { λ r. ⌜ r ≡ noTerms ⌝ }
+{
     Sum {
         begun: false,
         total: 0.0,
     }
 }
 
-fn add(s: Sum, term: f32) -> Sum {
+fn add(s: Sum, term: f32) -> Sum
+    ensures { λ r. ⌜ r ≡ added s term ⌝ }
+{
     if s.begun {
         return Sum {
             begun: true,
@@ -53,14 +59,18 @@ fn add(s: Sum, term: f32) -> Sum {
     }
 }
 
-fn word(words: &[u32; 32], k: usize) -> u32 {
+fn word(words: &[u32; 32], k: usize) -> u32
+    ensures { λ r. ⌜ r ≡ wordIn (now (words .entry)) k ⌝ }
+{
     if k < 32 {
         return words[k];
     }
     0
 }
 
-fn differences(words: &[u32; 32], n: usize, centre: usize) -> f32 {
+fn differences(words: &[u32; 32], n: usize, centre: usize) -> f32
+    ensures { λ r. ⌜ r ≡ squares (now (words .entry)) n centre ⌝ }
+{
     let c = value(word(words, centre));
     let mut sum = no_terms();
     for k in 0..n {
@@ -73,7 +83,9 @@ fn differences(words: &[u32; 32], n: usize, centre: usize) -> f32 {
 }
 
 // The sum of all references but the one numbered `but`.
-fn sum_but(words: &[u32; 32], n: usize, but: usize) -> f32 {
+fn sum_but(words: &[u32; 32], n: usize, but: usize) -> f32
+    ensures { λ r. ⌜ r ≡ values (now (words .entry)) n but ⌝ }
+{
     let mut sum = no_terms();
     for k in 0..n {
         if k != but {
@@ -97,7 +109,7 @@ pub fn width(kernel: Kernel, n: usize) -> usize
 
 // Turns the n cells of an iteration into the words that its firing writes. Words past the first stay.
 pub fn apply(kernel: Kernel, n: usize, centre: usize, words: &mut [u32; 32])
-    ensures { λ _. ⌜ drop 1 (now (words .exit)) ≡ drop 1 (now (words .entry)) ⌝ }
+    ensures { λ _. ⌜ now (words .exit) ≡ fired kernel n centre (now (words .entry)) ⌝ }
 {
     match kernel {
         Kernel::Raw => {}
@@ -115,7 +127,9 @@ pub fn apply(kernel: Kernel, n: usize, centre: usize, words: &mut [u32; 32])
 }
 
 // An index moved by an entry of an offset; outside of every grid where that cannot be.
-fn moved(i: usize, entry: u8) -> usize {
+fn moved(i: usize, entry: u8) -> usize
+    ensures { λ r. ⌜ r ≡ movedBy i entry ⌝ }
+{
     if entry == b'0' {
         return i;
     }
@@ -123,6 +137,7 @@ fn moved(i: usize, entry: u8) -> usize {
         if i < 1048576 {
             return i + 1;
         }
+        return 1048576;
     }
     if entry == b'-' {
         if 0 < i {
@@ -133,7 +148,9 @@ fn moved(i: usize, entry: u8) -> usize {
 }
 
 // Index b of row a, where rows have `size` entries.
-fn index(a: usize, size: usize, b: usize) -> usize {
+fn index(a: usize, size: usize, b: usize) -> usize
+    ensures { λ r. ⌜ r ≡ indexIn a size b ⌝ }
+{
     if a < 1048576 {
         if size < 1048576 {
             if b < 1048576 {
@@ -145,7 +162,9 @@ fn index(a: usize, size: usize, b: usize) -> usize {
 }
 
 // The cell at [z][y][x].
-fn cell_at(l: Loops, cells: &[u32], z: usize, y: usize, x: usize) -> u32 {
+fn cell_at(l: Loops, cells: &[u32], z: usize, y: usize, x: usize) -> u32
+    ensures { λ r. ⌜ r ≡ cellOf l (now (cells .entry)) z y x ⌝ }
+{
     if z < l.planes {
         if y < l.rows {
             if x < l.columns {
@@ -169,7 +188,7 @@ pub fn gather(
     x: usize,
     words: &mut [u32; 32],
 )
-    ensures { λ _. ⌜ drop (length (now (window .entry)) / 4 + 1) (now (words .exit)) ≡ drop (length (now (window .entry)) / 4 + 1) (now (words .entry)) ⌝ }
+    ensures { λ _. ⌜ now (words .exit) ≡ gathered l (now (window .entry)) (now (cells .entry)) z y x 0 32 (now (words .entry)) ⌝ }
 {
     let mut k = 0;
     let mut at = 0;
@@ -191,7 +210,7 @@ pub fn gather(
 
 // How many of the first `count` words stand in `out` from place `at` to before `end`, up to the first that does not.
 pub fn agreeing(words: &[u32; 32], count: usize, out: &[u32], at: usize, end: usize) -> usize
-    ensures { λ r. ⌜ (r ≤ count) × Agrees (now (words .entry)) (now (out .entry)) at r ⌝ }
+    ensures { λ r. ⌜ r ≡ agreed (now (words .entry)) (now (out .entry)) count at end ⌝ }
 {
     if out.len() < end {
         return 0;

@@ -5,14 +5,17 @@ use model::Kernel;
 use model::Request;
 use model::Window;
 ghost use mathlib.Core.Path.{_≡_};
-ghost use Prim.Native.Nat.{_+_, _/_, _%_};
-ghost use lib.ListN.{length};
+ghost use Rattle.nested.specs.Nested.{sizeOf, gridOf, entryOf, placed, rising as risingIn, requestOf};
 
-fn size(x: usize) -> u32 {
+fn size(x: usize) -> u32
+    ensures { λ r. ⌜ r ≡ sizeOf x ⌝ }
+{
     (x % 4294967296) as u32
 }
 
-fn grid(l: Loops) -> Grid {
+fn grid(l: Loops) -> Grid
+    ensures { λ r. ⌜ r ≡ gridOf l ⌝ }
+{
     if l.dims == 2 {
         return Grid {
             dims: 2,
@@ -25,7 +28,9 @@ fn grid(l: Loops) -> Grid {
     }
 }
 
-fn entry(c: u8) -> i16 {
+fn entry(c: u8) -> i16
+    ensures { λ r. ⌜ r ≡ entryOf c ⌝ }
+{
     if c == b'+' {
         return 1;
     }
@@ -36,7 +41,9 @@ fn entry(c: u8) -> i16 {
 }
 
 // The entries of reference k.
-fn place(dims: u8, k: usize, z: u8, y: u8, x: u8, entries: &mut [i16; 128]) {
+fn place(dims: u8, k: usize, z: u8, y: u8, x: u8, entries: &mut [i16; 128])
+    ensures { λ _. ⌜ now (entries .exit) ≡ placed dims k z y x (now (entries .entry)) ⌝ }
+{
     if 32 <= k {
         return;
     }
@@ -52,7 +59,7 @@ fn place(dims: u8, k: usize, z: u8, y: u8, x: u8, entries: &mut [i16; 128]) {
 
 // The references in rising order, so that planning has to turn them round.
 fn rising(dims: u8, window: &[u8]) -> Window
-    ensures { λ r. ⌜ r .count ≡ (length (now (window .entry)) / 4 + 1) % 256 ⌝ }
+    ensures { λ r. ⌜ r ≡ risingIn dims (now (window .entry)) ⌝ }
 {
     let mut entries = [0i16; 128];
     let mut k = crate::windows::references(window);
@@ -78,7 +85,7 @@ fn rising(dims: u8, window: &[u8]) -> Window
 }
 
 pub fn request(l: Loops, window: &[u8], kernel: Kernel) -> Request
-    ensures { λ r. ⌜ (r .kernel ≡ kernel) × (r .window .count ≡ (length (now (window .entry)) / 4 + 1) % 256) ⌝ }
+    ensures { λ r. ⌜ r ≡ requestOf l (now (window .entry)) kernel ⌝ }
 {
     Request {
         grid: grid(l),

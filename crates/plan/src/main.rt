@@ -1,20 +1,35 @@
 // Plans the request sheet on standard input: writes its chain sheet, or `1F` and the number of the refusal.
 use libc::STDIN_FILENO;
 use libc::STDOUT_FILENO;
+use model::Arriving;
 use model::BLOCK_PLACES;
 use model::PLAN_TEXT_PLACES;
 use model::Verdict;
+ghost use Rattle.program_laws.specs.Loops.{TakenUnless, PlanDue};
 
-fn main() {
-    let mut block = [0u8; BLOCK_PLACES];
-    let mut text = [0u8; PLAN_TEXT_PLACES];
+// The sheet as far as it was read; `failed` where a read failed.
+struct Received {
+    failed: bool,
+    arriving: Arriving,
+}
+
+// Reads block after block, to the end of the input or to the first line that is turned back.
+fn receive(block: &mut [u8]) -> Received
+    ensures { λ r. ⌜ TakenUnless (r .failed) (r .arriving) ⌝ }
+{
     let mut arriving = program_intake::open();
     // A loop has to end, and nothing says that the input does: no input has so many blocks.
     let mut turns = u64::MAX;
     while 0 < turns {
         turns -= 1;
-        let got = libc::read(STDIN_FILENO, &mut block);
-        let len = io::count(got, &block);
+        let got = libc::read(STDIN_FILENO, block);
+        if got < 0 {
+            return Received {
+                failed: true,
+                arriving,
+            };
+        }
+        let len = io::count(got, block);
         if len == 0 {
             break;
         }
@@ -25,6 +40,28 @@ fn main() {
             Verdict::Refused(_) => break,
         }
     }
+    Received {
+        failed: false,
+        arriving,
+    }
+}
+
+// Writes the text that is due of this sheet.
+fn write_due(arriving: Arriving, text: &[u8])
+    requires { ⌜ PlanDue arriving (now text) ⌝ }
+{
+    io::write_all(STDOUT_FILENO, text);
+}
+
+// Where a read fails, the program ends without a line.
+fn main() {
+    let mut block = [0u8; BLOCK_PLACES];
+    let mut text = [0u8; PLAN_TEXT_PLACES];
+    let s = receive(&mut block);
+    if s.failed {
+        return;
+    }
+    let arriving = s.arriving;
     let bytes = program_answer::plan_answer(arriving, &mut text);
-    io::write_all(STDOUT_FILENO, &text[..bytes]);
+    write_due(arriving, &text[..bytes]);
 }

@@ -2,7 +2,7 @@
 use Prim.Native.Nat.{ℕ, suc, _≤_, _<_}
 use mathlib.Core.Bool.{true, false}
 use mathlib.Core.List.{List, [], _∷_, _++_, append-nil}
-use mathlib.Core.Path.{_≡_, refl, sym, _∙_, ap, subst}
+use mathlib.Core.Path.{_≡_, refl, sym, _∙_, ap, ap₂, subst}
 use native.Mathlib.Omega.{arith}
 use lib.ListN.{length, take, drop, length-append}
 use lib.Seq.{take-append-seam}
@@ -24,7 +24,7 @@ use Rattle.model.specs.Clock as clock
 use Rattle.model.specs.Running.{layout, countersOf, Starved, Ending, widthOf}
 use Rattle.model.specs.Reading.{complete}
 use Rattle.model.specs.Arriving.{newLine}
-use Rattle.model.specs.Programs.{endLine, refusalText, firingsText, endText, cellsIn, behindCells, wholeRun, runText}
+use Rattle.model.specs.Programs.{Split, endLine, refusalText, firingsText, endText, cellsIn, behindCells, wholeRun, runText}
 use Rattle.run_laws.proofs.Accepts.{accepted-chain}
 use Rattle.run_laws.proofs.Between.{fresh-reached}
 use Rattle.sheet_trips.proofs.AsItArrives.{infront, some}
@@ -32,10 +32,10 @@ use Rattle.program_stages.specs.declared.Job.{Job}
 use Rattle.program_stages.specs.declared.Stage.{Stage}
 use Rattle.program_stages.specs.declared.Stage.the-variants as stage
 use Rattle.program_stages.specs.Stages.{fresh, sheetStage, cellsStage}
-use Rattle.program_laws.proofs.Sheets.{textBehind, Midway, Read, further, back, whole, chain-back, chain-runs}
+use Rattle.program_laws.proofs.Sheets.{splitOf, run-text, Midway, Read, further, back, whole, chain-back, chain-runs}
 use Rattle.program_laws.proofs.CellLines.{Gives, is-open, is-back}
 use Rattle.program_laws.proofs.Going.{Gone, still, goesOn, endingAt, starved-stops}
-use Rattle.program_laws.proofs.WholeRun.{settingOf, fresh-counters, none-passed, whole-text}
+use Rattle.program_laws.proofs.WholeRun.{settingOf, fresh-counters, none-passed, whole-text, whole-ending}
 use Rattle.program_laws.proofs.Runs.{Stands}
 
 abbrev pub chainOf : Job → Chain
@@ -49,6 +49,8 @@ module _ (input : List ℕ) where
     pub behind : Verdict
     pub later : List ℕ
     pub gives : Gives (j .line) rest later behind
+    pub chain : splitOf input .step .reading .chain ≡ chainOf j
+    pub cells : cellsIn (splitOf input .behind) ≡ all
     pub stands : Stands (chainOf j) ok all (j .state) store (j .clocks) written hand later
     pub due : runText input
         ≡ firingsText (widthOf (trimmed (chainOf j))) 0 (wholeRun (trimmed (chainOf j)) all .standing .done .firings) (wholeRun (trimmed (chainOf j)) all .standing .output)
@@ -134,7 +136,7 @@ stage-whole a e s = rw (e, s)
 module _ (input : List ℕ) (j : Job) (rest store cells written : List ℕ) (long : mostPlaces ≤ length store)
     (state : j .state ≡ fresh) (clocks : j .clocks ≡ 0) (line : j .line ≡ newLine) (nothing : written ≡ []) where
   run-begins : (ok : judgeChain (chainOf j) ≡ verdict.Accepted) → complete (j .arriving .reading) ≡ true
-      → runText input ≡ textBehind (record { step = record { verdict = verdict.Accepted; reading = j .arriving .reading }; behind = linesOf rest })
+      → splitOf input ≡ record { step = record { verdict = verdict.Accepted; reading = j .arriving .reading }; behind = linesOf rest }
       → InCells input j rest store written
   unfolding feeds some infront layout countersOf
   run-begins ok s due = record {
@@ -144,8 +146,10 @@ module _ (input : List ℕ) (j : Job) (rest store cells written : List ℕ) (lon
       behind = behindCells (linesOf rest);
       later = cellsIn (linesOf rest);
       gives = is-open [] line refl refl;
+      chain = ap (λ (p : Split). p .step .reading .chain) due;
+      cells = ap (λ (p : Split). cellsIn (p .behind)) due;
       stands = rw (state, clocks, nothing) (stands-fresh (chainOf j) ok (cellsIn (linesOf rest)) store long);
-      due = due ∙ chain-runs (j .arriving .reading) (linesOf rest) s ok;
+      due = run-text input _ due ∙ chain-runs (j .arriving .reading) (linesOf rest) s ok;
     };
     left = rw state (accepted-chain (chainOf j) ok .iterates);
   }
@@ -159,21 +163,31 @@ module _ (input : List ℕ) (j : Job) (rest store cells written : List ℕ) (lon
     where
       go : (v : Verdict) → judgeChain (chainOf j) ≡ v → Due input (byVerdict v stage.Cells stage.Refusing) j rest store cells written
       go verdict.Accepted ok = run-begins ok s due
-      go (verdict.Refused x) no-good = rw nothing (sym (due ∙ chain-back (j .arriving .reading) (linesOf rest) x s no-good))
+      go (verdict.Refused x) no-good = rw nothing (sym (run-text input _ due ∙ chain-back (j .arriving .reading) (linesOf rest) x s no-good))
 
 -- Where every cell is taken and none comes later, the run is starved.
-pub starved-due : (input : List ℕ) (j : Job) (rest store written : List ℕ) (i : InCells input j rest store written) → i .run .later ≡ []
-    → written ++ endText Starved (j .clocks) (i .run .behind) ≡ runText input
-starved-due input j rest store written i none =
-    let r = i .run in
-    let s = countersOf (trimmed (chainOf j) .count) (j .state) in
-    let all-taken : length (r .all) ≤ first (s .passed) = omega (
-      arith,
-      ap length (r .stands .split ∙ ap (λ (xs : List ℕ). r .stands .taken ++ xs) none ∙ append-nil (r .stands .taken)),
-      r .stands .position,
-    ) in
-    let stops = starved-stops (layout (trimmed (chainOf j))) (length (r .all)) s (i .left) all-taken in
-    ap (λ (e : Ending). written ++ endText e (j .clocks) (r .behind)) (sym (stops .1)) ∙ run-stops input j rest store written [] r (stops .0)
+module _ (input : List ℕ) (j : Job) (rest store written : List ℕ) (i : InCells input j rest store written) (none : i .run .later ≡ []) where
+  stops : (goesOn (layout (trimmed (chainOf j))) (length (i .run .all)) (countersOf (trimmed (chainOf j) .count) (j .state)) ≡ false)
+      × (endingAt (layout (trimmed (chainOf j))) (length (i .run .all)) (countersOf (trimmed (chainOf j) .count) (j .state)) ≡ Starved)
+  stops =
+      let r = i .run in
+      let s = countersOf (trimmed (chainOf j) .count) (j .state) in
+      let all-taken : length (r .all) ≤ first (s .passed) = omega (
+        arith,
+        ap length (r .stands .split ∙ ap (λ (xs : List ℕ). r .stands .taken ++ xs) none ∙ append-nil (r .stands .taken)),
+        r .stands .position,
+      ) in
+      starved-stops (layout (trimmed (chainOf j))) (length (r .all)) s (i .left) all-taken
+
+  pub starved-due : written ++ endText Starved (j .clocks) (i .run .behind) ≡ runText input
+  starved-due =
+      ap (λ (e : Ending). written ++ endText e (j .clocks) (i .run .behind)) (sym (stops .1)) ∙ run-stops input j rest store written [] (i .run) (stops .0)
+
+  pub starved-run : wholeRun (trimmed (splitOf input .step .reading .chain)) (cellsIn (splitOf input .behind)) .ending ≡ Starved
+  starved-run =
+      let r = i .run in
+      ap₂ (λ (c : Chain) (cs : List ℕ). wholeRun (trimmed c) cs .ending) (r .chain) (r .cells)
+      ∙ whole-ending (chainOf j) (r .ok) (r .all) (j .clocks) (countersOf (trimmed (chainOf j) .count) (j .state)) (r .stands .gone) (stops .0) ∙ stops .1
 
 -- The job after `05` lines: with the line and the cells that were read.
 abbrev pub withLine : Job → Stage → CellLine → (from count : ℕ) → Job
@@ -195,6 +209,8 @@ module _ (input : List ℕ) (j : Job) (rest store written : List ℕ) (i : InCel
     behind = r .behind;
     later = later′;
     gives = g;
+    chain = r .chain;
+    cells = r .cells;
     stands = stands-regrouped e (r .stands);
     due = r .due;
   }

@@ -10,4 +10,6 @@ pub mod Steps
 pub mod RunStep
 pub mod Turns
 pub mod Plan
+pub mod Loops
+pub mod Waiting
 pub mod Whole

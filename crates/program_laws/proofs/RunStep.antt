@@ -137,6 +137,8 @@ module _ (input : List ℕ) (l : Loop) (h : Holds input l) (i : InClocks input (
     behind = i .run .behind;
     later = i .run .later;
     gives = i .run .gives;
+    chain = i .run .chain;
+    cells = i .run .cells;
     stands = stands;
     due = i .run .due;
   }

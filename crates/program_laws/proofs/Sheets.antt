@@ -37,9 +37,13 @@ textBehind p =
     let text = firingsText (widthOf t) 0 (done .firings) (e .standing .output) ++ endText (e .ending) (done .clocks) (behindCells (p .behind)) in
     byVerdict (endVerdict (p .step) (judgeChain chain)) text refusalText
 
-run-text : (input : List ℕ) → runText input ≡ textBehind (sheetAndBehind start (linesOf input))
+-- The sheet's last step and the lines behind it, of a whole input.
+abbrev pub splitOf : (input : List ℕ) → Split
+splitOf input = sheetAndBehind start (linesOf input)
+
+pub run-text : (input : List ℕ) (p : Split) → splitOf input ≡ p → runText input ≡ textBehind p
 unfolding runText textBehind
-run-text input = refl
+run-text input p e = ap textBehind e
 
 -- A line that is turned back, the `04`, and any other.
 module _ (r : Reading) (l : Line) (ls : List Line) where
@@ -69,22 +73,22 @@ pub record Midway (input : List ℕ) (a : Arriving) (rest : List ℕ) : Type 0 w
   pub arriving : a ≡ midway reading chars
   pub bounded : Bounded reading
   pub unended : complete reading ≡ false
-  pub due : runText input ≡ textBehind (sheetAndBehind reading (infront chars (linesOf rest)))
+  pub due : splitOf input ≡ sheetAndBehind reading (infront chars (linesOf rest))
 
 -- After a line or a part of one: still there, turned back, or behind the `04`.
 pub data Read (input : List ℕ) (a : Arriving) (rest : List ℕ) : Type 0 where
   further : Midway input a rest → Read input a rest
   back : (x : Refusal) → a .verdict ≡ verdict.Refused x → runText input ≡ refusalText x → Read input a rest
   whole : a .verdict ≡ verdict.Accepted → complete (a .reading) ≡ true
-      → runText input ≡ textBehind (record { step = record { verdict = verdict.Accepted; reading = a .reading }; behind = linesOf rest }) → Read input a rest
+      → splitOf input ≡ record { step = record { verdict = verdict.Accepted; reading = a .reading }; behind = linesOf rest } → Read input a rest
 
 pub opened-midway : (input : List ℕ) → Midway input opened input
 unfolding feeds some infront complete closes
-opened-midway input = record { reading = start; chars = []; arriving = refl; bounded = start-bounded; unended = refl; due = run-text input }
+opened-midway input = record { reading = start; chars = []; arriving = refl; bounded = start-bounded; unended = refl; due = refl }
 
 -- At the LF.
 at-feed : (input : List ℕ) (r : Reading) (p rest : List ℕ) → Bounded r
-    → runText input ≡ textBehind (sheetAndBehind r (record { chars = p; ended = true } ∷ linesOf rest)) → Read input (closed (stepOf true r (seenOf true p))) rest
+    → splitOf input ≡ sheetAndBehind r (record { chars = p; ended = true } ∷ linesOf rest) → Read input (closed (stepOf true r (seenOf true p))) rest
 unfolding feeds some infront
 at-feed input r p rest few due = go (stepOf true r (seenOf true p) .verdict) refl
   where
@@ -95,18 +99,18 @@ at-feed input r p rest few due = go (stepOf true r (seenOf true p) .verdict) ref
     s = stepOf true r (seenOf true p)
 
     go : (v : Verdict) → s .verdict ≡ v → Read input (closed s) rest
-    go (verdict.Refused x) e = back x e (due ∙ ap textBehind (line-back r l (linesOf rest) x e) ∙ text-refused _ x e)
+    go (verdict.Refused x) e = back x e (run-text input _ (due ∙ line-back r l (linesOf rest) x e) ∙ text-refused _ x e)
     go verdict.Accepted e =
         by-bool (complete (s .reading))
-        (λ t. whole e t (due ∙ ap textBehind (line-last r l (linesOf rest) e t)
-        ∙ ap (λ v. textBehind (record { step = record { verdict = v; reading = s .reading }; behind = linesOf rest })) e))
+        (λ t. whole e t (due ∙ line-last r l (linesOf rest) e t
+        ∙ ap (λ (v : Verdict). let p : Split = record { step = record { verdict = v; reading = s .reading }; behind = linesOf rest } in p) e))
         (λ t. further (record {
           reading = s .reading;
           chars = [];
           arriving = ap (λ v. let a : Arriving = record { verdict = v; reading = s .reading; frame = emptyFrame; begun = false } in a) e;
           bounded = keeps-bounded true r (seenOf true p) few;
           unended = t;
-          due = due ∙ ap textBehind (line-more r l (linesOf rest) e t);
+          due = due ∙ line-more r l (linesOf rest) e t;
         }))
 
 through-feed : (c : ℕ) (cs : List ℕ) → c ≡ lineFeed → throughFeed (c ∷ cs) ≡ c ∷ []
@@ -122,7 +126,7 @@ unfolding arrive
 arrive-other r p c cs n = ap (λ a. arrive true a cs) (arrives-other true r p c n)
 
 line-from : (input cs more : List ℕ) (r : Reading) (p : List ℕ) → Bounded r → complete r ≡ false
-    → runText input ≡ textBehind (sheetAndBehind r (infront p (linesOf (cs ++ more))))
+    → splitOf input ≡ sheetAndBehind r (infront p (linesOf (cs ++ more)))
     → Read input (arrive true (midway r p) (throughFeed cs)) (drop (length (throughFeed cs)) cs ++ more)
 unfolding arrive throughFeed
 line-from input [] more r p few st due = further (record { reading = r; chars = p; arriving = refl; bounded = few; unended = st; due = due })
@@ -130,13 +134,13 @@ line-from input (c ∷ cs) more r p few st due =
     by-eq c lineFeed
     (λ e. rw (through-feed c cs e, arrives-feed true r p c e, fixed-memory true r p few)
     (at-feed input r p (cs ++ more) few
-    (due ∙ ap (λ ls. textBehind (sheetAndBehind r (infront p ls))) (lines-feed c (cs ++ more) e)
-    ∙ ap (λ ls. textBehind (sheetAndBehind r ls)) (whole-line p [] true (linesOf (cs ++ more)))
-    ∙ ap (λ q. textBehind (sheetAndBehind r (record { chars = q; ended = true } ∷ linesOf (cs ++ more)))) (append-nil p))))
+    (due ∙ ap (λ ls. sheetAndBehind r (infront p ls)) (lines-feed c (cs ++ more) e)
+    ∙ ap (λ ls. sheetAndBehind r ls) (whole-line p [] true (linesOf (cs ++ more)))
+    ∙ ap (λ q. sheetAndBehind r (record { chars = q; ended = true } ∷ linesOf (cs ++ more))) (append-nil p))))
     (λ n. rw (through-other c cs n, arrive-other r p c (throughFeed cs) n)
     (line-from input cs more r (p ++ (c ∷ [])) few st
-    (due ∙ ap (λ ls. textBehind (sheetAndBehind r (infront p ls))) (lines-other c (cs ++ more) n)
-    ∙ ap (λ ls. textBehind (sheetAndBehind r ls)) (sym (one-more p c (linesOf (cs ++ more)))))))
+    (due ∙ ap (λ ls. sheetAndBehind r (infront p ls)) (lines-other c (cs ++ more) n)
+    ∙ ap (λ ls. sheetAndBehind r ls) (sym (one-more p c (linesOf (cs ++ more)))))))
 
 pub line-read : (input cs more : List ℕ) (a : Arriving) → Midway input a (cs ++ more)
     → Read input (arrive true a (throughFeed cs)) (drop (length (throughFeed cs)) cs ++ more)
@@ -157,12 +161,30 @@ no-line r s = rw s
 pub sheet-cut : (input : List ℕ) (a : Arriving) → Midway input a []
     → (a .begun ≡ true → runText input ≡ refusalText refusal.Malformed) × (a .begun ≡ false → runText input ≡ refusalText refusal.Misplaced)
 unfolding some infront
-sheet-cut input a m = go (m .chars) (ap (λ b. b .begun) (m .arriving)) (m .due)
+sheet-cut input a m = go (m .chars) (ap (λ b. b .begun) (m .arriving)) (run-text input _ (m .due))
   where
     go : (p : List ℕ) → a .begun ≡ some p → runText input ≡ textBehind (sheetAndBehind (m .reading) (infront p (linesOf [])))
         → (a .begun ≡ true → runText input ≡ refusalText refusal.Malformed) × (a .begun ≡ false → runText input ≡ refusalText refusal.Misplaced)
     go [] e due = (λ t. absurd (let z : true ≡ false = sym t ∙ e in let y : _≡_ {A = ℕ} 0 1 = cc in omega arith), λ _. due ∙ no-line (m .reading) (m .unended))
     go (c ∷ p) e due = (λ _. due ∙ cut-line (m .reading) c p, λ t. absurd (let z : false ≡ true = sym t ∙ e in let y : _≡_ {A = ℕ} 0 1 = cc in omega arith))
+
+no-more : (r : Reading) → sheetAndBehind r [] ≡ record { step = record { verdict = verdict.Accepted; reading = r }; behind = [] }
+unfolding sheetAndBehind
+no-more r = refl
+
+-- There the `04` is missing.
+pub sheet-unended : (input : List ℕ) (a : Arriving) → Midway input a [] → complete (splitOf input .step .reading) ≡ false
+unfolding infront linesOf
+sheet-unended input a m = go (m .chars) (m .due)
+  where
+    go : (p : List ℕ) → splitOf input ≡ sheetAndBehind (m .reading) (infront p (linesOf [])) → complete (splitOf input .step .reading) ≡ false
+    go [] e = ap (λ (x : Split). complete (x .step .reading)) (e ∙ no-more (m .reading)) ∙ m .unended
+    go (c ∷ p) e =
+        let l : Line = record { chars = c ∷ p; ended = false } in
+        let cut = no-line-feed true (m .reading) (c ∷ p) in
+        let back = line-back (m .reading) l [] refusal.Malformed (ap (λ (s : LineStep). s .verdict) cut) in
+        ap (λ (x : Split). complete (x .step .reading)) (e ∙ ap (λ ls. sheetAndBehind (m .reading) ls) (last-line c p) ∙ back)
+        ∙ ap (λ (s : LineStep). complete (s .reading)) cut ∙ m .unended
 
 -- Behind the `04`: the chain is judged, and an accepted one is run.
 pub chain-back : (r : Reading) (ls : List Line) (x : Refusal) → complete r ≡ true → judgeChain (r .chain) ≡ verdict.Refused x

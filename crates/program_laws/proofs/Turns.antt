@@ -31,7 +31,7 @@ use Rattle.program_laws.proofs.RunStep.{run-step}
 
 -- The end of the input, where more is wanted.
 module _ (input : List ℕ) (j : Job) (store cells written : List ℕ) where
-  sheet-ends : InSheet input j [] written → Due input (closedBy stage.Sheet j .stage) (closedBy stage.Sheet j) [] store cells written
+  pub sheet-ends : InSheet input j [] written → Due input (closedBy stage.Sheet j .stage) (closedBy stage.Sheet j) [] store cells written
   unfolding closedBy
   sheet-ends i = go (j .arriving .begun) refl
     where
@@ -42,7 +42,7 @@ module _ (input : List ℕ) (j : Job) (store cells written : List ℕ) where
       go true e = rw (i .nothing) (sym (cut .0 e))
       go false e = rw (i .nothing) (sym (cut .1 e))
 
-  cells-end : j .line .verdict ≡ verdict.Accepted → InCells input j [] store written → Due input (closedBy stage.Cells j .stage) (closedBy stage.Cells j) [] store cells written
+  pub cells-end : j .line .verdict ≡ verdict.Accepted → InCells input j [] store written → Due input (closedBy stage.Cells j .stage) (closedBy stage.Cells j) [] store cells written
   unfolding closedBy
   cells-end v i = go (j .line .begun) (ends .1)
     where

@@ -173,3 +173,10 @@ module _ (c : Chain) (ok : judgeChain c ≡ verdict.Accepted) (all : List ℕ) w
       ∙ ap (λ (ws : List ℕ). firingsText (widthOf t) 0 (e .standing .done .firings) ws) (end-words settingOf lending start start-reached long)
       ∙ ap (λ (k : ℕ). firingsText (widthOf t) 0 k (wordsFrom t (λ i. getD all i 0) 0 k)) (run-firings ∙ ap (λ (s : Counters). s .fired) (same .1)))
       (ap₂ (λ (x : Ending) (k : ℕ). endText x k v) (run-stops .1 ∙ ap (λ (s : Counters). endingAt (layout t) (length all) s) (same .1)) (same .0))
+
+  -- And how it ends.
+  pub whole-ending : (n : ℕ) (d : Counters) → Gone (layout t) (length all) (clock.fresh (layout t)) n d → goesOn (layout t) (length all) d ≡ false
+      → wholeRun t all .ending ≡ endingAt (layout t) (length all) d
+  whole-ending n d g stop =
+      ap (λ (x : Ended). x .ending) (sym whole-call) ∙ run-stops .1
+      ∙ ap (λ (s : Counters). endingAt (layout t) (length all) s) (gone-same (layout t) (length all) run-gone (run-stops .0) g stop .1)

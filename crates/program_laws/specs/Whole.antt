@@ -1,18 +1,27 @@
 -- What the programs write of a whole input, whatever blocks it arrives in and whatever they are lent.
 use Prim.Native.Nat.{ℕ, zero, suc, _+_, _*_, _≤_, _<_}
-use mathlib.Core.Bool.{true, false, cond, _&&_}
+use mathlib.Core.Bool.{Bool, true, false, cond, _&&_}
 use mathlib.Core.List.{List, [], _∷_, _++_, flatten}
 use mathlib.Core.Path.{_≡_}
 use lib.Dec.{eqb}
 use lib.ListN.{length, take}
 use Rattle.model.specs.declared.Arriving.{Arriving}
-use Rattle.model.specs.Answers.{byVerdict}
+use Rattle.model.specs.declared.Refusal.the-variants as refusal
+use Rattle.model.specs.declared.Verdict.{Verdict}
+use Rattle.model.specs.Answers.{starvedByte, byVerdict}
+use Rattle.model.specs.Values.{trimmed}
+use Rattle.model.specs.Lines.{linesOf}
+use Rattle.model.specs.Frames.{framed}
+use Rattle.model.specs.Reading.{start, complete}
+use Rattle.model.specs.Running.{Starved}
 use Rattle.model.specs.Arriving.{opened, arrive}
 use Rattle.model.specs.Judging.{mostPlaces}
 use Rattle.model.specs.Writing.{longestSheet}
-use Rattle.model.specs.Programs.{planText, runText, mostWords, longestFiring, planTextPlaces, storePlaces, cellPlaces, wordPlaces, runTextPlaces}
+use Rattle.model.specs.Programs.{sheetAndBehind, cellsIn, wholeRun, endLine, refusalText, planText, runText, mostWords, longestFiring, planTextPlaces, storePlaces, cellPlaces, wordPlaces, runTextPlaces}
 use Rattle.program_lines.specs.Texts.{laidIfFits}
 use Rattle.program_stages.specs.declared.Job.{Job}
+use Rattle.program_stages.specs.declared.Stage.{Stage}
+use Rattle.program_stages.specs.declared.Stage.the-variants as stage
 use Rattle.program_stages.specs.Stages.{begun, closed, wantsInput, over}
 use Rattle.program_answer.specs.Answer.{planAnswer}
 use Rattle.program_driver.specs.Steps.{advanced}
@@ -131,6 +140,51 @@ pub record FirstPart (part whole : List ℕ) : Type 0 where
 abbrev pub NothingElse : Type 0
 NothingElse = (blocks : List (List ℕ)) → NonEmpty blocks → (lent : Lent) (n : ℕ) → FirstPart (turns n (startOf blocks lent) .written) (runText (flatten blocks))
 
+-- A turn that waits for a read.
+abbrev pub Waits : Loop → Type 0
+Waits l = (eqb (l .at) (length (l .block)) && wantsInput (l .job)) ≡ true
+
+-- The last line that the end of the input would bring there: starved, a line without its LF, or a line missing.
+pub data Missing (clocks : ℕ) : List ℕ → Type 0 where
+  no-cell : Missing clocks (framed (endLine starvedByte clocks))
+  no-feed : Missing clocks (refusalText refusal.Malformed)
+  no-line : Missing clocks (refusalText refusal.Misplaced)
+
+-- All of the text of this input was written, but for such a last line.
+pub record Told (input : List ℕ) (l : Loop) : Type 0 where
+  pub last : List ℕ
+  pub missing : Missing (l .job .clocks) last
+  pub all : l .written ++ last ≡ runText input
+
+-- Before it waits it writes what is due: it reads where the blocks read so far have nothing more to say.
+abbrev pub WritesFirst : Type 0
+WritesFirst = (past further : List (List ℕ)) → NonEmpty (past ++ further) → (lent : Lent) (n : ℕ)
+    → turns n (startOf (past ++ further) lent) .blocks ≡ further → Waits (turns n (startOf (past ++ further) lent))
+    → Told (flatten past) (turns n (startOf (past ++ further) lent))
+
+-- "It reads a `05` line only when starved, and stops reading at done or stalled": where it waits behind the `04`, the run over the cells read so far is starved.
+abbrev pub StarvedAt : (input : List ℕ) → Type 0
+StarvedAt input =
+    let p = sheetAndBehind start (linesOf input) in
+    complete (p .step .reading) ≡ true → wholeRun (trimmed (p .step .reading .chain)) (cellsIn (p .behind)) .ending ≡ Starved
+
+abbrev pub ReadsStarved : Type 0
+ReadsStarved = (past further : List (List ℕ)) → NonEmpty (past ++ further) → (lent : Lent) (n : ℕ)
+    → turns n (startOf (past ++ further) lent) .blocks ≡ further → Waits (turns n (startOf (past ++ further) lent)) → StarvedAt (flatten past)
+
+-- Nothing that is still to be read can change the text: the last line is due, or behind the sheet a line was turned back.
+abbrev pub settled : Stage → Verdict → Bool
+settled stage.Sheet v = false
+settled stage.Cells v = byVerdict v false (λ x. true)
+settled stage.Clocks v = byVerdict v false (λ x. true)
+settled (stage.Ending way) v = true
+settled (stage.Refusing x) v = true
+settled stage.Over v = true
+
+-- From there on no block is read.
+abbrev pub StopsReading : Type 0
+StopsReading = (l : Loop) (n : ℕ) → settled (l .job .stage) (l .job .line .verdict) ≡ true → turns n l .blocks ≡ l .blocks
+
 -- `plan` takes block after block, up to the first that is turned back.
 unfoldable pub planTaken : Arriving → List (List ℕ) → Arriving
 planTaken a [] = a
@@ -157,5 +211,8 @@ pub record ProgramLaws : Type 0 where
   pub writes : Writes
   pub ends : Ends
   pub nothing-else : NothingElse
+  pub writes-first : WritesFirst
+  pub reads-starved : ReadsStarved
+  pub stops-reading : StopsReading
   pub plan-writes : PlanWrites
   pub buffers : Buffers

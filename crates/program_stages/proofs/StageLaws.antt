@@ -1,8 +1,14 @@
 -- Each way through the choice of a job's next stage.
-use Prim.Native.Nat.{ℕ, _≤_, _<_}
-use mathlib.Core.Bool.{true, false}
-use mathlib.Core.Path.{_≡_, refl}
-use borrow.Author.Tests.{lt-ltb, le-ltb}
+use Prim.Native.Nat.{ℕ, zero, suc, _≤_, _<_}
+use mathlib.Core.Bool.{true, false, false≢true}
+use mathlib.Core.Path.{_≡_, refl, sym, _∙_, ap}
+use native.Mathlib.Omega.{arith}
+use lib.IntN.{ℤ, pos, negsuc}
+use lib.Signed.{ltZ}
+use mir.Syntax.{w64}
+use mir.Val.{toZ, ofZ, SFits}
+use mir.Facts.{toZ-ofZ}
+use borrow.Author.Tests.{lt-ltb, le-ltb, ltb-true}
 use Rattle.model.specs.declared.Arriving.{Arriving}
 use Rattle.model.specs.declared.Refusal.{Refusal}
 use Rattle.model.specs.declared.Refusal.the-variants as refusal
@@ -14,7 +20,7 @@ use Rattle.model.specs.Reading.{complete}
 use Rattle.program_stages.specs.declared.Job.{Job}
 use Rattle.program_stages.specs.declared.Stage.{Stage}
 use Rattle.program_stages.specs.declared.Stage.the-variants as stage
-use Rattle.program_stages.specs.Stages.{staged, sheetStage, cellsStage, closedBy, closed, wantsBy, wantsInput}
+use Rattle.program_stages.specs.Stages.{staged, sheetStage, cellsStage, closedBy, closed, afterRead, wantsBy, wantsInput}
 
 -- After a line of the sheet.
 pub sheet-refused : (a : Arriving) (x : Refusal) → a .verdict ≡ verdict.Refused x → stage.Refusing x ≡ sheetStage a
@@ -88,3 +94,29 @@ wants-line j s v = rw (s, v)
 pub wants-none : (j : Job) (x : Refusal) → j .stage ≡ stage.Cells → j .line .verdict ≡ verdict.Refused x → false ≡ wantsInput j
 unfolding wantsInput wantsBy
 wants-none j x s v = rw (s, v)
+
+-- After a read. A test on its answer speaks of what is read back from the answer's bits.
+module _ (got : ℤ) (j : Job) (fits : SFits w64 got) where
+  back : toZ w64 (ofZ w64 got) ≡ got
+  back = toZ-ofZ {w = w64} {z = got} fits
+
+  pub read-failed : ltZ (toZ w64 (ofZ w64 got)) (pos 0) ≡ true → staged j stage.Over ≡ afterRead got j
+  unfolding afterRead
+  read-failed e = go got (ap (λ (z : ℤ). ltZ z (pos 0)) (sym back) ∙ e)
+    where
+      go : (z : ℤ) → ltZ z (pos 0) ≡ true → staged j stage.Over ≡ afterRead z j
+      go (pos n) e = absurd (let z : n < 0 = ltb-true n 0 e in omega arith)
+      go (negsuc n) e = refl
+
+  pub read-ended : ofZ w64 got ≡ 0 → closed j ≡ afterRead got j
+  unfolding afterRead
+  read-ended e = ap (λ (z : ℤ). afterRead z j) (ap (toZ w64) (sym e) ∙ back)
+
+  pub read-given : ltZ (toZ w64 (ofZ w64 got)) (pos 0) ≡ false → (ofZ w64 got ≡ 0 → ⊥) → j ≡ afterRead got j
+  unfolding afterRead
+  read-given e n = go got (ap (λ (z : ℤ). ltZ z (pos 0)) (sym back) ∙ e) n
+    where
+      go : (z : ℤ) → ltZ z (pos 0) ≡ false → (ofZ w64 z ≡ 0 → ⊥) → j ≡ afterRead z j
+      go (pos zero) e n = absurd (n refl)
+      go (pos (suc k)) e n = refl
+      go (negsuc k) e n = absurd (false≢true (sym e))

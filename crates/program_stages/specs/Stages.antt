@@ -1,7 +1,8 @@
 -- What the program `run` does next.
-use Prim.Native.Nat.{ℕ}
+use Prim.Native.Nat.{ℕ, zero, suc}
 use mathlib.Core.Bool.{Bool, true, false, cond}
 use lib.Dec.{ltb}
+use lib.IntN.{ℤ, pos, negsuc}
 use lib.ListN.{replicate}
 use Rattle.model.specs.declared.Answer.{Answer}
 use Rattle.model.specs.declared.Answer.the-variants as answer
@@ -65,6 +66,12 @@ closedBy stage.Over j = j
 
 unfoldable pub closed : Job → Job
 closed j = closedBy (j .stage) j
+
+-- After a read, by its answer: how many characters it gave, none at the end of the input, or -1 where it failed, at which the program is over, without a last line.
+unfoldable pub afterRead : ℤ → Job → Job
+afterRead (pos zero) j = closed j
+afterRead (pos (suc n)) j = j
+afterRead (negsuc n) j = staged j stage.Over
 
 -- Nothing is left to do without more input.
 unfoldable pub wantsBy : Stage → Verdict → Bool

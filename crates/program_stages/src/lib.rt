@@ -14,7 +14,7 @@ use model::State;
 use model::Verdict;
 ghost use mathlib.Core.Path.{_≡_};
 ghost use Rattle.model.specs.Answers.{answerCounts};
-ghost use Rattle.program_stages.specs.Stages.{begun, staged, sheetStage, cellsStage, answerStage, closed, wantsInput, over};
+ghost use Rattle.program_stages.specs.Stages.{begun, staged, sheetStage, cellsStage, answerStage, closed, afterRead, wantsInput, over};
 
 // What a run of the program `run` does next.
 pub enum Stage {
@@ -176,6 +176,19 @@ pub fn close(j: Job) -> Job
         Stage::Refusing(_) => j,
         Stage::Over => j,
     }
+}
+
+// After a read that answered `got`: nothing is the end of the input; where it failed the program is over, without a last line.
+pub fn after_read(j: Job, got: isize) -> Job
+    ensures { λ r. ⌜ r ≡ afterRead got j ⌝ }
+{
+    if got < 0 {
+        return staged(j, Stage::Over);
+    }
+    if got == 0 {
+        return close(j);
+    }
+    j
 }
 
 // Nothing is left to do without more input.

@@ -10,6 +10,7 @@ use program_stages::Job;
 ghost use Prim.Native.Nat.{_≤_};
 ghost use lib.ListN.{length};
 ghost use Rattle.program_lines.specs.Texts.{Within};
+ghost use Rattle.program_laws.specs.Loops.{Supplied, RunDue};
 
 // The job, and of the block at hand the first `len` bytes, from `at` on.
 struct Ready {
@@ -18,10 +19,11 @@ struct Ready {
     len: usize,
 }
 
-// Reads, where the block is used up and nothing is left to do without more input. A read that gives nothing is the end of the input.
+// Reads, where the block is used up and nothing is left to do without more input.
 fn supply(job: Job, at: usize, len: usize, block: &mut [u8]) -> Ready
     requires { ⌜ len ≤ length (now block) ⌝ }
     ensures { λ r. ⌜ Within (r .len) (now (block .exit)) ⌝ }
+    ensures { λ r. ⌜ Supplied job at len (now (block .entry)) (r .job) (r .at) (r .len) (now (block .exit)) ⌝ }
 {
     if at != len {
         return Ready { job, at, len };
@@ -31,14 +33,18 @@ fn supply(job: Job, at: usize, len: usize, block: &mut [u8]) -> Ready
     }
     let got = libc::read(STDIN_FILENO, block);
     let n = io::count(got, block);
-    if n == 0 {
-        return Ready {
-            job: program_stages::close(job),
-            at: 0,
-            len: 0,
-        };
+    Ready {
+        job: program_stages::after_read(job, got),
+        at: 0,
+        len: n,
     }
-    Ready { job, at: 0, len: n }
+}
+
+// Writes the text that is due where a turn leaves this job.
+fn write_due(job: Job, text: &[u8]) -> bool
+    requires { ⌜ RunDue job (now text) ⌝ }
+{
+    io::write_all(STDOUT_FILENO, text)
 }
 
 fn main() {
@@ -73,7 +79,7 @@ fn main() {
         let next = t.job;
         job = next;
         let bytes = t.bytes;
-        if !io::write_all(STDOUT_FILENO, &text[..bytes]) {
+        if !write_due(next, &text[..bytes]) {
             return;
         }
     }

@@ -309,7 +309,7 @@ fn places(
 // ---- what is found after the clocks
 
 // Whether each FIFO is full.
-pub fn full_fifos(n: usize, caps: &[usize; 32], passed: &[usize; 32]) -> bool
+fn full_fifos(n: usize, caps: &[usize; 32], passed: &[usize; 32]) -> bool
     ensures { λ r. ⌜ (r ≡ true → FullFifos n (now (caps .entry)) (now (passed .entry))) ⌝ }
 {
     if 32 < n {
@@ -439,12 +439,13 @@ fn bad_rings(
     false
 }
 
-// What the clocks leave: how they stopped, the cells that they took, how many they were, and the counters.
+// What the clocks leave: how they stopped, the cells that they took, how many they were, the counters, and whether each FIFO is full.
 pub struct Filled {
     pub how: Stop,
     pub taken: usize,
     pub clocks: usize,
     pub passed: [usize; 32],
+    pub full: bool,
 }
 
 // The clocks of a call up to the first whose filters are aligned. Tables that are out of place make no clock, and nothing changes but the places.
@@ -467,7 +468,8 @@ pub fn fill(
         → Handed L walk n size iterations fired (now (at .entry)) (now (wants .entry)) (now (caps .entry)) (now (bases .entry)) (now (tops .entry)) counters (now (store .entry))
         → FillsTo (r .how) (r .taken) (r .clocks) L n fired (now (at .entry)) (now (caps .entry)) (now (bases .entry)) counters (r .passed) (now (puts .exit)) (now (gets .exit)) (now (store .entry)) (now (store .exit)) (now (cells .entry)) allowance)
         × ((Sound n size (length (now (store .entry))) (now (at .entry)) (now (wants .entry)) (now (caps .entry)) (now (bases .entry)) (now (tops .entry)) counters → ⊥)
-        → Left r counters (now (store .entry)) (now (store .exit))) ⌝ }
+        → Left r counters (now (store .entry)) (now (store .exit)))
+        × (r .full ≡ true → FullFifos n (now (caps .entry)) (r .passed)) ⌝ }
 {
     let mut passed = counters;
     if bad_counters(n, at, wants, size, &passed) {
@@ -476,6 +478,7 @@ pub fn fill(
             taken: 0,
             clocks: 0,
             passed,
+            full: false,
         };
     }
     if bad_rings(n, caps, bases, tops, &passed, store.len()) {
@@ -484,6 +487,7 @@ pub fn fill(
             taken: 0,
             clocks: 0,
             passed,
+            full: false,
         };
     }
     *puts = [0usize; 32];
@@ -505,10 +509,12 @@ pub fn fill(
         allowance,
     );
     let how = s.how;
+    let full = full_fifos(n, caps, &passed);
     Filled {
         how,
         taken: s.taken,
         clocks: s.clocks,
         passed,
+        full,
     }
 }

@@ -16,3 +16,7 @@ sum-fits o m len h g l = record { fits = omega arith }
 -- One clock more is made.
 pub less-left : (taken allowance : ℕ) → taken ≤ allowance → (taken ≡ allowance → ⊥) → allowance - (taken + 1) < allowance - taken
 less-left taken allowance h n = omega arith
+
+-- A number up to one that fits.
+pub up-to-fits : (x len : ℕ) → x ≤ len → len < 2 ^ 64 → Fits w64 x
+up-to-fits x len h l = record { fits = omega arith }

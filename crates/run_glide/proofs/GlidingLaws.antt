@@ -1,18 +1,24 @@
 -- The loop over the clocks of aligned filters, as its function is handed it: one law for each way that a turn goes.
-use Prim.Native.Nat.{ℕ, suc, _+_, _-_, _%_, _≤_, _<_}
-use mathlib.Core.Bool.{Bool, true}
+use Prim.Native.Nat.{ℕ, zero, suc, _+_, _-_, _*_, _%_, _≤_, _<_, min}
+use mathlib.Core.Bool.{Bool}
 use mathlib.Core.List.{List}
-use mathlib.Core.Path.{_≡_, sym, _∙_, ap}
-use native.Mathlib.Nat.{mod-lt, zero-add}
+use mathlib.Core.Path.{_≡_, refl, sym, _∙_, ap}
+use native.Mathlib.Nat.{mod-lt, zero-add, add-zero, sub-zero, zero-mul, suc-mul}
 use native.Mathlib.Numerals.{add-one}
 use native.Mathlib.Omega.{arith}
 use lib.ListN.{length, getD, take}
 use lib.Seq.{sets, getD-take, length-take-le}
+use Rattle.model.specs.Lists.{upTo}
+use Rattle.model.specs.Kernels.{terms}
 use Rattle.model.specs.Values.{Trimmed}
 use Rattle.model.specs.Running.{Done, Spent, Starved, Full, layout, writtenBy}
 use Rattle.model.specs.declared.Kernel.{Kernel}
+use Rattle.model.proofs.ListLaws.{length-tabulate}
+use Rattle.kernel.specs.declared.Terms.{Terms}
+use Rattle.kernel.specs.Tables.{tableOf}
+use Rattle.kernel.proofs.TableLaws.{table-fits, table-terms}
 use Rattle.flow.proofs.Invariant.{first-wanted}
-use Rattle.loop_laws.specs.Passes.{of, ahead, Lent, lentOf, passing, passOf, heads, FullFifos}
+use Rattle.loop_laws.specs.Passes.{of, ahead, Lent, lentOf, passing, passOf, heads}
 use Rattle.loop_laws.specs.Standings.{counting, stand, endedAt}
 use Rattle.loop_laws.specs.Tables.{walked}
 use Rattle.loop_laws.proofs.FillLaws.{first-take}
@@ -29,13 +35,22 @@ use Rattle.loop_laws.proofs.GlideLaws.{
   ends-done,
 }
 use Rattle.run_glide.proofs.RingLaws.{caps-at, puts-at, gets-at}
-use Rattle.run_glide.specs.Glides.{firedOf, Glides, calls, GoodPlaces, InRows, InRings, Sound}
+use Rattle.run_glide.specs.Glides.{firedOf, passesOf, firesOf, Starts, Glides, calls, GoodPlaces, InRows, InRings, Sound}
 
 -- The width of a firing, by another name.
 pub sized : (t : Trimmed) (kernel : Kernel) (n row iterations cells centre w w′ fired dims : ℕ) (at wants caps bases tops spans strides passed us gs store : List ℕ) → w ≡ w′
     → Glides t kernel n row iterations cells centre w′ fired dims at wants caps bases tops spans strides passed us gs store
     → Glides t kernel n row iterations cells centre w fired dims at wants caps bases tops spans strides passed us gs store
 sized t kernel n row iterations cells centre w w′ fired dims at wants caps bases tops spans strides passed us gs store e G = rw e G
+
+-- The filters that the kernel adds, from the table in which they were found.
+module _ (k : Kernel) (c n : ℕ) (h : n ≤ 32) (ts : Terms) (e : ts ≡ tableOf (terms k c (upTo (min n 32)))) where
+  pub terms-fit : ts .count ≤ length (ts .filters)
+  unfolding tableOf
+  terms-fit = omega (arith, table-fits k c n h ts e, ap (λ (x : Terms). length (x .filters)) e ∙ length-tabulate 32 _)
+
+  pub terms-found : take (ts .count) (ts .filters) ≡ terms k c (upTo n)
+  terms-found = table-terms k c n h ts e
 
 module _ (t : Trimmed) (kernel : Kernel) (n row iterations cells centre size fired₀ dims : ℕ) (at wants caps bases tops spans strides passed us₀ gs₀ store₀ : List ℕ)
     (lent out₀ : List ℕ) (allowance : ℕ) where
@@ -103,20 +118,20 @@ module _ (t : Trimmed) (kernel : Kernel) (n row iterations cells centre size fir
       in-rings = record { some = G .tables .some; few = G .tables .few; each = ring };
     }
 
-    pub glide-start : (full : Bool) → (full ≡ true → FullFifos n caps passed) → (left : ℕ) → left ≡ row - fired₀ % row
-        → Glide us₀ (heads full us₀ gs₀) store₀ out₀ fired₀ (getD wants 0 0 - getD passed 0 0) left 0 0
-    glide-start full f left e =
-        gliding-start _ _ _ _ _ _ _ _ _ _ _ _ _ _ _ _ _ _ _ _ (G .tables) (G .stands) (G .rows) (G .rings) full f (getD wants 0 0 - getD passed 0 0) left e
-        (λ _. omega (arith, wait-there, G .wanted))
+    pub glide-start : (full : Bool) (first position wait left : ℕ) → Starts full n row fired₀ first position wait left at wants caps passed
+        → Glide us₀ (heads full us₀ gs₀) store₀ out₀ fired₀ wait left 0 0
+    glide-start full first position wait left S =
+        gliding-start _ _ _ _ _ _ _ _ _ _ _ _ _ _ _ _ _ _ _ _ (G .tables) (G .stands) (G .rows) (G .rings) full (S .full-is) wait left (S .left-is)
+        (λ _. omega (arith, wait-there, G .wanted, S .wait-is))
 
     module _ (us gs store out : List ℕ) (fired wait left taken o : ℕ) (s : Glide us gs store out fired wait left taken o) where
       pub fired-most : fired₀ + (fired - fired₀) ≤ iterations
       fired-most = omega (arith, s .made, s .begun)
 
-      pub due-after : fired < iterations → wait ≤ 0 → fired + 1 < iterations → getD passed 0 0 + (taken + 1) ≤ getD at 0 0 + walked spans strides dims 0 (fired + 1)
+      due-after : fired < iterations → wait ≤ 0 → fired + 1 < iterations → getD passed 0 0 + (taken + 1) ≤ getD at 0 0 + walked spans strides dims 0 (fired + 1)
       due-after = due-next _ _ _ _ _ _ _ _ _ _ _ _ _ _ _ _ _ _ _ _ (G .tables) (G .stands) (G .rows) (G .rings) _ _ _ _ _ _ _ _ _ s
 
-      pub glide-waits : (us′ gs′ store′ words words′ : List ℕ) (x : ℕ) → lentOf us′ gs′ store′ words′ ≡ passOf (n - 1) bases tops x (lentOf us gs store words)
+      glide-waits : (us′ gs′ store′ words words′ : List ℕ) (x : ℕ) → lentOf us′ gs′ store′ words′ ≡ passOf (n - 1) bases tops x (lentOf us gs store words)
           → x ≡ getD lent taken 0 → fired < iterations → (taken ≡ allowance → ⊥) → taken < length lent → 0 < wait
           → Glide us′ gs′ store′ out fired (wait - 1) left (taken + 1) o
       glide-waits us′ gs′ store′ words words′ x e ex fl al tl wl =
@@ -129,12 +144,12 @@ module _ (t : Trimmed) (kernel : Kernel) (n row iterations cells centre size fir
         output : out′ ≡ sets out o (writtenBy t (passing (n - 1) x us gs store))
         output = ap (λ (l : Lent). l .words) e ∙ ap (λ (ws : List ℕ). sets out o ws) (sym (G .writes-are (passing (n - 1) x us gs store)))
 
-        pub glide-fires : 0 < left - 1 → Glide us′ gs′ store′ out′ (fired + 1) wait (left - 1) (taken + 1) (o + size)
+        glide-fires : 0 < left - 1 → Glide us′ gs′ store′ out′ (fired + 1) wait (left - 1) (taken + 1) (o + size)
         glide-fires g =
             gliding-fires _ _ _ _ _ _ _ _ _ _ _ _ _ _ _ _ _ _ _ _ (G .tables) (G .stands) (G .rows) (G .rings) _ _ _ _ _ _ _ _ _ s us′ gs′ store′ x
             (ap (λ (l : Lent). l .puts) e) (ap (λ (l : Lent). l .gets) e) (ap (λ (l : Lent). l .store) e) ex fl al tl out′ wl r output g
 
-        pub glide-turns : (w′ : ℕ) → left - 1 ≤ 0 → (fired + 1 < iterations → getD passed 0 0 + (taken + 1) + w′ ≡ getD at 0 0 + walked spans strides dims 0 (fired + 1))
+        glide-turns : (w′ : ℕ) → left - 1 ≤ 0 → (fired + 1 < iterations → getD passed 0 0 + (taken + 1) + w′ ≡ getD at 0 0 + walked spans strides dims 0 (fired + 1))
             → Glide us′ gs′ store′ out′ (fired + 1) w′ row (taken + 1) (o + size)
         glide-turns w′ g ew =
             gliding-turns _ _ _ _ _ _ _ _ _ _ _ _ _ _ _ _ _ _ _ _ (G .tables) (G .stands) (G .rows) (G .rings) _ _ _ _ _ _ _ _ _ s us′ gs′ store′ x
@@ -156,3 +171,81 @@ module _ (t : Trimmed) (kernel : Kernel) (n row iterations cells centre size fir
       pub glide-done : iterations ≤ fired
           → endedAt Done (stand (fired₀ + (fired - fired₀)) (ahead taken (take n passed)) store out taken taken (fired - fired₀)) ≡ calls t n fired₀ passed store₀ lent out₀ allowance
       glide-done h = rw (G .size-is) (ends-done _ _ _ _ _ _ _ _ _ _ _ _ _ _ _ _ _ _ _ _ (G .tables) (G .stands) (G .rows) (G .rings) _ _ _ _ _ _ _ _ _ s h)
+
+    -- Many clocks.
+    module _ (us gs store out : List ℕ) (fired wait left taken o : ℕ) (s : Glide us gs store out fired wait left taken o) where
+      -- So many clocks without a firing.
+      glide-passes : (words : List ℕ) (m : ℕ) → fired < iterations → m ≤ wait → taken + m ≤ allowance → taken + m ≤ length lent
+          → let l = passesOf n bases tops lent taken m (lentOf us gs store words) in Glide (l .puts) (l .gets) (l .store) out fired (wait - m) left (taken + m) o
+      unfolding passesOf
+      glide-passes words zero fl wl al tl = rw (sub-zero wait, add-zero taken) s
+      glide-passes words (suc i) fl wl al tl =
+          let l = passesOf n bases tops lent taken i (lentOf us gs store words) in
+          let h = glide-passes words i fl (omega arith) (omega arith) (omega arith) in
+          let l′ = passOf (n - 1) bases tops (getD lent (taken + i) 0) l in
+          let g = glide-waits (l .puts) (l .gets) (l .store) out fired (wait - i) left (taken + i) o h (l′ .puts) (l′ .gets) (l′ .store) (l .words) (l′ .words) (getD lent (taken + i) 0)
+          refl refl fl (omega arith) (omega arith) (omega arith) in
+          let e₁ : wait - suc i ≡ wait - i - 1 = omega arith in
+          let e₂ : taken + suc i ≡ taken + i + 1 = omega arith in
+          rw (e₁, e₂) g
+
+      -- So many firings, of which none is the last of its row;
+      module _ (fl : fired < iterations) (wl : wait ≤ 0) where
+        glide-fires-on : (m : ℕ) → m < left → fired + m ≤ iterations → taken + m ≤ allowance → taken + m ≤ length lent → m * size ≤ length out - o
+            → let l = firesOf kernel centre n size bases tops lent taken o m (lentOf us gs store out) in Glide (l .puts) (l .gets) (l .store) (l .words) (fired + m) wait (left - m) (taken + m) (o + m * size)
+        unfolding firesOf
+        glide-fires-on zero ll il al tl r = rw (add-zero fired, sub-zero left, add-zero taken, zero-mul size, add-zero o) s
+        glide-fires-on (suc i) ll il al tl r =
+            let l = firesOf kernel centre n size bases tops lent taken o i (lentOf us gs store out) in
+            let w : suc i * size ≡ i * size + size = suc-mul i size in
+            let h = glide-fires-on i (omega arith) (omega arith) (omega arith) (omega arith) (omega arith) in
+            let l′ = firedOf kernel centre n (o + i * size) bases tops (getD lent (taken + i) 0) l in
+            let g = glide-fires (l .puts) (l .gets) (l .store) (l .words) (fired + i) wait (left - i) (taken + i) (o + i * size) h (l′ .puts) (l′ .gets) (l′ .store) (l′ .words)
+            (getD lent (taken + i) 0) refl refl (omega arith) (omega arith) (omega arith) wl (omega (arith, w, h .out-length, s .out-length, s .room)) (omega arith) in
+            let e₁ : fired + suc i ≡ fired + i + 1 = omega arith in
+            let e₂ : left - suc i ≡ left - i - 1 = omega arith in
+            let e₃ : taken + suc i ≡ taken + i + 1 = omega arith in
+            let e₄ : o + suc i * size ≡ o + i * size + size = omega (arith, w) in
+            rw (e₁, e₂, e₃, e₄) g
+
+        -- and so many whose last is: `w′` is the wait in the next row, as it is found.
+        glide-fires-out : (full : Bool) (first position wait₀ left₀ : ℕ) → Starts full n row fired₀ first position wait₀ left₀ at wants caps passed
+            → (m : ℕ) → 0 < m → m ≤ left → left - m ≤ 0 → fired + m ≤ iterations → taken + m ≤ allowance → taken + m ≤ length lent → m * size ≤ length out - o → (w′ : ℕ)
+            → (fired + m < iterations → position + (taken + m) ≤ first + walked spans strides dims 0 (fired + m) → position + (taken + m) + w′ ≡ first + walked spans strides dims 0 (fired + m))
+            → let l = firesOf kernel centre n size bases tops lent taken o m (lentOf us gs store out) in Glide (l .puts) (l .gets) (l .store) (l .words) (fired + m) w′ row (taken + m) (o + m * size)
+        unfolding firesOf
+        glide-fires-out full first position wait₀ left₀ S zero ml ll le il al tl r w′ f = absurd (omega arith)
+        glide-fires-out full first position wait₀ left₀ S (suc i) ml ll le il al tl r w′ f =
+            let l = firesOf kernel centre n size bases tops lent taken o i (lentOf us gs store out) in
+            let w : suc i * size ≡ i * size + size = suc-mul i size in
+            let h = glide-fires-on i (omega arith) (omega arith) (omega arith) (omega arith) (omega arith) in
+            let l′ = firedOf kernel centre n (o + i * size) bases tops (getD lent (taken + i) 0) l in
+            let e₁ : fired + suc i ≡ fired + i + 1 = omega arith in
+            let e₃ : taken + suc i ≡ taken + i + 1 = omega arith in
+            let e₄ : o + suc i * size ≡ o + i * size + size = omega (arith, w) in
+            let due = due-after (l .puts) (l .gets) (l .store) (l .words) (fired + i) wait (left - i) (taken + i) (o + i * size) h (omega arith) wl in
+            let f′ = rw (e₁, e₃) at f in
+            let g = glide-turns (l .puts) (l .gets) (l .store) (l .words) (fired + i) wait (left - i) (taken + i) (o + i * size) h (l′ .puts) (l′ .gets) (l′ .store) (l′ .words)
+            (getD lent (taken + i) 0) refl refl (omega arith) (omega arith) (omega arith) wl (omega (arith, w, h .out-length, s .out-length, s .room)) w′ (omega arith)
+            (λ z. omega (arith, S .first-is, S .position-is, f′ z (omega (arith, S .first-is, S .position-is, due z)))) in
+            rw (e₁, e₃, e₄) g
+
+        -- The same, of what is left.
+        module _ (us′ gs′ store′ out′ : List ℕ) (m : ℕ) (e : lentOf us′ gs′ store′ out′ ≡ firesOf kernel centre n size bases tops lent taken o m (lentOf us gs store out))
+            (il : fired + m ≤ iterations) (al : taken + m ≤ allowance) (tl : taken + m ≤ length lent) (r : m * size ≤ length out - o) where
+          pub glide-fired : 0 < left - m → Glide us′ gs′ store′ out′ (fired + m) wait (left - m) (taken + m) (o + m * size)
+          glide-fired h =
+              rw (ap (λ (l : Lent). l .puts) e, ap (λ (l : Lent). l .gets) e, ap (λ (l : Lent). l .store) e, ap (λ (l : Lent). l .words) e)
+              (glide-fires-on m (omega arith) il al tl r)
+
+          pub glide-turned : (full : Bool) (first position wait₀ left₀ : ℕ) → Starts full n row fired₀ first position wait₀ left₀ at wants caps passed → 0 < m → m ≤ left → left - m ≤ 0 → (w′ : ℕ)
+              → (fired + m < iterations → position + (taken + m) ≤ first + walked spans strides dims 0 (fired + m) → position + (taken + m) + w′ ≡ first + walked spans strides dims 0 (fired + m))
+              → Glide us′ gs′ store′ out′ (fired + m) w′ row (taken + m) (o + m * size)
+          glide-turned full first position wait₀ left₀ S ml ll le w′ f =
+              rw (ap (λ (l : Lent). l .puts) e, ap (λ (l : Lent). l .gets) e, ap (λ (l : Lent). l .store) e, ap (λ (l : Lent). l .words) e)
+              (glide-fires-out full first position wait₀ left₀ S m ml ll le il al tl r w′ f)
+
+      pub glide-waited : (us′ gs′ store′ words words′ : List ℕ) (m : ℕ) → lentOf us′ gs′ store′ words′ ≡ passesOf n bases tops lent taken m (lentOf us gs store words) → fired < iterations
+          → m ≤ wait → taken + m ≤ allowance → taken + m ≤ length lent → Glide us′ gs′ store′ out fired (wait - m) left (taken + m) o
+      glide-waited us′ gs′ store′ words words′ m e fl wl al tl =
+          rw (ap (λ (l : Lent). l .puts) e, ap (λ (l : Lent). l .gets) e, ap (λ (l : Lent). l .store) e) (glide-passes words m fl wl al tl)

@@ -1,14 +1,16 @@
 -- The clocks of aligned filters: what they are handed, what they leave, and the test of what they are handed.
-use Prim.Native.Nat.{ℕ, suc, _+_, _-_, _≤_, _<_}
+use Prim.Native.Nat.{ℕ, zero, suc, _+_, _-_, _*_, _%_, _≤_, _<_}
+use mathlib.Core.Bool.{Bool, true}
 use mathlib.Core.List.{List}
 use mathlib.Core.Path.{_≡_}
 use lib.ListN.{length, getD, take}
 use lib.Seq.{slice, sets}
-use Rattle.model.specs.Kernels.{written, width}
+use Rattle.model.specs.Lists.{upTo}
+use Rattle.model.specs.Kernels.{written, width, terms}
 use Rattle.model.specs.Values.{Trimmed}
 use Rattle.model.specs.Running.{Ending, Done, Spent, Starved, Stalled, Full, Ended, layout, writtenBy, widthOf, call}
 use Rattle.model.specs.declared.Kernel.{Kernel}
-use Rattle.loop_laws.specs.Passes.{ahead, flow, stepped, Lent, passing, InStore}
+use Rattle.loop_laws.specs.Passes.{ahead, flow, stepped, Lent, passing, passOf, FullFifos, InStore}
 use Rattle.loop_laws.specs.Standings.{counting, stand, endedAt}
 use Rattle.loop_laws.specs.Tables.{walked, Tables, Stands, Rows, Rings}
 use Rattle.run_glide.specs.declared.Way.{Way}
@@ -20,11 +22,17 @@ pub record Walks (dims : ℕ) (spans strides : List ℕ) : Type 0 where
   pub few : dims ≤ 4
   pub each : (d : ℕ) → d < dims → (0 < getD spans d 0) × (getD strides d 0 ≤ 1048576)
 
--- What a firing is handed: there is room for the words, and for what the kernel makes of them.
-pub record Fires (kernel : Kernel) (n o : ℕ) (puts gets store row out : List ℕ) : Type 0 where
+-- What the row of a firing's words is: 256 places, of which those past the words are 0.
+pub record Blank (n : ℕ) (row : List ℕ) : Type 0 where
+  pub there : length row ≡ 256
+  pub rest : (k : ℕ) → n ≤ k → getD row k 0 ≡ 0
+
+-- What a firing is handed: there is room for the words, and for what the kernel makes of them; `ts` are the filters that the kernel adds.
+pub record Fires (kernel : Kernel) (centre n o : ℕ) (puts gets store row out ts : List ℕ) : Type 0 where
   pub some : 0 < n
   pub few : n ≤ 32
-  pub row-there : n ≤ length row
+  pub blank : Blank n row
+  pub terms-are : ts ≡ terms kernel centre (upTo n)
   pub in-store : InStore (n - 1) puts gets store
   pub room : o + width kernel n ≤ length out
 
@@ -34,8 +42,35 @@ firedOf kernel centre n o bases tops word l = record {
   puts = stepped bases tops (n - 1) (l .puts);
   gets = stepped bases tops (n - 1) (l .gets);
   store = flow word (slice 0 (n - 1) (l .gets)) (slice 0 (n - 1) (l .puts)) (l .store);
-  words = sets (l .words) o (written kernel centre (passing (n - 1) word (l .puts) (l .gets) (l .store)));
+  words = sets (l .words) o (written kernel centre (terms kernel centre (upTo n)) (upTo n) (passing (n - 1) word (l .puts) (l .gets) (l .store)));
 }
+
+-- A ring up to below `top` lies within `room` places, and both places in it.
+abbrev pub GoodPlaces : (base top u g room : ℕ) → Type 0
+GoodPlaces base top u g room = (base < top) × (u < top) × (g < top) × (top ≤ room)
+
+pub record InRings (n room : ℕ) (bases tops us gs : List ℕ) : Type 0 where
+  pub some : 0 < n
+  pub few : n ≤ 32
+  pub each : (k : ℕ) → k + 1 < n → GoodPlaces (getD bases k 0) (getD tops k 0) (getD us k 0) (getD gs k 0) room
+
+-- Places that lie in their rings, and a store of `room` words around them.
+pub record Rung (n room : ℕ) (bases tops us gs store : List ℕ) : Type 0 where
+  pub puts-there : n ≤ length us
+  pub gets-there : n ≤ length gs
+  pub rings : InRings n room bases tops us gs
+  pub room-is : length store ≡ room
+
+-- What the words of so many cells leave that pass one after the other, from place `from` of the cells on;
+unfoldable pub passesOf : (n : ℕ) (bases tops cells : List ℕ) (from : ℕ) → ℕ → Lent → Lent
+passesOf n bases tops cells from zero l = l
+passesOf n bases tops cells from (suc i) l = passOf (n - 1) bases tops (getD cells (from + i) 0) (passesOf n bases tops cells from i l)
+
+-- and so many firings, each `size` places behind the one before.
+unfoldable pub firesOf : (kernel : Kernel) (centre n size : ℕ) (bases tops cells : List ℕ) (from o : ℕ) → ℕ → Lent → Lent
+firesOf kernel centre n size bases tops cells from o zero l = l
+firesOf kernel centre n size bases tops cells from o (suc i) l =
+    firedOf kernel centre n (o + i * size) bases tops (getD cells (from + i) 0) (firesOf kernel centre n size bases tops cells from o i l)
 
 -- The call that a loop makes the clocks of, from its beginning.
 abbrev pub calls : (t : Trimmed) (n fired : ℕ) (passed store lent out : List ℕ) (allowance : ℕ) → Ended
@@ -52,8 +87,16 @@ pub record Glides (t : Trimmed) (kernel : Kernel) (n row iterations cells centre
   pub rings : Rings n at caps bases tops passed puts gets
   pub rows : Rows (walked spans strides dims 0) row iterations
   pub walks : Walks dims spans strides
-  pub writes-are : (ws : List ℕ) → writtenBy t ws ≡ written kernel centre ws
+  pub writes-are : (ws : List ℕ) → writtenBy t ws ≡ written kernel centre (terms kernel centre (upTo n)) (upTo n) ws
   pub size-is : widthOf t ≡ size
+
+-- What the loop is handed of tables and counters.
+pub record Starts (full : Bool) (n row fired first position wait left : ℕ) (at wants caps passed : List ℕ) : Type 0 where
+  pub full-is : full ≡ true → FullFifos n caps passed
+  pub first-is : first ≡ getD at 0 0
+  pub position-is : position ≡ getD passed 0 0
+  pub wait-is : wait ≡ getD wants 0 0 - getD passed 0 0
+  pub left-is : left ≡ row - fired % row
 
 abbrev pub wayOf : Way → Ending
 wayOf way.Done = Done
@@ -72,15 +115,6 @@ pub record GlidesTo (r : Slid) (t : Trimmed) (n iterations cells fired : ℕ) (p
   pub most : fired + r .firings ≤ iterations
 
 -- ---- the test
-
--- A ring up to below `top` lies within `room` places, and both places in it.
-abbrev pub GoodPlaces : (base top u g room : ℕ) → Type 0
-GoodPlaces base top u g room = (base < top) × (u < top) × (g < top) × (top ≤ room)
-
-pub record InRings (n room : ℕ) (bases tops us gs : List ℕ) : Type 0 where
-  pub some : 0 < n
-  pub few : n ≤ 32
-  pub each : (k : ℕ) → k + 1 < n → GoodPlaces (getD bases k 0) (getD tops k 0) (getD us k 0) (getD gs k 0) room
 
 -- Rows of a grid, in which filter 0 is not past the cell that it wants.
 pub record InRows (dims row iterations first wanted position : ℕ) (spans strides : List ℕ) : Type 0 where

@@ -5,11 +5,12 @@ ghost use mathlib.Core.Path.{_≡_};
 ghost use mathlib.Core.Bool.{true, false};
 ghost use Prim.Native.Nat.{ℕ, suc, _+_, _-_, _*_, _%_, _<_, _≤_};
 ghost use lib.ListN.{length, getD};
-ghost use Rattle.model.specs.Kernels.{width as widthFor};
+ghost use Rattle.model.specs.Lists.{upTo};
+ghost use Rattle.model.specs.Kernels.{width as widthFor, terms as termsOf};
 ghost use Rattle.model.specs.Values.{Trimmed};
-ghost use Rattle.loop_laws.specs.Passes.{step, lentOf, passOf, heads, InStore};
+ghost use Rattle.loop_laws.specs.Passes.{step, lentOf, passOf, heads, FullFifos, InStore};
 ghost use Rattle.loop_laws.specs.Tables.{walked};
-ghost use Rattle.run_glide.specs.Glides.{Walks, Fires, firedOf, Glides, GlidesTo, GoodPlaces, InRings, InRows, Sound, Left};
+ghost use Rattle.run_glide.specs.Glides.{Walks, Blank, Fires, firedOf, Rung, passesOf, firesOf, Starts, Glides, GlidesTo, GoodPlaces, InRings, InRows, Sound, Left};
 
 // ---- a clock in which every filter moves
 
@@ -92,11 +93,11 @@ fn pass(
     words[m] = carry;
 }
 
-// A firing: what the kernel makes of the words that pass goes to `out` from place o on. `row` is room for the words.
+// A firing: what the kernel makes of the words that pass goes to `out` from place o on. `row` is room for the words, `terms` are the filters that the kernel adds.
 fn fire(
     full: bool,
     kernel: Kernel,
-    centre: usize,
+    centre: u8,
     n: usize,
     bases: &[usize; 32],
     tops: &[usize; 32],
@@ -104,20 +105,112 @@ fn fire(
     gets: &mut [usize; 32],
     store: &mut [u32],
     word: u32,
-    row: &mut [u32],
+    row: &mut [u32; 256],
     out: &mut [u32],
     o: usize,
+    terms: &[u8],
 )
-    requires { ⌜ Fires kernel n o (now puts) (heads full (now puts) (now gets)) (now store) (now row) (now out) ⌝ }
-    ensures { λ _. ⌜ lentOf (now (puts .exit)) (heads full (now (puts .exit)) (now (gets .exit))) (now (store .exit)) (now (out .exit))
-        ≡ firedOf kernel centre n o (now (bases .entry)) (now (tops .entry)) word (lentOf (now (puts .entry)) (heads full (now (puts .entry)) (now (gets .entry))) (now (store .entry)) (now (out .entry))) ⌝ }
+    requires { ⌜ Fires kernel centre n o (now puts) (heads full (now puts) (now gets)) (now store) (now row) (now out) (now terms) ⌝ }
+    ensures { λ _. ⌜ (lentOf (now (puts .exit)) (heads full (now (puts .exit)) (now (gets .exit))) (now (store .exit)) (now (out .exit))
+        ≡ firedOf kernel centre n o (now (bases .entry)) (now (tops .entry)) word (lentOf (now (puts .entry)) (heads full (now (puts .entry)) (now (gets .entry))) (now (store .entry)) (now (out .entry)))) × Blank n (now (row .exit)) ⌝ }
 {
     if let Kernel::Raw = kernel {
         pass(full, n, bases, tops, puts, gets, store, word, &mut out[o..]);
         return;
     }
     pass(full, n, bases, tops, puts, gets, store, word, row);
-    kernel::apply(kernel, centre, &row[..n], out, o);
+    kernel::apply(kernel, centre, terms, terms, row, out, o);
+}
+
+// The words of `count` cells from place `from` on pass every filter, one after the other.
+fn pass_all(
+    full: bool,
+    n: usize,
+    bases: &[usize; 32],
+    tops: &[usize; 32],
+    puts: &mut [usize; 32],
+    gets: &mut [usize; 32],
+    store: &mut [u32],
+    cells: &[u32],
+    from: usize,
+    count: usize,
+    words: &mut [u32; 256],
+)
+    requires { ⌜ Rung n (length (now store)) (now bases) (now tops) (now puts) (heads full (now puts) (now gets)) (now store) × Blank n (now words) × (from + count ≤ length (now cells)) ⌝ }
+    ensures { λ _. ⌜ (lentOf (now (puts .exit)) (heads full (now (puts .exit)) (now (gets .exit))) (now (store .exit)) (now (words .exit))
+        ≡ passesOf n (now (bases .entry)) (now (tops .entry)) (now (cells .entry)) from count (lentOf (now (puts .entry)) (heads full (now (puts .entry)) (now (gets .entry))) (now (store .entry)) (now (words .entry))))
+        × Rung n (length (now (store .entry))) (now (bases .entry)) (now (tops .entry)) (now (puts .exit)) (heads full (now (puts .exit)) (now (gets .exit))) (now (store .exit))
+        × Blank n (now (words .exit)) ⌝ }
+{
+    let mut i = 0;
+    while i < count {
+        let word = cells[from + i];
+        pass(full, n, bases, tops, puts, gets, store, word, words);
+        i += 1;
+    }
+}
+
+// So many firings, each `width` places behind the one before.
+fn fire_all(
+    full: bool,
+    kernel: Kernel,
+    centre: u8,
+    n: usize,
+    bases: &[usize; 32],
+    tops: &[usize; 32],
+    puts: &mut [usize; 32],
+    gets: &mut [usize; 32],
+    store: &mut [u32],
+    cells: &[u32],
+    from: usize,
+    count: usize,
+    row: &mut [u32; 256],
+    out: &mut [u32],
+    o: usize,
+    terms: &[u8],
+    width: usize,
+)
+    requires { ⌜ Rung n (length (now store)) (now bases) (now tops) (now puts) (heads full (now puts) (now gets)) (now store) × Blank n (now row) × (from + count ≤ length (now cells)) ⌝ }
+    requires { ⌜ (now terms ≡ termsOf kernel centre (upTo n)) × (width ≡ widthFor kernel n) × (o + count * width ≤ length (now out)) ⌝ }
+    ensures { λ _. ⌜ (lentOf (now (puts .exit)) (heads full (now (puts .exit)) (now (gets .exit))) (now (store .exit)) (now (out .exit))
+        ≡ firesOf kernel centre n width (now (bases .entry)) (now (tops .entry)) (now (cells .entry)) from o count (lentOf (now (puts .entry)) (heads full (now (puts .entry)) (now (gets .entry))) (now (store .entry)) (now (out .entry))))
+        × Rung n (length (now (store .entry))) (now (bases .entry)) (now (tops .entry)) (now (puts .exit)) (heads full (now (puts .exit)) (now (gets .exit))) (now (store .exit))
+        × Blank n (now (row .exit)) × (length (now (out .exit)) ≡ length (now (out .entry))) ⌝ }
+{
+    let mut at = o;
+    let mut i = 0;
+    while i < count {
+        let newest = cells[from + i];
+        fire(
+            full,
+            kernel,
+            centre,
+            n,
+            bases,
+            tops,
+            puts,
+            gets,
+            store,
+            newest,
+            row,
+            out,
+            at,
+            terms,
+        );
+        at += width;
+        i += 1;
+    }
+}
+
+// How many firings can be made: no more than a, b and c, each of `width` words into `room` places.
+fn firings_in(a: usize, b: usize, c: usize, room: usize, width: usize) -> usize
+    requires { ⌜ 0 < width ⌝ }
+    ensures { λ r. ⌜ (r ≤ a) × (r ≤ b) × (r ≤ c) × (r * width ≤ room) × (0 < a → 0 < b → 0 < c → width ≤ room → 0 < r) ⌝ }
+{
+    let most = room / width;
+    let few = values::lesser(a, b);
+    let fewer = values::lesser(few, c);
+    values::lesser(fewer, most)
 }
 
 // ---- where the cells of the next iteration are
@@ -271,14 +364,13 @@ pub struct Slid {
     pub firings: usize,
 }
 
-// The clocks of a call whose filters are aligned: every filter moves in each. Filter 0 waits for its wanted cell, `left` iterations are left in the row.
+// The clocks of a call whose filters are aligned: every filter moves in each. Filter 0, which is at `position`, has `wait` cells before the one that it wants; `first` is what it wants in
+// iteration 0; `left` iterations are left in the row.
 fn slide(
+    full: bool,
     kernel: Kernel,
-    centre: usize,
+    centre: u8,
     n: usize,
-    at: &[usize; 32],
-    wants: &[usize; 32],
-    caps: &[usize; 32],
     bases: &[usize; 32],
     tops: &[usize; 32],
     dims: usize,
@@ -286,7 +378,10 @@ fn slide(
     strides: &[usize; 4],
     row: usize,
     iterations: usize,
-    passed: &[usize; 32],
+    first: usize,
+    position: usize,
+    wait0: usize,
+    left0: usize,
     fired0: usize,
     puts: &mut [usize; 32],
     gets: &mut [usize; 32],
@@ -294,22 +389,20 @@ fn slide(
     cells: &[u32],
     out: &mut [u32],
     allowance: usize,
+    terms: &[u8],
+    width: usize,
 ) -> Slid
-    requires { ⌜ (length (now puts) ≡ 32) × (length (now gets) ≡ 32) ⌝ }
-    requires { ⌜ Sound n dims row iterations (length (now store)) (now at) (now wants) (now bases) (now tops) (now spans) (now strides) (now passed) (now puts) (now gets) ⌝ }
-    ensures { λ r. ⌜ ((t : Trimmed) (size : ℕ)
-        → Glides t kernel n row iterations size centre (widthFor kernel n) fired0 dims (now (at .entry)) (now (wants .entry)) (now (caps .entry)) (now (bases .entry)) (now (tops .entry)) (now (spans .entry)) (now (strides .entry)) (now (passed .entry)) (now (puts .entry)) (now (gets .entry)) (now (store .entry))
-        → GlidesTo r t n iterations size fired0 (now (passed .entry)) (now (store .entry)) (now (store .exit)) (now (out .entry)) (now (out .exit)) (now (cells .entry)) allowance) ⌝ }
+    requires { ⌜ (now terms ≡ termsOf kernel centre (upTo n)) × (width ≡ widthFor kernel n) ⌝ }
+    requires { ⌜ (length (now puts) ≡ 32) × (length (now gets) ≡ 32) × InRings n (length (now store)) (now bases) (now tops) (now puts) (now gets) ⌝ }
+    requires { ⌜ InRows dims row iterations first (position + wait0) position (now spans) (now strides) × (0 < left0) ⌝ }
+    ensures { λ r. ⌜ ((t : Trimmed) (size : ℕ) (at wants caps passed : List ℕ) → Starts full n row fired0 first position wait0 left0 at wants caps passed
+        → Glides t kernel n row iterations size centre width fired0 dims at wants caps (now (bases .entry)) (now (tops .entry)) (now (spans .entry)) (now (strides .entry)) passed (now (puts .entry)) (now (gets .entry)) (now (store .entry))
+        → GlidesTo r t n iterations size fired0 passed (now (store .entry)) (now (store .exit)) (now (out .entry)) (now (out .exit)) (now (cells .entry)) allowance) ⌝ }
 {
-    let first = at[0];
-    let wanted = wants[0];
-    let position = passed[0];
-    let width = kernel::width(kernel, n);
-    let full = run_fill::full_fifos(n, caps, passed);
-    let mut spare = [0u32; 32];
+    let mut spare = [0u32; 256];
     let mut fired = fired0;
-    let mut wait = wanted - position;
-    let mut left = row - fired0 % row;
+    let mut wait = wait0;
+    let mut left = left0;
     let mut taken = 0;
     let mut o = 0;
     while fired < iterations {
@@ -327,21 +420,36 @@ fn slide(
                 firings: fired - fired0,
             };
         }
-        let word = cells[taken];
+        let lent = values::lesser(allowance, cells.len()) - taken;
         if 0 < wait {
-            pass(full, n, bases, tops, puts, gets, store, word, &mut spare);
-            wait -= 1;
-            taken += 1;
+            let waits = values::lesser(wait, lent);
+            pass_all(
+                full,
+                n,
+                bases,
+                tops,
+                puts,
+                gets,
+                store,
+                cells,
+                taken,
+                waits,
+                &mut spare,
+            );
+            wait -= waits;
+            taken += waits;
             continue;
         }
-        if out.len() - o < width {
+        let room = out.len() - o;
+        if room < width {
             return Slid {
                 how: Way::Full,
                 clocks: taken,
                 firings: fired - fired0,
             };
         }
-        fire(
+        let firings = firings_in(left, iterations - fired, lent, room, width);
+        fire_all(
             full,
             kernel,
             centre,
@@ -351,15 +459,19 @@ fn slide(
             puts,
             gets,
             store,
-            word,
+            cells,
+            taken,
+            firings,
             &mut spare,
             out,
             o,
+            terms,
+            width,
         );
-        o += width;
-        fired += 1;
-        taken += 1;
-        left -= 1;
+        o += firings * width;
+        fired += firings;
+        taken += firings;
+        left -= firings;
         if 0 < left {
             continue;
         }
@@ -381,14 +493,14 @@ fn slide(
     }
 }
 
-// The clocks of a call whose filters are aligned. Tables that are out of place make no clock, and nothing changes.
+// The clocks of a call whose filters are aligned. `full`: each FIFO is full. Tables that are out of place make no clock, and nothing changes.
 pub fn glide(
+    full: bool,
     kernel: Kernel,
-    centre: usize,
+    centre: u8,
     n: usize,
     at: &[usize; 32],
     wants: &[usize; 32],
-    caps: &[usize; 32],
     bases: &[usize; 32],
     tops: &[usize; 32],
     dims: usize,
@@ -405,8 +517,8 @@ pub fn glide(
     out: &mut [u32],
     allowance: usize,
 ) -> Slid
-    ensures { λ r. ⌜ ((t : Trimmed) (size : ℕ)
-        → Glides t kernel n row iterations size centre (widthFor kernel n) fired0 dims (now (at .entry)) (now (wants .entry)) (now (caps .entry)) (now (bases .entry)) (now (tops .entry)) (now (spans .entry)) (now (strides .entry)) (now (passed .entry)) puts0 gets0 (now (store .entry))
+    ensures { λ r. ⌜ ((t : Trimmed) (size : ℕ) (caps : List ℕ) → (full ≡ true → FullFifos n caps (now (passed .entry)))
+        → Glides t kernel n row iterations size centre (widthFor kernel n) fired0 dims (now (at .entry)) (now (wants .entry)) caps (now (bases .entry)) (now (tops .entry)) (now (spans .entry)) (now (strides .entry)) (now (passed .entry)) puts0 gets0 (now (store .entry))
         → GlidesTo r t n iterations size fired0 (now (passed .entry)) (now (store .entry)) (now (store .exit)) (now (out .entry)) (now (out .exit)) (now (cells .entry)) allowance)
         × ((Sound n dims row iterations (length (now (store .entry))) (now (at .entry)) (now (wants .entry)) (now (bases .entry)) (now (tops .entry)) (now (spans .entry)) (now (strides .entry)) (now (passed .entry)) puts0 gets0 → ⊥)
         → Left r (now (store .entry)) (now (store .exit)) (now (out .entry)) (now (out .exit))) ⌝ }
@@ -439,13 +551,14 @@ pub fn glide(
             firings: 0,
         };
     }
+    let found = kernel::terms_of(kernel, centre, n);
+    let filters = found.filters;
+    let count = found.count;
     slide(
+        full,
         kernel,
         centre,
         n,
-        at,
-        wants,
-        caps,
         bases,
         tops,
         dims,
@@ -453,7 +566,10 @@ pub fn glide(
         strides,
         row,
         iterations,
-        passed,
+        first,
+        position,
+        wanted - position,
+        row - fired0 % row,
         fired0,
         &mut puts,
         &mut gets,
@@ -461,5 +577,7 @@ pub fn glide(
         cells,
         out,
         allowance,
+        &filters[..count],
+        kernel::width(kernel, n),
     )
 }

@@ -5,16 +5,16 @@ use mathlib.Core.List.{List, [], _∷_, _++_, map, append-nil}
 use mathlib.Core.Path.{_≡_, refl, sym, _∙_, ap}
 use native.Mathlib.Nat.{add-zero}
 use native.Mathlib.Omega.{arith}
-use lib.ListN.{length, getD, take, drop, take-append-drop, length-take, List·getD-append}
+use lib.ListN.{length, getD, take, drop, take-append-drop, length-take, length-map, List·getD-append}
 use lib.Seq.{getD-take}
 use borrow.Author.Tests.{ltb-false}
-use Rattle.model.specs.Lists.{sum, tabulate}
+use Rattle.model.specs.Lists.{sum, tabulate, upTo}
 use Rattle.model.specs.Values.{Trimmed}
 use Rattle.model.specs.Answers.{firstOf}
-use Rattle.model.specs.Kernels.{written, width}
+use Rattle.model.specs.Kernels.{wordsAt, written, width}
 use Rattle.model.specs.Judging.{valueChecks}
 use Rattle.model.specs.Clock.{Counters, first, fresh}
-use Rattle.model.specs.Running.{layout, countersOf, withCounters, Standing, Ended, outcomeOf, call, events, shortStore, judgeRun, Run, begun, writtenBy, widthOf, ended, runTrimmed, eventsTrimmed}
+use Rattle.model.specs.Running.{layout, countersOf, withCounters, Standing, Ended, outcomeOf, call, events, shortStore, judgeRun, Run, begun, termsOf, writesOf, writtenBy, widthOf, ended, runTrimmed, eventsTrimmed}
 use Rattle.model.specs.CallLists.{Lending, Between, lentCells, callRun, callEvents, after, firingsAmong, Fresh}
 use Rattle.model.specs.declared.CellsPassed.{CellsPassed}
 use Rattle.model.specs.declared.Kernel.{Kernel}
@@ -37,12 +37,12 @@ use Rattle.run_laws.proofs.Held.{Held, held-agree, held-fresh, holds-fi
 use Rattle.run_laws.proofs.Calls.{Counted, counted, Sound, call-sound}
 
 -- A firing writes as many words as its kernel's width.
-pub written-width : (k : Kernel) (c : ℕ) (ws : List ℕ) (n : ℕ) → length ws ≡ n → length (written k c ws) ≡ width k n
-unfolding written width
-written-width kernel.Raw c ws n e = e
-written-width kernel.Difference c ws n e = refl
-written-width (kernel.Scaled f) c ws n e = refl
-written-width (kernel.Blend g) c ws n e = refl
+pub written-width : (k : Kernel) (c : ℕ) (ks us ws : List ℕ) → length (written k c ks us ws) ≡ width k (length us)
+unfolding written width wordsAt
+written-width kernel.Raw c ks us ws = length-map us (λ i. getD ws i 0)
+written-width kernel.Difference c ks us ws = refl
+written-width (kernel.Scaled f) c ks us ws = refl
+written-width (kernel.Blend g) c ks us ws = refl
 
 -- The counters of a state are those that it was given.
 pub counters-back : (n : ℕ) (s : State) (c : Counters) → length (c .passed) ≡ n → countersOf n (withCounters s c) ≡ c
@@ -142,8 +142,8 @@ module _ (S : Setting) where
     lent-length = length-tabulate (l .cells) _
 
   pub width-right : (ws : List ℕ) → length ws ≡ layout t .filters → length (writtenBy t ws) ≡ widthOf t
-  unfolding writtenBy widthOf layout
-  width-right ws e = written-width (t .kernel) _ ws (t .count) e
+  unfolding writtenBy widthOf writesOf upTo
+  width-right ws e = written-width (t .kernel) _ (termsOf t) _ ws ∙ ap (width (t .kernel)) (length-tabulate (t .count) (λ k. k))
 
   module _ (l : Lending) (b : Between) where
     -- What holds before every clock of this call.

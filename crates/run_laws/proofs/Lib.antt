@@ -1,4 +1,5 @@
 pub mod Looks
+pub mod Lengths
 pub mod Traces
 pub mod Guard
 pub mod Held

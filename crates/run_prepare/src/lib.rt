@@ -315,7 +315,7 @@ pub struct Ready {
     pub row: usize,
     pub iterations: usize,
     pub cells: usize,
-    pub centre: usize,
+    pub centre: u8,
     pub fired: usize,
 }
 
@@ -383,7 +383,7 @@ fn with_store(
         row: extents[dims - 1],
         iterations,
         cells,
-        centre: centre as usize,
+        centre,
         fired: made.0 as usize,
     }
 }

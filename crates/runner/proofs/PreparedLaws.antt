@@ -6,13 +6,13 @@ use native.Mathlib.Nat.{zero-add, zero-mul, suc-mul, pos-of-dvd-of-pos}
 use native.Mathlib.Omega.{arith}
 use native.Mathlib.Decide.{ℕ-discrete}
 use lib.ListN.{length, getD, drop}
-use Rattle.model.specs.Lists.{sum, product}
+use Rattle.model.specs.Lists.{upTo, sum, product}
 use Rattle.model.specs.Geometry.{cellCount, place, indices}
-use Rattle.model.specs.Kernels.{written}
+use Rattle.model.specs.Kernels.{written, terms}
 use Rattle.model.specs.Values.{Trimmed, trimmed, sizesOf}
 use Rattle.model.specs.Iterations.{cellsOf, extentsOf}
 use Rattle.model.specs.Store.{firstPlace}
-use Rattle.model.specs.Running.{layout, writtenBy}
+use Rattle.model.specs.Running.{layout, termsOf, writesOf, writtenBy}
 use Rattle.model.specs.declared.Chain.{Chain}
 use Rattle.model.proofs.ListLaws.{length-tabulate}
 use Rattle.model.proofs.Iterations.{iterations-product, extents-count, reads-from-first, at-most-cells}
@@ -136,6 +136,6 @@ module _ (t : Trimmed) (sized : length (t .sizes) ≡ t .dims) (proper : Proper 
     holds = B .holds;
   }
 
-  pub writes-are : (ws : List ℕ) → writtenBy t ws ≡ written (t .kernel) centre ws
-  unfolding writtenBy
+  pub writes-are : (ws : List ℕ) → writtenBy t ws ≡ written (t .kernel) centre (terms (t .kernel) centre (upTo (t .count))) (upTo (t .count)) ws
+  unfolding writtenBy termsOf writesOf
   writes-are ws = rw (P .centre-is)

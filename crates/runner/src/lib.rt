@@ -80,7 +80,7 @@ fn clocks(
     row: usize,
     iterations: usize,
     size: usize,
-    centre: usize,
+    centre: u8,
     fired: usize,
     passed: &mut [usize; 32],
     store: &mut [u32],
@@ -130,6 +130,7 @@ fn clocks(
     let taken = f.taken;
     let made = f.clocks;
     let how = f.how;
+    let full = f.full;
     let after = f.passed;
     *passed = after;
     match how {
@@ -154,12 +155,12 @@ fn clocks(
         Stop::Aligned => {}
     }
     let g = run_glide::glide(
+        full,
         kernel,
         centre,
         n,
         at,
         wants,
-        caps,
         bases,
         tops,
         dims,

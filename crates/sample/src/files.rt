@@ -2,7 +2,7 @@
 ghost use Rattle.io.specs.Counts.{Counts};
 
 // How many bytes of the file were read: 0 where it cannot be.
-pub fn read_path(path: &[u8], into: &mut [u8]) -> usize
+pub(crate) fn read_path(path: &[u8], into: &mut [u8]) -> usize
     ensures { λ r. ⌜ Counts r (now (into .exit)) ⌝ }
 {
     let fd = os::open_read(path);
@@ -14,7 +14,7 @@ pub fn read_path(path: &[u8], into: &mut [u8]) -> usize
     n
 }
 
-pub fn read_in(name: [u8; 5], into: &mut [u8]) -> usize
+pub(crate) fn read_in(name: [u8; 5], into: &mut [u8]) -> usize
     ensures { λ r. ⌜ Counts r (now (into .exit)) ⌝ }
 {
     let path = [
@@ -30,7 +30,7 @@ pub fn read_in(name: [u8; 5], into: &mut [u8]) -> usize
     read_path(&path, into)
 }
 
-pub fn read_out(name: [u8; 5], into: &mut [u8]) -> usize
+pub(crate) fn read_out(name: [u8; 5], into: &mut [u8]) -> usize
     ensures { λ r. ⌜ Counts r (now (into .exit)) ⌝ }
 {
     let path = [

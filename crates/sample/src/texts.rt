@@ -97,7 +97,7 @@ fn run_text(input: &[u8], piece: usize, text: &mut [u8]) -> usize
 }
 
 // The text of `plan`, where the sheet's name starts with a p, else that of `run`.
-pub fn text_of(kind: u8, input: &[u8], piece: usize, text: &mut [u8]) -> usize
+pub(crate) fn text_of(kind: u8, input: &[u8], piece: usize, text: &mut [u8]) -> usize
     ensures { λ r. ⌜ Within r (now (text .exit)) ⌝ }
 {
     if kind == b'p' {

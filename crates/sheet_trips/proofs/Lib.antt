@@ -5,4 +5,5 @@ pub mod LinesRead
 pub mod ReadWrite
 pub mod ReadBack
 pub mod WriteRead
+pub mod Calls
 pub mod AsItArrives

@@ -1,11 +1,11 @@
 -- Sheets round-trip (document 01, "Lines of the sheet"): what is promised of writing and reading together.
-use Prim.Native.Nat.{ℕ, _<_}
-use mathlib.Core.List.{List}
+use Prim.Native.Nat.{ℕ, _≤_, _<_}
+use mathlib.Core.List.{List, _++_}
 use mathlib.Core.Path.{_≡_}
 use lib.Dec.{T}
 use lib.Ieee.{fits, binary32}
 use lib.IntN.{pos}
-use lib.ListN.{getD}
+use lib.ListN.{length, getD, take, drop}
 use lib.Signed.{mag}
 use Rattle.model.specs.declared.Chain.{Chain}
 use Rattle.model.specs.declared.Kernel.{Kernel}
@@ -14,7 +14,7 @@ use Rattle.model.specs.declared.Verdict.the-variants as verdict
 use Rattle.model.specs.Values.{trimmed, Same, chainOf}
 use Rattle.model.specs.Judging.{judgeChain}
 use Rattle.model.specs.Reading.{readChain}
-use Rattle.model.specs.Writing.{sheetOf}
+use Rattle.model.specs.Writing.{sheetOf, Written, writeOf}
 
 -- What the machine's types give of a chain's value: sizes and capacities of 32 bits, entries of 16 bits in two's complement, factors that binary32 holds.
 unfoldable pub FactorsFit : Kernel → Type 0
@@ -41,3 +41,18 @@ WriteRead = (c : Chain) → InRange c → judgeChain c ≡ verdict.Accepted → 
 -- An accepted chain sheet, read and written, gives back its bytes.
 abbrev pub ReadWrite : Type 0
 ReadWrite = (sheet : List ℕ) → readChain sheet .verdict ≡ verdict.Accepted → sheetOf (readChain sheet .chain) ≡ sheet
+
+-- The same of the calls. What `write_chain` wrote `read_chain` accepts and reads as the same chain; an accepted sheet that was read is written as the same bytes.
+abbrev pub bytesOf : Written → List ℕ
+bytesOf w = take (w .answer .bytes) (w .output)
+
+abbrev pub WriteReadCalls : Type 0
+WriteReadCalls =
+    (c : Chain) → InRange c → (out : List ℕ) → writeOf c out .answer .verdict ≡ verdict.Accepted
+    → readChain (bytesOf (writeOf c out)) ≡ record { verdict = verdict.Accepted; chain = chainOf (trimmed c) }
+
+abbrev pub ReadWriteCalls : Type 0
+ReadWriteCalls =
+    (sheet out : List ℕ) → readChain sheet .verdict ≡ verdict.Accepted → length sheet ≤ length out
+    → writeOf (readChain sheet .chain) out
+    ≡ record { answer = record { verdict = verdict.Accepted; bytes = length sheet }; output = sheet ++ drop (length sheet) out }

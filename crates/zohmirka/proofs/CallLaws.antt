@@ -9,6 +9,7 @@ use Rattle.model.specs.Planning.{planOf}
 use Rattle.model.specs.Reading.{readRequest, readChain}
 use Rattle.model.specs.Writing.{Written, writeOf}
 use Rattle.model.specs.declared.Answer.the-variants as answer
+use Rattle.model.specs.declared.Chain.{Chain}
 use Rattle.model.specs.declared.Planned.{Planned}
 use Rattle.model.specs.declared.ReadChain.{ReadChain}
 use Rattle.model.specs.declared.ReadRequest.{ReadRequest}
@@ -20,7 +21,13 @@ use Rattle.zohmirka_words.specs.Words.{chainInto}
 use Rattle.zohmirka_reports.specs.declared.Report.{Report}
 use Rattle.zohmirka_reports.specs.Reports.{reportOf}
 use Rattle.zohmirka_runs.specs.Runs.{Runs, runValue}
-use Rattle.zohmirka.specs.Calls.{planCall, runSheet, readVerdict, readCall}
+use Rattle.zohmirka.specs.Calls.{Sheets, written, planCall, runSheet, readVerdict, readCall}
+
+pub sheet-written : (c : Chain) (sheet : List ℕ) (n : ℕ) (w : Wrote) (left : List ℕ)
+    → _≡_ {A = Written} (record { answer = w; output = left }) (writeOf c sheet) → n ≡ verdictNumber (w .verdict)
+    → record { answer = record { refusal = n; bytes = w .bytes }; sheet = left } ≡ written c sheet
+unfolding written
+sheet-written c sheet n w left f g = rw (← f, g)
 
 module _ (request sheet : List ℕ) (r : ReadRequest) (e : r ≡ readRequest request) where
   pub plan-refused : (n : ℕ) (x : Refusal) → r .verdict ≡ verdict.Refused x → n ≡ verdictNumber (verdict.Refused x)
@@ -28,11 +35,10 @@ module _ (request sheet : List ℕ) (r : ReadRequest) (e : r ≡ readRequest req
   unfolding planCall verdictNumber
   plan-refused n x q d = rw (← e, q, d)
 
-  pub plan-written : (n : ℕ) (p : Planned) (w : Wrote) (left : List ℕ) → r .verdict ≡ verdict.Accepted → p ≡ planOf (r .request)
-      → _≡_ {A = Written} (record { answer = w; output = left }) (writeOf (p .chain) sheet) → n ≡ verdictNumber (w .verdict)
-      → record { answer = record { refusal = n; bytes = w .bytes }; sheet = left } ≡ planCall request sheet
+  pub plan-written : (p : Planned) (wrote : Sheets) → r .verdict ≡ verdict.Accepted → p ≡ planOf (r .request) → wrote ≡ written (p .chain) sheet
+      → wrote ≡ planCall request sheet
   unfolding planCall
-  plan-written n p w left q d f g = rw (← e, q, ← d, ← f, g)
+  plan-written p wrote q d f = rw (← e, q, ← d, f)
 
 module _ (state store cells out : List ℕ) (allowance : ℕ) where
   module _ (sheet : List ℕ) (read : ReadChain) (e : read ≡ readChain sheet) where

@@ -4,10 +4,12 @@ use mathlib.Core.List.{List, [], _∷_}
 use lib.Dec.{ltb}
 use lib.ListN.{length}
 use Rattle.model.specs.Answers.{numberOf, verdictNumber, check, firstOf, byVerdict}
+use Rattle.model.specs.Judging.{judgeChain}
 use Rattle.model.specs.Planning.{planOf}
 use Rattle.model.specs.Reading.{readRequest, readChain}
 use Rattle.model.specs.Writing.{writeOf}
 use Rattle.model.specs.declared.Answer.the-variants as answer
+use Rattle.model.specs.declared.Chain.{Chain}
 use Rattle.model.specs.declared.Refusal.the-variants as refusal
 use Rattle.model.specs.declared.Verdict.{Verdict}
 use Rattle.model.specs.declared.Verdict.the-variants as verdict
@@ -19,18 +21,22 @@ use Rattle.zohmirka_runs.specs.Runs.{Runs, runValue}
 abbrev pub version : ℕ
 version = 1
 
--- Planning a request sheet into a chain sheet.
-pub record Plans : Type 0 where
+-- Writing a chain sheet: 3 to 9 of the chain, then 12.
+pub record Sheets : Type 0 where
   pub answer : Sheet
   pub sheet : List ℕ
 
-unfoldable pub planCall : (request sheet : List ℕ) → Plans
+unfoldable pub written : Chain → (sheet : List ℕ) → Sheets
+written c sheet =
+    let wrote = writeOf c sheet in
+    record { answer = record { refusal = verdictNumber (wrote .answer .verdict); bytes = wrote .answer .bytes }; sheet = wrote .output }
+
+-- Planning a request sheet into a chain sheet: 1 to 9 of the request first.
+unfoldable pub planCall : (request sheet : List ℕ) → Sheets
 planCall request sheet =
     let read = readRequest request in
-    let wrote = writeOf (planOf (read .request) .chain) sheet in
-    byVerdict (read .verdict)
-    (record { answer = record { refusal = verdictNumber (wrote .answer .verdict); bytes = wrote .answer .bytes }; sheet = wrote .output })
-    (λ x. record { answer = record { refusal = numberOf x; bytes = 0 }; sheet = sheet })
+    let wrote = written (planOf (read .request) .chain) sheet in
+    byVerdict (read .verdict) wrote (λ x. record { answer = record { refusal = numberOf x; bytes = 0 }; sheet = sheet })
 
 -- Judging a chain sheet.
 abbrev pub judgeCall : (sheet : List ℕ) → ℕ
@@ -62,3 +68,10 @@ unfoldable pub readCall : (sheet chain : List ℕ) → Reads
 readCall sheet chain =
     let v = readVerdict sheet (length chain) in
     record { refusal = verdictNumber v; chain = byVerdict v (laid (chainWords (readChain sheet .chain)) chain) (λ x. chain) }
+
+-- Judging a chain given by its words, and writing its sheet.
+abbrev pub judgeChainCall : (chain : List ℕ) → ℕ
+judgeChainCall chain = verdictNumber (judgeChain (chainIn chain))
+
+abbrev pub writeCall : (chain sheet : List ℕ) → Sheets
+writeCall chain sheet = written (chainIn chain) sheet

@@ -1,4 +1,5 @@
 // The functions for C and Rust. Numbers and slices go in; a slice is a pointer and a length. No function has a `requires`. c/zohmirka.h says the same for C.
+use model::Chain;
 use model::Refusal;
 use model::Verdict;
 use zohmirka_reports::Report;
@@ -9,7 +10,7 @@ use zohmirka_runs::run_value;
 use zohmirka_words::chain_in;
 use zohmirka_words::chain_out;
 ghost use mathlib.Core.Path.{_≡_};
-ghost use Rattle.zohmirka.specs.Calls.{version, planCall, judgeCall, runSheet, runChain, readCall};
+ghost use Rattle.zohmirka.specs.Calls.{version, written, planCall, judgeCall, runSheet, runChain, readCall, judgeChainCall, writeCall};
 
 // The version of this interface.
 #[no_mangle]
@@ -17,6 +18,18 @@ pub extern "C" fn zohmirka_version() -> u32
     ensures { λ r. ⌜ r ≡ version ⌝ }
 {
     1
+}
+
+// The sheet of a chain: 3 to 9 of the chain, then 12.
+fn write(c: Chain, sheet: &mut [u8]) -> Sheet
+    ensures { λ r. ⌜ record { answer = r; sheet = now (sheet .exit) } ≡ written c (now (sheet .entry)) ⌝ }
+{
+    let wrote = sheet_calls::write_chain(c, sheet);
+    let verdict = wrote.verdict;
+    Sheet {
+        refusal: number(verdict),
+        bytes: wrote.bytes,
+    }
 }
 
 // Plans a request sheet into a chain sheet: 1 to 9 of the request, then 12.
@@ -33,12 +46,7 @@ pub extern "C" fn zohmirka_plan(request: &[u8], sheet: &mut [u8]) -> Sheet
         },
         Verdict::Accepted => {
             let planned = planner::plan(read.request);
-            let wrote = sheet_calls::write_chain(planned.chain, sheet);
-            let written = wrote.verdict;
-            Sheet {
-                refusal: number(written),
-                bytes: wrote.bytes,
-            }
+            write(planned.chain, sheet)
         }
     }
 }
@@ -107,4 +115,21 @@ pub extern "C" fn zohmirka_run_chain(
         ≡ runChain (now (state .entry)) (now (store .entry)) (now (cells .entry)) (now (out .entry)) allowance (now (chain .entry)) ⌝ }
 {
     run_value(chain_in(chain), state, store, cells, out, allowance)
+}
+
+// Judges a chain given by its words: 3 to 9, or 0.
+#[no_mangle]
+pub extern "C" fn zohmirka_judge_chain(chain: &[u32]) -> u32
+    ensures { λ r. ⌜ r ≡ judgeChainCall (now (chain .entry)) ⌝ }
+{
+    let judged = judging::judge_chain(chain_in(chain));
+    number(judged)
+}
+
+// Writes the sheet of a chain given by its words: 3 to 9 of the chain, then 12.
+#[no_mangle]
+pub extern "C" fn zohmirka_write_chain(chain: &[u32], sheet: &mut [u8]) -> Sheet
+    ensures { λ r. ⌜ record { answer = r; sheet = now (sheet .exit) } ≡ writeCall (now (chain .entry)) (now (sheet .entry)) ⌝ }
+{
+    write(chain_in(chain), sheet)
 }

@@ -1,4 +1,9 @@
+pub mod Laid
+pub mod States
 pub mod ReadChains
 pub mod ThereAndBack
 pub mod Promised
+pub mod CallLists
+pub mod Ranges
+pub mod Sheets
 pub mod Sizes

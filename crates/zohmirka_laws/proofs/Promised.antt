@@ -2,7 +2,7 @@
 use Prim.Native.Nat.{ℕ, _<_}
 use mathlib.Core.Bool.{Bool, true, false}
 use mathlib.Core.List.{List}
-use mathlib.Core.Path.{_≡_, refl}
+use mathlib.Core.Path.{_≡_, refl, sym, _∙_, ap}
 use native.Mathlib.Omega.{arith}
 use lib.ListN.{length}
 use borrow.Author.Tests.{lt-ltb}
@@ -11,7 +11,7 @@ use Rattle.model.specs.Judging.{badDims, badGrid, windowChecks, valueChecks, ju
 use Rattle.model.specs.Planning.{planOf}
 use Rattle.model.specs.Reading.{readRequest, readChain}
 use Rattle.model.specs.Running.{judgeRun, layout, countersOf, shortStore, badState, runOf, runTrimmed}
-use Rattle.model.specs.Values.{trimmed, blankChain}
+use Rattle.model.specs.Values.{trimmed}
 use Rattle.model.specs.Writing.{writeOf, writeVerdict}
 use Rattle.model.specs.declared.Chain.{Chain}
 use Rattle.model.specs.declared.Refusal.{Refusal}
@@ -22,15 +22,16 @@ use Rattle.model.proofs.Iterations.{at-most-cells}
 use Rattle.run_laws.proofs.Accepts as accepts
 use Rattle.sheet_laws.proofs.AcceptedLines.{refused-accepted}
 use Rattle.sheet_laws.proofs.AcceptedChains.{accepted-chain}
-use Rattle.sheet_trips.proofs.AcceptedSheets.{accepted-sheet, accepted-read}
+use Rattle.sheet_trips.proofs.AcceptedSheets.{accepted-read}
+use Rattle.sheet_trips.proofs.Calls.{read-judged}
 use Rattle.runner.proofs.RunLaws as run
-use Rattle.zohmirka_words.specs.Words.{stateIn, chainIn}
+use Rattle.zohmirka_words.specs.Words.{laid, stateIn, chainWords, chainIn}
 use Rattle.zohmirka_reports.specs.Reports.{caseOf, reportOf}
 use Rattle.zohmirka_runs.specs.Runs.{stateLeft, runValue}
-use Rattle.zohmirka.specs.Calls.{planCall, runSheet, readVerdict, readCall}
+use Rattle.zohmirka.specs.Calls.{written, planCall, runSheet, readVerdict, readCall}
 use Rattle.zohmirka_laws.proofs.ReadChains.{held-read}
 use Rattle.zohmirka_laws.proofs.ThereAndBack.{chain-back}
-use Rattle.zohmirka_laws.specs.Promises.{PlanRefused, ReadRefused, Untouched, RunRefused, SameRuns, ShortState, ShortChain}
+use Rattle.zohmirka_laws.specs.Promises.{PlanRefused, WriteRefused, ReadRefused, Untouched, RunRefused, ChainRefused, SheetRefused, SameRuns, ShortState, ShortStateBy11, ShortChain, ShortChainJudged}
 
 -- Each refusal has a number.
 pub numbered : (x : Refusal) → numberOf x ≡ 0 → ⊥
@@ -48,26 +49,29 @@ numbered refusal.ShortStore e = omega arith
 numbered refusal.BadState e = omega arith
 numbered refusal.ShortOutput e = omega arith
 
-unnumbered : (v : Verdict) → verdictNumber v ≡ 0 → v ≡ verdict.Accepted
+pub unnumbered : (v : Verdict) → verdictNumber v ≡ 0 → v ≡ verdict.Accepted
 unfolding verdictNumber
 unnumbered verdict.Accepted e = refl
 unnumbered (verdict.Refused x) e = absurd (numbered x e)
 
+value-unwritten : (c : Chain) (sheet : List ℕ) → (written c sheet .answer .refusal ≡ 0 → ⊥) → (written c sheet .sheet ≡ sheet) × (written c sheet .answer .bytes ≡ 0)
+unfolding written verdictNumber writeOf
+value-unwritten c sheet h = go (writeVerdict c (length sheet)) refl
+  where
+    go : (v : Verdict) → writeVerdict c (length sheet) ≡ v → (written c sheet .sheet ≡ sheet) × (written c sheet .answer .bytes ≡ 0)
+    go verdict.Accepted e = absurd (h (rw e))
+    go (verdict.Refused x) e = rw e (refl, refl)
+
+pub write-refused : WriteRefused
+write-refused chain sheet h = value-unwritten (chainIn chain) sheet h
+
 pub plan-refused : PlanRefused
-unfolding planCall verdictNumber writeOf
+unfolding planCall
 plan-refused request sheet h = go (readRequest request .verdict) refl
   where
-    Stays : Type 0
-    Stays = (planCall request sheet .sheet ≡ sheet) × (planCall request sheet .answer .bytes ≡ 0)
-
-    written : readRequest request .verdict ≡ verdict.Accepted
-        → (w : Verdict) → writeVerdict (planOf (readRequest request .request) .chain) (length sheet) ≡ w → Stays
-    written e verdict.Accepted d = absurd (h (rw (e, d)))
-    written e (verdict.Refused x) d = rw (e, d) (refl, refl)
-
-    go : (v : Verdict) → readRequest request .verdict ≡ v → Stays
+    go : (v : Verdict) → readRequest request .verdict ≡ v → (planCall request sheet .sheet ≡ sheet) × (planCall request sheet .answer .bytes ≡ 0)
     go (verdict.Refused x) e = rw e (refl, refl)
-    go verdict.Accepted e = written e (writeVerdict (planOf (readRequest request .request) .chain) (length sheet)) refl
+    go verdict.Accepted e = rw e (value-unwritten (planOf (readRequest request .request) .chain) sheet (rw e at h))
 
 pub read-refused : ReadRefused
 unfolding readCall verdictNumber
@@ -87,10 +91,10 @@ module _ (state store cells out : List ℕ) (allowance : ℕ) where
       go (verdict.Refused x) e = rw e
           (record { state-stays = refl; store-stays = refl; out-stays = refl; refused = refl; no-cells = refl; no-firings = refl; no-clocks = refl })
 
-  sheet-refused : (sheet : List ℕ) → (runSheet state store cells out allowance sheet .report .refusal ≡ 0 → ⊥)
+  on-sheet-refused : (sheet : List ℕ) → (runSheet state store cells out allowance sheet .report .refusal ≡ 0 → ⊥)
       → Untouched state store out (runSheet state store cells out allowance sheet)
   unfolding runSheet reportOf caseOf answerNumber answerCounts
-  sheet-refused sheet h = go (readChain sheet .verdict) refl
+  on-sheet-refused sheet h = go (readChain sheet .verdict) refl
     where
       go : (v : Verdict) → readChain sheet .verdict ≡ v → Untouched state store out (runSheet state store cells out allowance sheet)
       go verdict.Accepted e = rw e (value-refused (readChain sheet .chain) (rw e at h))
@@ -99,7 +103,31 @@ module _ (state store cells out : List ℕ) (allowance : ℕ) where
 
 pub run-refused : RunRefused
 run-refused state store cells out allowance =
-    (sheet-refused state store cells out allowance, λ chain h. value-refused state store cells out allowance (chainIn chain) h)
+    (on-sheet-refused state store cells out allowance, λ chain h. value-refused state store cells out allowance (chainIn chain) h)
+
+pub chain-refused : ChainRefused
+unfolding runValue reportOf answerNumber verdictNumber written writeOf writeVerdict
+chain-refused chain h = go (judgeChain (chainIn chain)) refl
+  where
+    c : Chain
+    c = chainIn chain
+
+    go : (v : Verdict) → judgeChain c ≡ v
+        → ((state store cells out : List ℕ) (allowance : ℕ) → runValue state store cells out allowance c .report .refusal ≡ verdictNumber (judgeChain c))
+        × ((sheet : List ℕ) → written c sheet .answer .refusal ≡ verdictNumber (judgeChain c))
+    go verdict.Accepted e = absurd (h (rw e))
+    go (verdict.Refused x) e =
+        (λ state store cells out allowance. rw (e, ← run.run-refused c (stateIn state) store cells out allowance x e), λ sheet. rw e)
+
+pub sheet-refused : SheetRefused
+unfolding runSheet reportOf answerNumber verdictNumber readCall readVerdict
+sheet-refused sheet h = go (readChain sheet .verdict) refl
+  where
+    go : (v : Verdict) → readChain sheet .verdict ≡ v
+        → ((state store cells out : List ℕ) (allowance : ℕ) → runSheet state store cells out allowance sheet .report .refusal ≡ verdictNumber (readChain sheet .verdict))
+        × ((chain : List ℕ) → readCall sheet chain .refusal ≡ verdictNumber (readChain sheet .verdict))
+    go verdict.Accepted e = absurd (h (rw e))
+    go (verdict.Refused x) e = (λ state store cells out allowance. rw e, λ chain. rw e)
 
 -- A sheet that was read is accepted.
 was-accepted : (sheet : List ℕ) (room : ℕ) → readVerdict sheet room ≡ verdict.Accepted → readChain sheet .verdict ≡ verdict.Accepted
@@ -110,42 +138,84 @@ was-accepted sheet room h = go (readChain sheet .verdict) refl
     go verdict.Accepted e = e
     go (verdict.Refused x) e = absurd (refused-accepted (rw e at h))
 
+-- What reading wrote.
+read-laid : (sheet chain : List ℕ) → readVerdict sheet (length chain) ≡ verdict.Accepted → readCall sheet chain .chain ≡ laid (chainWords (readChain sheet .chain)) chain
+unfolding readCall
+read-laid sheet chain v = rw v
+
+-- The words that reading wrote are the chain's.
+module _ (sheet chain : List ℕ) (h : readCall sheet chain .refusal ≡ 0) where
+  read-fine : readVerdict sheet (length chain) ≡ verdict.Accepted
+  unfolding readCall
+  read-fine = unnumbered (readVerdict sheet (length chain)) h
+
+  pub sheet-fine : readChain sheet .verdict ≡ verdict.Accepted
+  sheet-fine = was-accepted sheet (length chain) read-fine
+
+  pub words-read : chainIn (readCall sheet chain .chain) ≡ readChain sheet .chain
+  words-read =
+      let a = accepted-chain (readChain sheet .chain) (read-judged sheet sheet-fine) in
+      ap chainIn (read-laid sheet chain read-fine)
+      ∙ sym (chain-back (readChain sheet .chain) chain (rw (accepted-read sheet sheet-fine) (held-read true sheet)) (a .few-dims) (a .few))
+
 pub same-runs : SameRuns
-unfolding readCall runSheet
-same-runs sheet chain state store cells out allowance h =
-    let v = unnumbered (readVerdict sheet (length chain)) h in
-    let ok = was-accepted sheet (length chain) v in
-    let c = readChain sheet .chain in
-    let a = accepted-chain c (rw (accepted-read sheet ok) (accepted-sheet sheet ok .1 .1)) in
-    rw (v, ok, ← chain-back c chain (rw (accepted-read sheet ok) (held-read sheet)) (a .few-dims) (a .few))
+unfolding runSheet
+same-runs sheet chain state store cells out allowance h = rw (words-read sheet chain h, sheet-fine sheet chain h)
 
 -- A chain that is accepted has fewer iterations than the firings that too few words are taken for.
 few-iterations : (c : Chain) → judgeChain c ≡ verdict.Accepted → layout (trimmed c) .iterations < 4294967295
 unfolding layout
 few-iterations c e = omega (arith, accepts.accepted-chain c e .cells, at-most-cells (trimmed c))
 
+module _ (state store cells out : List ℕ) (allowance : ℕ) (short : length state < 33) where
+  module _ (c : Chain) (e : judgeChain c ≡ verdict.Accepted) (long : shortStore (trimmed c) store ≡ false) where
+    lost : badState (layout (trimmed c)) (countersOf (c .window .count) (stateIn state)) ≡ true
+    unfolding stateIn badState countersOf
+    lost = rw (lt-ltb _ _ short, lt-ltb _ _ (few-iterations c e))
+
+    value-by-11 : runValue state store cells out allowance c .report .refusal ≡ 11
+    unfolding runValue reportOf answerNumber numberOf
+    value-by-11 = rw (← run.run-bad c (stateIn state) store cells out allowance (accepts.accepted-chain c e) long lost)
+
+  value-short : (c : Chain) → runValue state store cells out allowance c .report .refusal ≡ 0 → ⊥
+  unfolding runValue reportOf answerNumber
+  value-short c h = go (judgeChain c) refl
+    where
+      stored : judgeChain c ≡ verdict.Accepted → (b : Bool) → shortStore (trimmed c) store ≡ b → ⊥
+      stored e true d = numbered refusal.ShortStore (rw (← run.run-short c (stateIn state) store cells out allowance (accepts.accepted-chain c e) d) at h)
+      stored e false d = let x = value-by-11 c e d in omega arith
+
+      go : (v : Verdict) → judgeChain c ≡ v → ⊥
+      go verdict.Accepted e = stored e (shortStore (trimmed c) store) refl
+      go (verdict.Refused x) e = numbered x (rw (← run.run-refused c (stateIn state) store cells out allowance x e) at h)
+
+  sheet-short : (sheet : List ℕ) → runSheet state store cells out allowance sheet .report .refusal ≡ 0 → ⊥
+  unfolding runSheet reportOf answerNumber
+  sheet-short sheet h = go (readChain sheet .verdict) refl
+    where
+      go : (v : Verdict) → readChain sheet .verdict ≡ v → ⊥
+      go verdict.Accepted e = value-short (readChain sheet .chain) (rw e at h)
+      go (verdict.Refused x) e = numbered x (rw e at h)
+
 pub short-state : ShortState
-unfolding runValue reportOf answerNumber stateIn badState countersOf
-short-state state store cells out allowance chain short h = go (judgeChain c) refl
-  where
-    c : Chain
-    c = chainIn chain
+short-state state store cells out allowance short =
+    (λ chain. value-short state store cells out allowance short (chainIn chain), sheet-short state store cells out allowance short)
 
-    lost : judgeChain c ≡ verdict.Accepted → badState (layout (trimmed c)) (countersOf (c .window .count) (stateIn state)) ≡ true
-    lost e = rw (lt-ltb _ _ short, lt-ltb _ _ (few-iterations c e))
+pub short-state-by-11 : ShortStateBy11
+unfolding runSheet
+short-state-by-11 state store cells out allowance short = (
+  λ chain h. value-by-11 state store cells out allowance short (chainIn chain) (unnumbered (judgeChain (chainIn chain)) h),
+  λ sheet h long.
+      let ok = unnumbered (readChain sheet .verdict) h in
+      rw ok (value-by-11 state store cells out allowance short (readChain sheet .chain) (read-judged sheet ok) long),
+)
 
-    stored : judgeChain c ≡ verdict.Accepted → (b : Bool) → shortStore (trimmed c) store ≡ b → ⊥
-    stored e true d = numbered refusal.ShortStore (rw (← run.run-short c (stateIn state) store cells out allowance (accepts.accepted-chain c e) d) at h)
-    stored e false d = numbered refusal.BadState (rw (← run.run-bad c (stateIn state) store cells out allowance (accepts.accepted-chain c e) d (lost e)) at h)
-
-    go : (v : Verdict) → judgeChain c ≡ v → ⊥
-    go verdict.Accepted e = stored e (shortStore (trimmed c) store) refl
-    go (verdict.Refused x) e = numbered x (rw (← run.run-refused c (stateIn state) store cells out allowance x e) at h)
+-- Too few words of a chain are the blank chain.
+pub short-chain-judged : ShortChainJudged
+unfolding chainIn judgeChain judged windowChecks valueChecks badGrid badDims firstOf trimmed verdictNumber numberOf
+short-chain-judged chain short = rw (lt-ltb _ _ short)
 
 pub short-chain : ShortChain
-unfolding runValue reportOf answerNumber numberOf chainIn judgeChain judged windowChecks valueChecks badGrid badDims firstOf trimmed
 short-chain state store cells out allowance chain short =
-    rw (lt-ltb _ _ short, ← run.run-refused blankChain (stateIn state) store cells out allowance refusal.BadGrid blank)
-  where
-    blank : judgeChain blankChain ≡ verdict.Refused refusal.BadGrid
-    blank = refl
+    let three = short-chain-judged chain short in
+    chain-refused chain (λ e. omega arith) .0 state store cells out allowance ∙ three

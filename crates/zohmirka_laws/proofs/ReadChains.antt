@@ -1,6 +1,6 @@
 -- What a chain read from a sheet holds: arrays of their lengths, entries of 16 bits, factors that binary32 holds.
 use Prim.Native.Nat.{ℕ, zero, suc, _<_}
-use mathlib.Core.Bool.{Bool, true}
+use mathlib.Core.Bool.{Bool}
 use mathlib.Core.List.{List, [], _∷_}
 use mathlib.Core.Path.{_≡_, refl, _∙_}
 use native.Mathlib.Omega.{arith}
@@ -51,7 +51,7 @@ length-sets : {A : Type 0} (vs l : List A) (k : ℕ) → length (sets l k vs) �
 length-sets [] l k = refl
 length-sets (v ∷ vs) l k = length-sets vs (set l k v) (suc k) ∙ length-set l k v
 
-signed-small : (w : ℕ) → mag (signed w) < 32768
+pub signed-small : (w : ℕ) → mag (signed w) < 32768
 unfolding signed
 signed-small w = by-bool (ltb w 32768) (λ e. rw e (ltb-true w 32768 e)) (λ e. let h = ltb-false w 32768 e in rw e (omega arith))
 
@@ -115,9 +115,9 @@ held-lines chainSheet r (l ∷ ls) h =
     let k = held-step chainSheet r (seenOf (l .ended) (l .chars)) h in
     held-either (s .verdict) (readLines chainSheet (s .reading) ls) s (held-lines chainSheet (s .reading) ls k) k
 
-pub held-read : (sheet : List ℕ) → Held (readLines true start (linesOf sheet) .reading .chain)
+pub held-read : (chainSheet : Bool) (sheet : List ℕ) → Held (readLines chainSheet start (linesOf sheet) .reading .chain)
 unfolding FactorsFit
-held-read sheet = held-lines true start (linesOf sheet) held-start
+held-read chainSheet sheet = held-lines chainSheet start (linesOf sheet) held-start
   where
     held-start : Held (start .chain)
     held-start = record { sizes = refl; offsets = refl; entries = λ i. rw (blank-at 128 i (pos 0)) (omega arith); capacities = refl; factors = tt }

@@ -7,18 +7,23 @@ use native.Mathlib.Omega.{arith}
 use lib.Dec.{ltb}
 use lib.ListN.{length}
 use borrow.Author.Tests.{le-ltb}
-use Rattle.model.specs.Answers.{Check, firstOf, numberOf, verdictNumber, answerNumber}
+use Rattle.model.specs.Answers.{Check, firstOf, byVerdict, numberOf, verdictNumber, answerNumber}
 use Rattle.model.specs.Lists.{sum}
 use Rattle.model.specs.Kernels.{width}
 use Rattle.model.specs.Values.{trimmed}
 use Rattle.model.specs.Judging.{windowChecks, kernelChecks, capacityChecks, valueChecks, judged, judgeChain}
 use Rattle.model.specs.Planning.{planOf}
-use Rattle.model.specs.Reading.{readRequest}
+use Rattle.model.specs.Frames.{seenOf}
+use Rattle.model.specs.Lines.{Line, linesOf}
+use Rattle.model.specs.Reading.{lineChecks, lineVerdict, stepOf, start, complete, readLines, endVerdict, readChain, readRequest}
 use Rattle.model.specs.Writing.{sheetOf, longestSheet, writeVerdict, writeOf}
 use Rattle.model.specs.Running.{layout, countersOf, shortStore, badState, widthOf}
 use Rattle.model.specs.declared.Chain.{Chain}
 use Rattle.model.specs.declared.Kernel.{Kernel}
 use Rattle.model.specs.declared.Kernel.the-variants as kernel
+use Rattle.model.specs.declared.LineStep.{LineStep}
+use Rattle.model.specs.declared.Reading.{Reading}
+use Rattle.model.specs.declared.Refusal.the-variants as refusal
 use Rattle.model.specs.declared.Verdict.{Verdict}
 use Rattle.model.specs.declared.Verdict.the-variants as verdict
 use Rattle.run_laws.proofs.Accepts as accepts
@@ -30,21 +35,26 @@ use Rattle.runner.proofs.RunLaws as run
 use Rattle.zohmirka_words.specs.Words.{stateIn, chainIn}
 use Rattle.zohmirka_reports.specs.Reports.{reportOf}
 use Rattle.zohmirka_runs.specs.Runs.{runValue}
-use Rattle.zohmirka.specs.Calls.{planCall}
-use Rattle.zohmirka_laws.specs.Promises.{LongSheet, LongStore, FewWords}
+use Rattle.zohmirka.specs.Calls.{written, planCall, runSheet}
+use Rattle.zohmirka_laws.specs.Promises.{LongSheet, LongSheetOfChain, LongStore, LongStoreOfSheet, FewWords}
+use Rattle.zohmirka_laws.proofs.Promised.{unnumbered}
 
 -- ---- The longest sheet
 
-written : (c : Chain) (room : ℕ) → judgeChain c ≡ verdict.Accepted → longestSheet ≤ room → writeVerdict c room ≡ verdict.Accepted
+room-enough : (c : Chain) (room : ℕ) → judgeChain c ≡ verdict.Accepted → longestSheet ≤ room → writeVerdict c room ≡ verdict.Accepted
 unfolding writeVerdict firstOf
-written c room e h =
+room-enough c room e h =
     let a = accepted-chain c e in
     let l : ltb room (length (sheetOf c)) ≡ false = le-ltb room (length (sheetOf c)) (omega (arith, sheet-length c (a .few-dims) (a .few))) in
     rw (e, l)
 
 pub long-sheet : LongSheet
-unfolding planCall writeOf verdictNumber
-long-sheet request sheet e h = rw (e, written (planOf (readRequest request .request) .chain) (length sheet) (plan-accepted (readRequest request .request) (accepted-request request e)) h)
+unfolding planCall written writeOf verdictNumber
+long-sheet request sheet e h = rw (e, room-enough (planOf (readRequest request .request) .chain) (length sheet) (plan-accepted (readRequest request .request) (accepted-request request e)) h)
+
+pub long-sheet-of-chain : LongSheetOfChain
+unfolding written writeOf verdictNumber
+long-sheet-of-chain chain sheet e h = rw (room-enough (chainIn chain) (length sheet) (unnumbered (judgeChain (chainIn chain)) e) h)
 
 -- ---- 16,384 words of store
 
@@ -66,26 +76,71 @@ judged-below : (c : Chain) → verdictNumber (judgeChain c) ≤ 9
 unfolding judgeChain judged windowChecks kernelChecks capacityChecks valueChecks numberOf
 judged-below c = first-below (valueChecks (trimmed c)) (omega arith, (omega arith, (omega arith, (omega arith, (omega arith, (omega arith, (omega arith, tt)))))))
 
-pub long-store : LongStore
-unfolding runValue reportOf answerNumber verdictNumber numberOf shortStore
-long-store state store cells out allowance chain long h = go (judgeChain c) refl
+-- And a sheet by 1 to 9.
+lines-below : (ls : List Line) (r : Reading) → verdictNumber (readLines true r ls .verdict) ≤ 9
+unfolding readLines stepOf lineVerdict lineChecks numberOf verdictNumber
+lines-below [] r = omega arith
+lines-below (l ∷ ls) r = go (s .verdict) first (lines-below ls (s .reading))
   where
-    c : Chain
-    c = chainIn chain
+    s : LineStep
+    s = stepOf true r (seenOf (l .ended) (l .chars))
 
-    ample : judgeChain c ≡ verdict.Accepted → shortStore (trimmed c) store ≡ false
-    ample e = le-ltb (length store) (sum (trimmed c .capacities)) (omega (arith, accepts.accepted-chain c e .places))
+    first : verdictNumber (s .verdict) ≤ 9
+    first = first-below (lineChecks true r (seenOf (l .ended) (l .chars))) (omega arith, (omega arith, (omega arith, (omega arith, (omega arith, (omega arith, tt))))))
 
-    stated : judgeChain c ≡ verdict.Accepted → (b : Bool) → badState (layout (trimmed c)) (countersOf (c .window .count) (stateIn state)) ≡ b → ⊥
-    stated e true d = let x = rw (← run.run-bad c (stateIn state) store cells out allowance (accepts.accepted-chain c e) (ample e) d) at h in omega arith
-    stated e false d = let x = rw (← run.run-ends c (stateIn state) store cells out allowance (accepts.accepted-chain c e) (ample e) d) at h in omega arith
+    go : (v : Verdict) → verdictNumber (s .verdict) ≤ 9 → verdictNumber (readLines true (s .reading) ls .verdict) ≤ 9
+        → verdictNumber (byVerdict v (readLines true (s .reading) ls) (λ x. s) .verdict) ≤ 9
+    go verdict.Accepted a b = b
+    go (verdict.Refused x) a b = a
 
-    go : (v : Verdict) → judgeChain c ≡ v → ⊥
-    go verdict.Accepted e = stated e (badState (layout (trimmed c)) (countersOf (c .window .count) (stateIn state))) refl
-    go (verdict.Refused x) e =
-        let n : numberOf x ≤ 9 = rw e at (judged-below c) in
-        let t = rw (← run.run-refused c (stateIn state) store cells out allowance x e) at h in
-        omega arith
+read-below : (sheet : List ℕ) → verdictNumber (readChain sheet .verdict) ≤ 9
+unfolding readChain endVerdict verdictNumber numberOf
+read-below sheet = go (s .verdict) (complete (s .reading)) (lines-below (linesOf sheet) start)
+  where
+    s : LineStep
+    s = readLines true start (linesOf sheet)
+
+    go : (v : Verdict) (b : Bool) → verdictNumber v ≤ 9
+        → verdictNumber (byVerdict v (cond b (judgeChain (s .reading .chain)) (verdict.Refused refusal.Misplaced)) verdict.Refused) ≤ 9
+    go verdict.Accepted true h = judged-below (s .reading .chain)
+    go verdict.Accepted false h = omega arith
+    go (verdict.Refused x) b h = h
+
+module _ (state store cells out : List ℕ) (allowance : ℕ) (long : 16384 ≤ length store) where
+  value-long : (c : Chain) → runValue state store cells out allowance c .report .refusal ≡ 10 → ⊥
+  unfolding runValue reportOf answerNumber verdictNumber numberOf shortStore
+  value-long c h = go (judgeChain c) refl
+    where
+      ample : judgeChain c ≡ verdict.Accepted → shortStore (trimmed c) store ≡ false
+      ample e = le-ltb (length store) (sum (trimmed c .capacities)) (omega (arith, accepts.accepted-chain c e .places))
+
+      stated : judgeChain c ≡ verdict.Accepted → (b : Bool) → badState (layout (trimmed c)) (countersOf (c .window .count) (stateIn state)) ≡ b → ⊥
+      stated e true d = let x = rw (← run.run-bad c (stateIn state) store cells out allowance (accepts.accepted-chain c e) (ample e) d) at h in omega arith
+      stated e false d = let x = rw (← run.run-ends c (stateIn state) store cells out allowance (accepts.accepted-chain c e) (ample e) d) at h in omega arith
+
+      go : (v : Verdict) → judgeChain c ≡ v → ⊥
+      go verdict.Accepted e = stated e (badState (layout (trimmed c)) (countersOf (c .window .count) (stateIn state))) refl
+      go (verdict.Refused x) e =
+          let n : numberOf x ≤ 9 = rw e at (judged-below c) in
+          let t = rw (← run.run-refused c (stateIn state) store cells out allowance x e) at h in
+          omega arith
+
+  sheet-long : (sheet : List ℕ) → runSheet state store cells out allowance sheet .report .refusal ≡ 10 → ⊥
+  unfolding runSheet reportOf answerNumber verdictNumber
+  sheet-long sheet h = go (readChain sheet .verdict) refl
+    where
+      go : (v : Verdict) → readChain sheet .verdict ≡ v → ⊥
+      go verdict.Accepted e = value-long (readChain sheet .chain) (rw e at h)
+      go (verdict.Refused x) e =
+          let n : numberOf x ≤ 9 = rw e at (read-below sheet) in
+          let t : numberOf x ≡ 10 = rw e at h in
+          omega arith
+
+pub long-store : LongStore
+long-store state store cells out allowance chain long = value-long state store cells out allowance long (chainIn chain)
+
+pub long-store-of-sheet : LongStoreOfSheet
+long-store-of-sheet state store cells out allowance sheet long = sheet-long state store cells out allowance long sheet
 
 -- ---- 32 words a firing
 

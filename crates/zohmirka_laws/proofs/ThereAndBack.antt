@@ -6,18 +6,19 @@ use native.Mathlib.Omega.{arith}
 use lib.Ieee.{binary32}
 use lib.Ieee.Bits.{ofBits-toBits}
 use lib.IntN.{pos}
-use lib.ListN.{length, getD, drop, length-append, List·getD-append}
+use lib.ListN.{length, getD}
 use borrow.Author.Tests.{lt-ltb, le-ltb}
 use Rattle.model.specs.Lists.{tabulate}
 use Rattle.model.specs.Numbers.{signed, pattern}
 use Rattle.model.specs.declared.Chain.{Chain}
 use Rattle.model.specs.declared.Kernel.{Kernel}
 use Rattle.model.specs.declared.Kernel.the-variants as kernel
-use Rattle.model.proofs.ListLaws.{length-tabulate, getD-tabulate, tabulate-back}
+use Rattle.model.proofs.ListLaws.{tabulate-back}
 use Rattle.sheet_trips.specs.RoundTrips.{FactorsFit}
 use Rattle.sheet_trips.proofs.Values.{signed-pattern, pattern-small}
 use Rattle.zohmirka_words.specs.Words.{wordAt, laid, kernelWords, chainWord, chainWords, countIn, kernelIn, chainIn}
 use Rattle.zohmirka_words.proofs.WordLaws.{chain-of-words}
+use Rattle.zohmirka_laws.proofs.Laid.{laid-long, laid-at}
 use Rattle.zohmirka_laws.proofs.ReadChains.{Held}
 
 kernel-back : (k : Kernel) → FactorsFit k → kernelIn (getD (kernelWords k) 0 0) (getD (kernelWords k) 1 0) (getD (kernelWords k) 2 0) ≡ k
@@ -81,12 +82,11 @@ module _ (c : Chain) where
 
     long : 168 ≤ length ws
     unfolding chainWords
-    long = omega (arith, length-append (chainWords c) (drop (length (chainWords c)) old), length-tabulate 168 (chainWord c))
+    long = laid-long 168 (chainWord c) old
 
     at : (i : ℕ) → i < 168 → wordAt ws i ≡ chainWord c i
     unfolding chainWords
-    at i h =
-        List·getD-append (chainWords c) (drop (length (chainWords c)) old) 0 i (rw (length-tabulate 168 (chainWord c)) h) ∙ getD-tabulate 168 (chainWord c) i 0 h
+    at i h = laid-at 168 (chainWord c) old i h
 
     pub chain-back : Held c → c .grid .dims ≤ 4 → c .window .count ≤ 32 → c ≡ chainIn ws
     unfolding tabulate

@@ -1,5 +1,6 @@
 //! Plans and runs reuse chains: a safe interface over libzohmirka.a. Its functions take any bytes, words and lengths (c/zohmirka.h), so that nothing here checks
-//! what it hands over.
+//! what it hands over. The version of the library is looked at once, in the first call. There is no other state than what is lent: calls may run in several
+//! threads at the same time.
 //!
 //! ```
 //! let sheet = zohmirka::plan(b"010100000005\n020000\n020003\n0400\n").unwrap();
@@ -13,12 +14,16 @@
 //! ```
 mod native;
 
+use std::sync::Once;
+
 /// The version of the interface that this crate is written for.
 pub const VERSION: u32 = 1;
 /// No chain sheet has more bytes.
 pub const SHEET_BYTES: usize = 1007;
 /// No accepted chain needs more words of store.
 pub const STORE_WORDS: usize = 16384;
+/// No firing of an accepted chain writes more words.
+pub const FIRING_WORDS: usize = 32;
 pub const STATE_WORDS: usize = 33;
 pub const CHAIN_WORDS: usize = 168;
 
@@ -28,27 +33,53 @@ pub fn version() -> u32 {
     unsafe { native::zohmirka_version() }
 }
 
-/// Why input was turned back: document 01's numbers 1 to 12.
+fn require(version: u32) {
+    assert!(version == VERSION, "libzohmirka.a has version {version} of the interface, and this crate is written for {VERSION}");
+}
+
+/// Panics where the library that is linked is of another version. It looks once, in the first call of a function below.
+fn checked() {
+    static ONCE: Once = Once::new();
+    ONCE.call_once(|| require(version()));
+}
+
+/// Why input was turned back: document 01's numbers. Later ones may get names of their own.
 #[derive(Clone, Copy, Debug, PartialEq, Eq, Hash)]
-#[repr(u8)]
+#[non_exhaustive]
 pub enum Refusal {
-    Malformed = 1,
-    Misplaced = 2,
-    BadGrid = 3,
-    BadCount = 4,
-    EqualOffsets = 5,
-    NoIteration = 6,
-    NoCentre = 7,
-    BadFactor = 8,
-    TooLarge = 9,
-    ShortStore = 10,
-    BadState = 11,
-    ShortOutput = 12,
+    Malformed,
+    Misplaced,
+    BadGrid,
+    BadCount,
+    EqualOffsets,
+    NoIteration,
+    NoCentre,
+    BadFactor,
+    TooLarge,
+    ShortStore,
+    BadState,
+    ShortOutput,
+    /// A number that has no name here.
+    Other(u32),
 }
 
 impl Refusal {
-    pub fn number(self) -> u8 {
-        self as u8
+    pub fn number(self) -> u32 {
+        match self {
+            Refusal::Malformed => 1,
+            Refusal::Misplaced => 2,
+            Refusal::BadGrid => 3,
+            Refusal::BadCount => 4,
+            Refusal::EqualOffsets => 5,
+            Refusal::NoIteration => 6,
+            Refusal::NoCentre => 7,
+            Refusal::BadFactor => 8,
+            Refusal::TooLarge => 9,
+            Refusal::ShortStore => 10,
+            Refusal::BadState => 11,
+            Refusal::ShortOutput => 12,
+            Refusal::Other(number) => number,
+        }
     }
 
     fn of(number: u32) -> Refusal {
@@ -65,7 +96,7 @@ impl Refusal {
             10 => Refusal::ShortStore,
             11 => Refusal::BadState,
             12 => Refusal::ShortOutput,
-            _ => unreachable!("the library's refusals are 1 to 12"),
+            _ => Refusal::Other(number),
         }
     }
 }
@@ -84,7 +115,8 @@ impl std::fmt::Display for Refusal {
             Refusal::TooLarge => "capacities summing above 16,384",
             Refusal::ShortStore => "a store that is too short",
             Refusal::BadState => "a state whose counters do not fit the chain",
-            Refusal::ShortOutput => "an output that is too short for the sheet",
+            Refusal::ShortOutput => "an output that is too short for what is to be written",
+            Refusal::Other(_) => "a number that has no name here",
         };
         write!(f, "refused by {}: {}", self.number(), text)
     }
@@ -109,6 +141,7 @@ pub fn plan(request: &[u8]) -> Result<Vec<u8>, Refusal> {
 
 /// The same into a lent slice; answers how many bytes were written.
 pub fn plan_into(request: &[u8], sheet: &mut [u8]) -> Result<usize, Refusal> {
+    checked();
     // SAFETY: pointers and lengths are those of slices.
     let answer = unsafe { native::zohmirka_plan(request.as_ptr(), request.len(), sheet.as_mut_ptr(), sheet.len()) };
     accepted(answer.refusal)?;
@@ -117,6 +150,7 @@ pub fn plan_into(request: &[u8], sheet: &mut [u8]) -> Result<usize, Refusal> {
 
 /// Judges a chain sheet.
 pub fn judge(sheet: &[u8]) -> Result<(), Refusal> {
+    checked();
     // SAFETY: pointer and length are those of a slice.
     accepted(unsafe { native::zohmirka_judge(sheet.as_ptr(), sheet.len()) })
 }
@@ -187,8 +221,10 @@ impl Default for State {
     }
 }
 
-/// A run call on the chain of a sheet, which is read anew in each call.
+/// A run call on the chain of a sheet, which is read anew in each call. The store of a fresh run may hold anything. A call that is lent fewer places than a firing
+/// writes (raw: a word for each reference, at most `FIRING_WORDS`) ends Full, and so will every later one that is lent no more.
 pub fn run(sheet: &[u8], state: &mut State, store: &mut [u32], cells: &[u32], out: &mut [u32], allowance: u32) -> Result<Outcome, Refusal> {
+    checked();
     // SAFETY: pointers and lengths are those of slices, and what is written is lent as `&mut`.
     outcome_of(unsafe {
         native::zohmirka_run(
@@ -216,6 +252,7 @@ pub struct Chain {
 impl Chain {
     /// The chain of a sheet.
     pub fn read(sheet: &[u8]) -> Result<Chain, Refusal> {
+        checked();
         let mut chain = Chain { words: [0; CHAIN_WORDS] };
         // SAFETY: pointers and lengths are those of slices.
         accepted(unsafe { native::zohmirka_read_chain(sheet.as_ptr(), sheet.len(), chain.words.as_mut_ptr(), CHAIN_WORDS) })?;
@@ -246,8 +283,9 @@ impl Chain {
         }
     }
 
-    /// A run call.
+    /// A run call, with the rules of `run`; `width` says how many places a firing needs.
     pub fn run(&self, state: &mut State, store: &mut [u32], cells: &[u32], out: &mut [u32], allowance: u32) -> Result<Outcome, Refusal> {
+        checked();
         // SAFETY: pointers and lengths are those of slices, and what is written is lent as `&mut`.
         outcome_of(unsafe {
             native::zohmirka_run_chain(
@@ -264,6 +302,32 @@ impl Chain {
                 allowance,
             )
         })
+    }
+}
+
+impl Chain {
+    /// Judges the chain.
+    pub fn judge(&self) -> Result<(), Refusal> {
+        checked();
+        // SAFETY: pointer and length are those of a slice.
+        accepted(unsafe { native::zohmirka_judge_chain(self.words.as_ptr(), CHAIN_WORDS) })
+    }
+
+    /// The chain's sheet.
+    pub fn write(&self) -> Result<Vec<u8>, Refusal> {
+        let mut sheet = vec![0; SHEET_BYTES];
+        let bytes = self.write_into(&mut sheet)?;
+        sheet.truncate(bytes);
+        Ok(sheet)
+    }
+
+    /// The same into a lent slice; answers how many bytes were written.
+    pub fn write_into(&self, sheet: &mut [u8]) -> Result<usize, Refusal> {
+        checked();
+        // SAFETY: pointers and lengths are those of slices, and what is written is lent as `&mut`.
+        let answer = unsafe { native::zohmirka_write_chain(self.words.as_ptr(), CHAIN_WORDS, sheet.as_mut_ptr(), sheet.len()) };
+        accepted(answer.refusal)?;
+        Ok(answer.bytes)
     }
 }
 
@@ -297,6 +361,20 @@ mod tests {
     }
 
     #[test]
+    fn every_number_of_a_refusal_is_kept() {
+        for number in 1..=300 {
+            let refusal = Refusal::of(number);
+            assert_eq!((refusal.number(), matches!(refusal, Refusal::Other(_))), (number, number > 12));
+        }
+    }
+
+    #[test]
+    #[should_panic(expected = "version 2 of the interface")]
+    fn another_version_is_not_taken() {
+        require(VERSION + 1);
+    }
+
+    #[test]
     fn slices_of_other_lengths() {
         let mut chain = [7; 200];
         let mut read = |len: usize| {
@@ -317,5 +395,23 @@ mod tests {
         (done[0], done[1], done[32]) = (5, 2, 2);
         assert_eq!(call(&chain, 168, 33), (0, 0, done));
         assert_eq!(call(&chain, 200, 40), (0, 0, done));
+    }
+
+    #[test]
+    fn chains_of_other_lengths() {
+        let mut chain = [7; 200];
+        chain[..CHAIN_WORDS].copy_from_slice(&Chain::read(SHEET).unwrap().words);
+        for (len, refusal) in [(0, 3), (167, 3), (168, 0), (200, 0)] {
+            let mut sheet = [0; 100];
+            // SAFETY: `len` is at most 200, and the sheet has 100 places.
+            let (judged, wrote) = unsafe {
+                (native::zohmirka_judge_chain(chain.as_ptr(), len), native::zohmirka_write_chain(chain.as_ptr(), len, sheet.as_mut_ptr(), 100))
+            };
+            assert_eq!((judged, wrote.refusal), (refusal, refusal));
+            let bytes = if refusal == 0 { SHEET.len() } else { 0 };
+            assert_eq!(wrote.bytes, bytes);
+            assert_eq!(sheet[..bytes], SHEET[..bytes]);
+            assert!(sheet[bytes..].iter().all(|&b| b == 0));
+        }
     }
 }

@@ -46,4 +46,6 @@ extern "C" {
         out_len: usize,
         allowance: u32,
     ) -> Report;
+    pub fn zohmirka_judge_chain(chain: *const u32, chain_len: usize) -> u32;
+    pub fn zohmirka_write_chain(chain: *const u32, chain_len: usize, sheet: *mut u8, sheet_len: usize) -> Sheet;
 }

@@ -147,3 +147,38 @@ fn a_state_and_a_store_may_be_of_any_length() {
     let mut store = [0; 3];
     assert_eq!(chain.run(&mut state, &mut store, &[], &mut [], 0), Ok(Outcome::Spent(Counts::default())));
 }
+
+#[test]
+fn judges_a_chain_and_writes_its_sheet() {
+    let chain = Chain::read(SHEET).unwrap();
+    assert_eq!(chain.judge(), Ok(()));
+    assert_eq!(chain.write().unwrap(), SHEET);
+    let mut sheet = [7; 100];
+    assert_eq!(chain.write_into(&mut sheet[..SHEET.len() - 1]), Err(Refusal::ShortOutput));
+    for (at, word, refusal) in [
+        (0, 0, Refusal::BadGrid),
+        (5, 33, Refusal::BadCount),
+        (10, 3, Refusal::EqualOffsets),
+        (6, 5, Refusal::NoIteration),
+        (134, 16385, Refusal::TooLarge),
+        (165, 4, Refusal::BadFactor),
+    ] {
+        let mut other = chain;
+        other.words[at] = word;
+        assert_eq!(other.judge(), Err(refusal));
+        assert_eq!(other.write_into(&mut sheet), Err(refusal));
+    }
+    let mut off_centre = chain;
+    (off_centre.words[10], off_centre.words[165]) = (1, 1);
+    assert_eq!((off_centre.judge(), off_centre.write()), (Err(Refusal::NoCentre), Err(Refusal::NoCentre)));
+    assert_eq!(sheet, [7; 100]);
+    assert_eq!(chain.write_into(&mut sheet), Ok(SHEET.len()));
+    assert_eq!(&sheet[..SHEET.len()], SHEET);
+    assert_eq!(sheet[SHEET.len()..], [7; 100][SHEET.len()..]);
+
+    // Words past the counts play no part, and the sheet gives back the chain without them.
+    let mut other = chain;
+    (other.words[14], other.words[135], other.words[167]) = (9, 9, 9);
+    assert_eq!(other.write().unwrap(), SHEET);
+    assert_eq!(Chain::read(&other.write().unwrap()), Ok(chain));
+}

@@ -8,7 +8,7 @@ use Rattle.kernel.proofs.apply.Statement.{statement}
 use Rattle.kernel.proofs.apply.Tie as tie
 
 returns : tie.Need-returns
-returns c = past-end _ _ _ _ _ (c .if1 .taken)
+returns c = past-end _ _ _ _ _ _ _ (c .if1 .taken)
 
 sub-if2 : tie.Need-sub-if2
 sub-if2 c = search needs
@@ -17,7 +17,7 @@ width-requires : tie.Need-width-requires
 width-requires c κs = search needs
 
 returns-2 : tie.Need-returns-2
-returns-2 c = no-room _ _ _ _ _ (c .before .width .ensures) (c .before .before .if1 .left) (c .if2 .taken)
+returns-2 c = no-room _ _ _ _ _ _ _ (c .before .width .ensures) (c .before .before .if1 .left) (c .if2 .taken)
 
 enum-told : tie.Need-enum-told
 enum-told c = search needs
@@ -85,7 +85,7 @@ unfolding written
 returns-3 c =
     let k = c .before .before .before .before in
     let e = k .before .before in
-    c .before .before .copy .ensures ∙ all-words _ _ _ _ _ (e .before .width .ensures) (e .before .before .if1 .left) (e .if2 .left) (rw (k .enum-told .given .1))
+    c .before .before .copy .ensures ∙ all-words _ _ _ _ _ _ _ (e .before .width .ensures) (e .before .before .if1 .left) (e .if2 .left) (rw (k .enum-told .given .1))
 
 same-length-2 : tie.Need-same-length-2
 same-length-2 c = search needs
@@ -95,7 +95,7 @@ unfolding written
 returns-4 c =
     let k = c .before in
     let e = k .before .before in
-    one-word _ _ _ _ _ (e .before .width .ensures) (e .before .before .if1 .left) _ (e .if2 .left) (rw (k .enum-told2 .given .1, c .difference .ensures))
+    one-word _ _ _ _ _ _ _ (e .before .width .ensures) (e .before .before .if1 .left) _ (e .if2 .left) (rw (k .enum-told2 .given .1, c .difference .ensures))
 
 same-length-3 : tie.Need-same-length-3
 same-length-3 c = search needs
@@ -105,7 +105,7 @@ unfolding written
 returns-5 c =
     let k = c .before .before in
     let e = k .before .before in
-    one-word _ _ _ _ _ (e .before .width .ensures) (e .before .before .if1 .left) _ (e .if2 .left) (rw (k .k .given .1, c .scaled .ensures))
+    one-word _ _ _ _ _ _ _ (e .before .width .ensures) (e .before .before .if1 .left) _ (e .if2 .left) (rw (k .k .given .1, c .scaled .ensures))
 
 same-length-4 : tie.Need-same-length-4
 same-length-4 c = search needs
@@ -115,7 +115,7 @@ unfolding written
 returns-6 c =
     let k = c .before .before in
     let e = k .before .before in
-    one-word _ _ _ _ _ (e .before .width .ensures) (e .before .before .if1 .left) _ (e .if2 .left) (rw (k .k2 .given .1, c .blend .ensures))
+    one-word _ _ _ _ _ _ _ (e .before .width .ensures) (e .before .before .if1 .left) _ (e .if2 .left) (rw (k .k2 .given .1, c .blend .ensures))
 
 pub apply-spec : {M : Type 1} → statement M
 apply-spec =

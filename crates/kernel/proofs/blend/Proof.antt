@@ -1,7 +1,7 @@
--- `blend` adds a times the centre and b times the sum of the others. Assumes nothing.
+-- `blend` adds a times the centre and b times the sum of the terms. Assumes nothing.
 use borrow.Author.Needs.{needs}
 use Rattle.model.specs.Kernels.{blend}
-use Rattle.kernel.specs.Sums.{sumOfOthers}
+use Rattle.kernel.specs.Sums.{sumOfTerms}
 use Rattle.kernel.proofs.blend.Statement.{statement}
 use Rattle.kernel.proofs.blend.Tie as tie
 
@@ -11,19 +11,19 @@ word-at-requires c κs = search needs
 float-of-requires : tie.Need-float-of-requires
 float-of-requires c κs = search needs
 
-sum-of-others-requires : tie.Need-sum-of-others-requires
-sum-of-others-requires c κs = search needs
+sum-of-terms-requires : tie.Need-sum-of-terms-requires
+sum-of-terms-requires c κs = search needs
 
 word-of-requires : tie.Need-word-of-requires
 word-of-requires c κs = search needs
 
 returns : tie.Need-returns
-unfolding blend sumOfOthers
+unfolding blend sumOfTerms
 returns c =
     let s = c .before .before .before in
-    rw (c .word-of .ensures, s .sum-of-others .ensures, s .before .float-of .ensures, s .before .before .word-at .ensures)
+    rw (c .word-of .ensures, s .sum-of-terms .ensures, s .before .float-of .ensures, s .before .before .word-at .ensures)
 
 pub blend-spec : {M : Type 1} → statement M
 blend-spec =
     tie.close
-    (tie.spec word-at-requires float-of-requires sum-of-others-requires word-of-requires returns)
+    (tie.spec word-at-requires float-of-requires sum-of-terms-requires word-of-requires returns)

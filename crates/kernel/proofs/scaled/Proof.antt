@@ -1,4 +1,4 @@
--- `scaled` adds all references in chain order and multiplies the sum by the factor. The loop's invariant: the sum so far and the references that remain give the
+-- `scaled` adds the terms in their order and multiplies the sum by the factor. The loop's invariant: the sum so far and the terms that remain give the
 -- whole sum. Assumes nothing.
 use Prim.Native.Nat.{_-_}
 use lib.ListN.{length}
@@ -9,34 +9,33 @@ use Rattle.kernel.proofs.scaled.Statement.{statement}
 use Rattle.kernel.proofs.scaled.Tie as tie
 
 abbrev Inv-loop : tie.InvT-loop
-Inv-loop factor words all₀ i₀ all i = Adding float words all i
+Inv-loop factor terms words all₀ i₀ all i = Adding float terms words all i
 
 abbrev μ-loop : tie.MeasureT-loop
-μ-loop factor words all₀ i₀ all i = length words - i
+μ-loop factor terms words all₀ i₀ all i = length terms - i
 
 word-of-requires : tie.Need-word-of-requires Inv-loop μ-loop
 word-of-requires c κs = search needs
 
 returns : tie.Need-returns Inv-loop μ-loop
 unfolding scaled
-returns c = rw (c .word-of .ensures, ← add-none float (c .before .before .before .args .words .now) (c .before .if1 .taken))
+returns c =
+    let st = c .before .before .before in
+    rw (c .word-of .ensures, ← add-none float (st .args .terms .now) (st .args .words .now) (c .before .if1 .taken))
 
-shared-slice-read-float-of : tie.Need-shared-slice-read-float-of Inv-loop μ-loop
-shared-slice-read-float-of c = search needs
+listed-requires : tie.Need-listed-requires Inv-loop μ-loop
+listed-requires c κs = search needs
 
 float-of-requires : tie.Need-float-of-requires Inv-loop μ-loop
 float-of-requires c κs = search needs
 
 loop-holds : tie.Need-loop-holds Inv-loop μ-loop
 loop-holds c =
-    let e = c .before .before in
-    rw (c .float-of .ensures) (add-first float (e .before .before .args .words .now) (e .if1 .left))
+    let l = c .before in
+    rw (c .float-of .ensures, l .listed .ensures) (add-first float _ _ (l .before .if1 .left))
 
-mul-float-of : tie.Need-mul-float-of Inv-loop μ-loop
-mul-float-of c = search needs
-
-shared-slice-read-float-of-2 : tie.Need-shared-slice-read-float-of-2 Inv-loop μ-loop
-shared-slice-read-float-of-2 c = search needs
+listed-requires-2 : tie.Need-listed-requires-2 Inv-loop μ-loop
+listed-requires-2 c κs = search needs
 
 float-of-requires-2 : tie.Need-float-of-requires-2 Inv-loop μ-loop
 float-of-requires-2 c κs = search needs
@@ -49,8 +48,9 @@ loop-less c = search needs
 
 loop-again : tie.Need-loop-again Inv-loop μ-loop
 loop-again c =
-    let t = c .before .before in
-    rw (c .float-of2 .ensures) (add-next float _ _ _ (t .before .loop .inv) (t .loop-test .taken))
+    let l = c .before in
+    let t = l .before in
+    rw (c .float-of2 .ensures, l .listed2 .ensures) (add-next float _ _ _ _ (t .before .loop .inv) (t .loop-test .taken))
 
 word-of-requires-2 : tie.Need-word-of-requires-2 Inv-loop μ-loop
 word-of-requires-2 c κs = search needs
@@ -59,7 +59,7 @@ returns-2 : tie.Need-returns-2 Inv-loop μ-loop
 unfolding scaled
 returns-2 c =
     let t = c .before in
-    rw (c .word-of2 .ensures, add-end float _ (t .before .loop .all) (t .before .loop .i) (t .before .loop .inv) (t .loop-test .left))
+    rw (c .word-of2 .ensures, add-end float _ _ (t .before .loop .all) (t .before .loop .i) (t .before .loop .inv) (t .loop-test .left))
 
 pub scaled-spec : {M : Type 1} → statement M
 scaled-spec =
@@ -69,11 +69,10 @@ scaled-spec =
     μ-loop
     word-of-requires
     returns
-    shared-slice-read-float-of
+    listed-requires
     float-of-requires
     loop-holds
-    mul-float-of
-    shared-slice-read-float-of-2
+    listed-requires-2
     float-of-requires-2
     add-i
     loop-less

@@ -1,15 +1,14 @@
--- `value` takes no not-a-number pattern for the bits of a float. Assumes nothing.
+-- `value` gives the value of a word. Assumes nothing.
 use borrow.Author.Needs.{needs}
-use borrow.Author.Tests.{le-ltb}
-use lib.Ieee.Bits.{nanBits-above}
+use Rattle.kernel.proofs.FloatLaws.{nan-word, number-word}
 use Rattle.nested.proofs.value.Statement.{statement}
 use Rattle.nested.proofs.value.Tie as tie
 
 returns : tie.Need-returns
-returns c = search needs
+returns c = nan-word _ (c .if1 .taken)
 
 float-from-bits-result : tie.Need-float-from-bits-result
-float-from-bits-result c = rw (nanBits-above, le-ltb 0x7F800000 _ (c .if1 .left)) tt
+float-from-bits-result c = number-word _ (c .if1 .left)
 
 returns-2 : tie.Need-returns-2
 returns-2 c = search needs

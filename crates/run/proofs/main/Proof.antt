@@ -1,16 +1,20 @@
+-- The loop's invariant: the variables are those of the definitions' turns.
 use Prim.Native.Nat.{_≤_}
-use mathlib.Core.Path.{_≡_}
+use mathlib.Core.Path.{_≡_, sym, _∙_}
 use native.Mathlib.Omega.{arith}
-use lib.ListN.{length}
+use lib.ListN.{length, take}
 use borrow.Author.Needs.{needs}
 use Rattle.model.specs.Programs.{blockPlaces, storePlaces, cellPlaces, wordPlaces, runTextPlaces}
+use Rattle.program_driver.specs.Steps.{left}
+use Rattle.program_laws.specs.Loops.{InLoop}
+use Rattle.program_laws.proofs.Loops.{in-loop-start, TurnLeaves, turn-leaves}
 use Rattle.run.proofs.main.Statement.{statement}
 use Rattle.run.proofs.main.Tie as tie
 
 abbrev Inv-loop : tie.InvT-loop
 Inv-loop block₀ store₀ cells₀ words₀ text₀ job₀ at₀ len₀ turns₀ block store cells words text job at len turns =
     (length block ≡ blockPlaces) × (length store ≡ storePlaces) × (length cells ≡ cellPlaces) × (length words ≡ wordPlaces) × (length text ≡ runTextPlaces)
-    × (len ≤ blockPlaces)
+    × (len ≤ blockPlaces) × InLoop job (take len block) at store cells words text
 
 abbrev μ-loop : tie.MeasureT-loop
 μ-loop block₀ store₀ cells₀ words₀ text₀ job₀ at₀ len₀ turns₀ block store cells words text job at len turns = turns
@@ -19,7 +23,7 @@ begin-requires : tie.Need-begin-requires Inv-loop μ-loop
 begin-requires c κs = search needs
 
 loop-holds : tie.Need-loop-holds Inv-loop μ-loop
-loop-holds c = search needs
+loop-holds c = (search needs, search needs, search needs, search needs, search needs, search needs, in-loop-start _ (c .begin .ensures) _ _ _ _ (search needs) (search needs) (search needs) (search needs))
 
 sub-turns : tie.Need-sub-turns Inv-loop μ-loop
 sub-turns c = search needs
@@ -60,11 +64,25 @@ advance-requires c κs = search needs
 array-share-prefix-text : tie.Need-array-share-prefix-text Inv-loop μ-loop
 array-share-prefix-text c = search needs
 
-slice-aggregate-write-all : tie.Need-slice-aggregate-write-all Inv-loop μ-loop
-slice-aggregate-write-all c = search needs
+slice-aggregate-write-due : tie.Need-slice-aggregate-write-due Inv-loop μ-loop
+slice-aggregate-write-due c = search needs
 
-write-all-requires : tie.Need-write-all-requires Inv-loop μ-loop
-write-all-requires c κs = search needs
+-- A turn, at its step.
+turned : (a : tie.After-advance Inv-loop μ-loop)
+    → let p = a .before .before .before .before .before .before .before .before .supply in
+    let t = a .advance .last .1 .1 .1 in TurnLeaves (take (p .result .len) (p .last .1 .1 .1 .0)) (left (a .advance .result) (t .0) (t .1 .0) (t .1 .1 .0) (t .1 .1 .1 .0))
+turned a =
+    let p = a .before .before .before .before .before .before .before .before in
+    let e = p .before .before in
+    let o = e .before in
+    let l = o .before .before .loop in
+    let t = a .advance .last .1 .1 .1 in
+    turn-leaves (l .job) (l .block) (l .at) (l .len) (l .store) (l .cells) (l .words) (l .text) (omega (arith, l .inv .0, l .inv .5)) (sym (o .is-over .ensures) ∙ e .if1 .left) (l .inv .6)
+    (p .supply .result .job) (p .supply .result .at) (p .supply .result .len) (p .supply .last .1 .1 .1 .0) (p .supply .kept .1 .1 .1 .0) (p .supply .ensures .1)
+    (left (a .advance .result) (t .0) (t .1 .0) (t .1 .1 .0) (t .1 .1 .1 .0)) (a .advance .ensures .0)
+
+write-due-requires : tie.Need-write-due-requires Inv-loop μ-loop
+write-due-requires c κs = turned (c .before .before .before .before .before .before) .1
 
 returns-2 : tie.Need-returns-2 Inv-loop μ-loop
 returns-2 c = search needs
@@ -73,7 +91,7 @@ loop-less : tie.Need-loop-less Inv-loop μ-loop
 loop-less c = omega (arith, c .before .before .before .before .before .before .before .before .before .before .before .before .before .before .before .before .before .before .before .before .loop-test .taken)
 
 loop-again : tie.Need-loop-again Inv-loop μ-loop
-loop-again c = (search needs, search needs, search needs, search needs, search needs, search needs)
+loop-again c = (search needs, search needs, search needs, search needs, search needs, search needs, turned (c .before .before .before .before .before .before .before .before) .0)
 
 returns-3 : tie.Need-returns-3 Inv-loop μ-loop
 returns-3 c = search needs
@@ -99,8 +117,8 @@ main-spec =
     slice-aggregate-advance-5
     advance-requires
     array-share-prefix-text
-    slice-aggregate-write-all
-    write-all-requires
+    slice-aggregate-write-due
+    write-due-requires
     returns-2
     loop-less
     loop-again

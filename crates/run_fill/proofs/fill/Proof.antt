@@ -1,4 +1,5 @@
 -- The test, the ring places, and the clocks. Assumes nothing.
+use mathlib.Core.Bool.{false≢true}
 use mathlib.Core.Path.{_≡_, refl}
 use native.Mathlib.Omega.{arith}
 use lib.ListN.{length}
@@ -31,6 +32,7 @@ returns : tie.Need-returns
 returns c = (
   λ L walk iterations fired H. absurd (c .before .bad-counters .ensures .1 (c .if1 .taken) (sound _ _ _ _ _ _ _ _ _ _ _ _ _ H .counted)),
   λ _. record { none-taken = refl; no-clocks = refl; counters = refl; store-kept = refl },
+  λ f. absurd (false≢true f),
 )
 
 bad-rings-requires : tie.Need-bad-rings-requires
@@ -40,6 +42,7 @@ returns-2 : tie.Need-returns-2
 returns-2 c = (
   λ L walk iterations fired H. absurd (c .before .bad-rings .ensures .1 (c .if2 .taken) (sound _ _ _ _ _ _ _ _ _ _ _ _ _ H .housed)),
   λ _. record { none-taken = refl; no-clocks = refl; counters = refl; store-kept = refl },
+  λ f. absurd (false≢true f),
 )
 
 places-requires : tie.Need-places-requires
@@ -64,13 +67,17 @@ until-aligned-requires c κs =
 same-length : tie.Need-same-length
 same-length c = search needs
 
+full-fifos-requires : tie.Need-full-fifos-requires
+full-fifos-requires c κs = search needs
+
 returns-3 : tie.Need-returns-3
 returns-3 c =
-    let u = c .before .before in
+    let u = c .before .before .before .before in
     let p = u .before .before .before .before .before in
     let e = p .before .before .before .before .before .before in (
       λ L walk iterations fired H. u .until-aligned .ensures L walk iterations fired (fills L walk _ _ iterations fired _ _ _ _ _ _ _ H _ _ (p .places .ensures .0) (p .places .ensures .1) (p .places .ensures .2)),
       λ no. absurd (no (passes e)),
+      c .full-fifos .ensures,
     )
 
 pub fill-spec : {M : Type 1} → statement M
@@ -83,5 +90,6 @@ fill-spec =
     returns-2
     places-requires
     until-aligned-requires
+    full-fifos-requires
     same-length
     returns-3)

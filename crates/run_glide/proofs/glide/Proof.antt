@@ -1,11 +1,13 @@
 -- The test, and the clocks. Assumes nothing.
 use mathlib.Core.List.{[]}
-use mathlib.Core.Path.{_≡_, refl}
+use mathlib.Core.Path.{_≡_, refl, sym}
 use native.Mathlib.Omega.{arith}
 use lib.ListN.{length, getD}
+use lib.Seq.{length-take-le}
 use borrow.Author.Needs.{needs}
 use Rattle.run_glide.specs.Glides.{Sound}
-use Rattle.run_glide.proofs.GlidingLaws.{sound}
+use Rattle.run_glide.proofs.SlideLaws.{row-left, row-some, by-wait}
+use Rattle.run_glide.proofs.GlidingLaws.{sized, sound, terms-fit, terms-found}
 use Rattle.run_glide.proofs.glide.Statement.{statement}
 use Rattle.run_glide.proofs.glide.Tie as tie
 
@@ -35,7 +37,7 @@ bad-rows-requires c κs = search needs
 
 returns : tie.Need-returns
 returns c = (
-  λ t size G. absurd (c .before .bad-rows .ensures .1 (c .if1 .taken) (sound _ _ _ _ _ _ _ _ _ _ _ _ _ _ _ _ _ _ _ _ _ [] [] 0 G .in-rows)),
+  λ t size caps F G. absurd (c .before .bad-rows .ensures .1 (c .if1 .taken) (sound _ _ _ _ _ _ _ _ _ _ _ _ _ _ _ _ _ _ _ _ _ [] [] 0 G .in-rows)),
   λ _. record { no-clocks = refl; no-firings = refl; store-kept = refl; out-kept = refl },
 )
 
@@ -44,15 +46,47 @@ bad-places-requires c κs = search needs
 
 returns-2 : tie.Need-returns-2
 returns-2 c = (
-  λ t size G. absurd (c .before .bad-places .ensures .1 (c .if2 .taken) (sound _ _ _ _ _ _ _ _ _ _ _ _ _ _ _ _ _ _ _ _ _ [] [] 0 G .in-rings)),
+  λ t size caps F G. absurd (c .before .bad-places .ensures .1 (c .if2 .taken) (sound _ _ _ _ _ _ _ _ _ _ _ _ _ _ _ _ _ _ _ _ _ [] [] 0 G .in-rings)),
   λ _. record { no-clocks = refl; no-firings = refl; store-kept = refl; out-kept = refl },
 )
 
+terms-of-requires : tie.Need-terms-of-requires
+terms-of-requires c κs = search needs
+
+sub-slide : tie.Need-sub-slide
+sub-slide c = passes (c .before .before) .in-rows .due
+
+rem-slide : tie.Need-rem-slide
+rem-slide c = passes (c .before .before) .in-rows .some
+
+sub-slide-2 : tie.Need-sub-slide-2
+sub-slide-2 c = row-left _ _ (passes (c .before .before) .in-rows .some)
+
+width-requires : tie.Need-width-requires
+width-requires c κs = search needs
+
+array-share-prefix-filters : tie.Need-array-share-prefix-filters
+array-share-prefix-filters c =
+    let t = c .before .before .before .before .before in
+    terms-fit _ _ _ (passes (t .before) .in-rings .few) _ (t .terms-of .ensures)
+
+slice-aggregate-slide : tie.Need-slice-aggregate-slide
+slice-aggregate-slide c =
+    let t = c .before .before .before .before .before .before in
+    sym (length-take-le _ _ (terms-fit _ _ _ (passes (t .before) .in-rings .few) _ (t .terms-of .ensures)))
+
 slide-requires : tie.Need-slide-requires
 slide-requires c κs =
-    let e = c .before .before .before .before in
+    let t = c .before .before .before .before .before .before .before in
+    let e = t .before in
     let st = start e in
-    ((omega (arith, st .good .1 .1 .1 .1 .1 .1 .1 .1 .1 .1 .1 .1 .1 .1 .1 .0), omega (arith, st .good .1 .1 .1 .1 .1 .1 .1 .1 .1 .1 .1 .1 .1 .1 .1 .1 .0)), passes e)
+    let r = passes e .in-rows in (
+      (terms-found _ _ _ (passes e .in-rings .few) _ (t .terms-of .ensures), c .width .ensures),
+      (
+        (omega (arith, st .good .1 .1 .1 .1 .1 .1 .1 .1 .1 .1 .1 .1 .1 .1 .1 .0), omega (arith, st .good .1 .1 .1 .1 .1 .1 .1 .1 .1 .1 .1 .1 .1 .1 .1 .1 .0), passes e .in-rings),
+        (by-wait _ _ _ _ _ _ _ _ r, row-some _ _ (r .some)),
+      ),
+    )
 
 same-length : tie.Need-same-length
 same-length c = search needs
@@ -63,7 +97,12 @@ same-length-2 c = search needs
 returns-3 : tie.Need-returns-3
 returns-3 c =
     let f = c .before .before .before .before in
-    (f .slide .ensures, λ no. absurd (no (passes (f .before .before .before .before .before))))
+    let w = f .before in (
+      λ t size caps F G.
+          f .slide .ensures t size _ _ caps _ (record { full-is = F; first-is = refl; position-is = refl; wait-is = refl; left-is = refl })
+          (sized _ _ _ _ _ _ _ _ _ _ _ _ _ _ _ _ _ _ _ _ _ _ (w .width .ensures) G),
+      λ no. absurd (no (passes (w .before .before .before .before .before .before .before .before))),
+    )
 
 pub glide-spec : {M : Type 1} → statement M
 glide-spec =
@@ -76,6 +115,13 @@ glide-spec =
     returns
     bad-places-requires
     returns-2
+    terms-of-requires
+    sub-slide
+    rem-slide
+    sub-slide-2
+    array-share-prefix-filters
+    slice-aggregate-slide
+    width-requires
     slide-requires
     same-length
     same-length-2

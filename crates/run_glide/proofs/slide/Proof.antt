@@ -1,22 +1,23 @@
 -- `slide` makes the clocks of the call's definition, and is safe on any sound tables. Assumes nothing.
-use Prim.Native.Nat.{ℕ, _-_}
+use Prim.Native.Nat.{ℕ, _+_, _-_, _≤_, _<_}
+use mathlib.Core.List.{List}
 use mathlib.Core.Path.{_≡_, refl, sym, _∙_}
 use lib.ListN.{length}
-use borrow.Author.Needs.{needs, scaled-fits}
+use native.Mathlib.Omega.{arith}
+use borrow.Author.Needs.{needs}
 use Rattle.model.specs.Values.{Trimmed}
 use Rattle.loop_laws.specs.Passes.{heads}
-use Rattle.run_glide.specs.Glides.{Glides}
-use Rattle.run_glide.proofs.FitLaws.{next-fits, less-left}
-use Rattle.run_glide.proofs.SlideLaws.{Slides, slides-start, slides-waits, slides-fires, in-store, row-there, may-fire, output-fits, position-fits, row-left}
+use Rattle.run_glide.specs.Glides.{Blank, Starts, Glides}
+use Rattle.run_glide.proofs.FitLaws.{up-to-fits}
+use Rattle.run_glide.proofs.ManyLaws.{width-some}
+use Rattle.run_glide.proofs.SlideLaws.{Slides, blank-start, slides-start, rung-now, slides-waits, slides-fires, position-fits}
 use Rattle.run_glide.proofs.GlidingLaws.{
   Glide,
-  sized,
   glide-start,
   fired-most,
-  due-after,
-  glide-waits,
-  glide-fires,
-  glide-turns,
+  glide-waited,
+  glide-fired,
+  glide-turned,
   glide-spent,
   glide-starved,
   glide-full,
@@ -26,57 +27,34 @@ use Rattle.run_glide.proofs.slide.Statement.{statement}
 use Rattle.run_glide.proofs.slide.Tie as tie
 
 abbrev Inv-loop : tie.InvT-loop
-Inv-loop kernel centre n at wants caps bases tops dims spans strides row iterations passed fired0 puts₀ gets₀ store₀ cells out₀ allowance first wanted position width full spare₀ fired₀ wait₀ left₀ taken₀ o₀ puts gets store out spare fired wait left taken o =
+Inv-loop full kernel centre n bases tops dims spans strides row iterations first position wait0 left0 fired0 puts₀ gets₀ store₀ cells out₀ allowance terms width spare₀ fired₀ wait₀ left₀ taken₀ o₀ puts gets store out spare fired wait left taken o =
     Slides n fired0 allowance bases tops store₀ out₀ puts (heads full puts gets) store out fired left taken o
-    × (length spare ≡ 32)
-    × ((t : Trimmed) (size : ℕ) → Glides t kernel n row iterations size centre width fired0 dims at wants caps bases tops spans strides passed puts₀ gets₀ store₀
+    × Blank n spare
+    × ((t : Trimmed) (size : ℕ) (at wants caps passed : List ℕ) → Starts full n row fired0 first position wait0 left0 at wants caps passed
+    → Glides t kernel n row iterations size centre width fired0 dims at wants caps bases tops spans strides passed puts₀ gets₀ store₀
     → Glide t kernel n row iterations size centre width fired0 dims at wants caps bases tops spans strides passed puts₀ gets₀ store₀ cells out₀ allowance puts
     (heads full puts gets) store out fired wait left taken o)
 
 abbrev μ-loop : tie.MeasureT-loop
-μ-loop kernel centre n at wants caps bases tops dims spans strides row iterations passed fired0 puts₀ gets₀ store₀ cells out₀ allowance first wanted position width full spare₀ fired₀ wait₀ left₀ taken₀ o₀ puts gets store out spare fired wait left taken o = allowance - taken
+μ-loop full kernel centre n bases tops dims spans strides row iterations first position wait0 left0 fired0 puts₀ gets₀ store₀ cells out₀ allowance terms width spare₀ fired₀ wait₀ left₀ taken₀ o₀ puts gets store out spare fired wait left taken o = allowance - taken
 
--- the function's entry, from the last call before the loop
-abbrev start : tie.After-full-fifos Inv-loop μ-loop → tie.Start Inv-loop μ-loop
-start f = f .before .before .before .before .before .before .before .before
-
-element-copy-out-first : tie.Need-element-copy-out-first Inv-loop μ-loop
-element-copy-out-first c = search needs
-
-element-copy-out-wanted : tie.Need-element-copy-out-wanted Inv-loop μ-loop
-element-copy-out-wanted c = search needs
-
-element-copy-out-position : tie.Need-element-copy-out-position Inv-loop μ-loop
-element-copy-out-position c = search needs
-
-width-requires : tie.Need-width-requires Inv-loop μ-loop
-width-requires c κs = search needs
-
-full-fifos-requires : tie.Need-full-fifos-requires Inv-loop μ-loop
-full-fifos-requires c κs = search needs
-
-sub-wait : tie.Need-sub-wait Inv-loop μ-loop
-sub-wait c = start c .pre .1 .in-rows .due
-
-rem-left : tie.Need-rem-left Inv-loop μ-loop
-rem-left c = start c .pre .1 .in-rows .some
-
-sub-left : tie.Need-sub-left Inv-loop μ-loop
-sub-left c = row-left _ _ (start c .pre .1 .in-rows .some)
+-- the function's entry, from the last step before the loop
+abbrev start : tie.After-shared-slice-known2 Inv-loop μ-loop → tie.Start Inv-loop μ-loop
+start f = f .before .before .before .before
 
 loop-holds : tie.Need-loop-holds Inv-loop μ-loop
 loop-holds c =
-    let st = start c in (
-      slides-start _ _ _ _ _ _ _ _ _ _ (c .full-fifos .result) (start c .pre .1 .in-rows .some) (start c .pre .1 .in-rings) (st .pre .0 .0) (st .pre .0 .1),
-      refl,
-      λ t size G. glide-start _ _ _ _ _ _ _ _ _ _ _ _ _ _ _ _ _ _ _ _ _ _ _ _ G _ (c .full-fifos .ensures) _ refl,
+    let p = start c .pre .1 in (
+      slides-start _ _ _ _ _ _ _ _ _ _ (start c .args .full) (p .1 .1) (p .0 .2) (p .0 .0) (p .0 .1),
+      blank-start _ _ refl,
+      λ t size at wants caps passed S G. glide-start _ _ _ _ _ _ _ _ _ _ _ _ _ _ _ _ _ _ _ _ _ _ _ _ G _ _ _ _ _ S,
     )
 
-sub-t43 : tie.Need-sub-t43 Inv-loop μ-loop
-sub-t43 c = c .before .before .loop .inv .0 .begun
+sub-t37 : tie.Need-sub-t37 Inv-loop μ-loop
+sub-t37 c = c .before .before .loop .inv .0 .begun
 
 same-length : tie.Need-same-length Inv-loop μ-loop
-same-length c = c .before .before .loop .inv .0 .store-length
+same-length c = c .before .before .loop .inv .0 .rung .room-is
 
 same-length-2 : tie.Need-same-length-2 Inv-loop μ-loop
 same-length-2 c = c .before .before .loop .inv .0 .out-length
@@ -84,17 +62,15 @@ same-length-2 c = c .before .before .loop .inv .0 .out-length
 returns : tie.Need-returns Inv-loop μ-loop
 returns c =
     let a = c .before .before in
-    let f = a .before in
-    λ t size G.
-    let H = sized _ _ _ _ _ _ _ _ _ _ _ _ _ _ _ _ _ _ _ _ _ _ (f .before .width .ensures) G in
-    let s = a .loop .inv .2 t size H in
-    record { ends = glide-spent _ _ _ _ _ _ _ _ _ _ _ _ _ _ _ _ _ _ _ _ _ _ _ _ H _ _ _ _ _ _ _ _ _ s (c .before .loop-test .taken) (c .if1 .taken); had = s .had; allowed = s .allowed; fewer = s .fewer; inside = s .inside; most = fired-most _ _ _ _ _ _ _ _ _ _ _ _ _ _ _ _ _ _ _ _ _ _ _ _ H _ _ _ _ _ _ _ _ _ s }
+    λ t size at wants caps passed S G.
+    let s = a .loop .inv .2 t size at wants caps passed S G in
+    record { ends = glide-spent _ _ _ _ _ _ _ _ _ _ _ _ _ _ _ _ _ _ _ _ _ _ _ _ G _ _ _ _ _ _ _ _ _ s (c .before .loop-test .taken) (c .if1 .taken); had = s .had; allowed = s .allowed; fewer = s .fewer; inside = s .inside; most = fired-most _ _ _ _ _ _ _ _ _ _ _ _ _ _ _ _ _ _ _ _ _ _ _ _ G _ _ _ _ _ _ _ _ _ s }
 
-sub-t46 : tie.Need-sub-t46 Inv-loop μ-loop
-sub-t46 c = c .before .before .before .loop .inv .0 .begun
+sub-t40 : tie.Need-sub-t40 Inv-loop μ-loop
+sub-t40 c = c .before .before .before .loop .inv .0 .begun
 
 same-length-3 : tie.Need-same-length-3 Inv-loop μ-loop
-same-length-3 c = c .before .before .before .loop .inv .0 .store-length
+same-length-3 c = c .before .before .before .loop .inv .0 .rung .room-is
 
 same-length-4 : tie.Need-same-length-4 Inv-loop μ-loop
 same-length-4 c = c .before .before .before .loop .inv .0 .out-length
@@ -102,62 +78,92 @@ same-length-4 c = c .before .before .before .loop .inv .0 .out-length
 returns-2 : tie.Need-returns-2 Inv-loop μ-loop
 returns-2 c =
     let a = c .before .before .before in
-    let f = a .before in
-    λ t size G.
-    let H = sized _ _ _ _ _ _ _ _ _ _ _ _ _ _ _ _ _ _ _ _ _ _ (f .before .width .ensures) G in
-    let s = a .loop .inv .2 t size H in
-    record { ends = glide-starved _ _ _ _ _ _ _ _ _ _ _ _ _ _ _ _ _ _ _ _ _ _ _ _ H _ _ _ _ _ _ _ _ _ s (c .before .before .loop-test .taken) (c .before .if1 .left) (c .if2 .taken); had = s .had; allowed = s .allowed; fewer = s .fewer; inside = s .inside; most = fired-most _ _ _ _ _ _ _ _ _ _ _ _ _ _ _ _ _ _ _ _ _ _ _ _ H _ _ _ _ _ _ _ _ _ s }
+    λ t size at wants caps passed S G.
+    let s = a .loop .inv .2 t size at wants caps passed S G in
+    record { ends = glide-starved _ _ _ _ _ _ _ _ _ _ _ _ _ _ _ _ _ _ _ _ _ _ _ _ G _ _ _ _ _ _ _ _ _ s (c .before .before .loop-test .taken) (c .before .if1 .left) (c .if2 .taken); had = s .had; allowed = s .allowed; fewer = s .fewer; inside = s .inside; most = fired-most _ _ _ _ _ _ _ _ _ _ _ _ _ _ _ _ _ _ _ _ _ _ _ _ G _ _ _ _ _ _ _ _ _ s }
 
-mul-word : tie.Need-mul-word Inv-loop μ-loop
-mul-word c =
-    let a = c .before .before .before in
-    scaled-fits _ _ _ (c .if2 .left) (start (a .before) .good .1 .1 .1 .1 .1 .1 .1 .1 .1 .1 .1 .1 .1 .1 .1 .1 .1 .1 .0 .1)
+lesser-requires : tie.Need-lesser-requires Inv-loop μ-loop
+lesser-requires c κs = search needs
 
-shared-slice-read-word : tie.Need-shared-slice-read-word Inv-loop μ-loop
-shared-slice-read-word c = c .before .if2 .left
+sub-lent : tie.Need-sub-lent Inv-loop μ-loop
+sub-lent c =
+    let e2 = c .before in
+    let a = e2 .before .before .before in
+    omega (arith, c .lesser .ensures, a .loop .inv .0 .allowed, e2 .if2 .left)
 
-slice-aggregate-pass : tie.Need-slice-aggregate-pass Inv-loop μ-loop
-slice-aggregate-pass c = sym (c .before .before .before .before .before .before .before .before .before .loop .inv .1)
+lesser-requires-2 : tie.Need-lesser-requires-2 Inv-loop μ-loop
+lesser-requires-2 c κs = search needs
 
-pass-requires : tie.Need-pass-requires Inv-loop μ-loop
-pass-requires c κs =
-    let a = c .before .before .before .before .before .before .before .before .before in
-    let s = a .loop .inv .0 in
-    ((s .rings .some, s .rings .few, row-there _ _ _ _ _ _ _ _ _ _ _ _ _ _ _ s (a .loop .spare) (a .loop .inv .1)), in-store _ _ _ _ _ _ _ _ _ _ _ _ _ _ _ s)
+-- ---- a wait
 
-sub-wait-2 : tie.Need-sub-wait-2 Inv-loop μ-loop
-sub-wait-2 c = c .before .before .before .before .before .before .before .before .if3 .taken
+-- the clocks that are made of it, from the call that makes them; the test of the wait, the clocks that are lent, and the loop
+abbrev waiting : tie.After-pass-all Inv-loop μ-loop → tie.After-lesser2 Inv-loop μ-loop
+waiting p = p .before .before .before .before .before
+
+abbrev waits-at : tie.After-lesser2 Inv-loop μ-loop → tie.At-loop Inv-loop μ-loop
+waits-at k = k .before .before .before .before .before .before
+
+-- they are lent,
+waits-lent : (k : tie.After-lesser2 Inv-loop μ-loop) →
+    let a = waits-at k in
+    (a .loop .taken + k .lesser2 .result ≤ start (a .before) .args .allowance) × (a .loop .taken + k .lesser2 .result ≤ length (start (a .before) .args .cells .now))
+waits-lent k =
+    let l = k .before .before in
+    let e2 = l .before in
+    let a = waits-at k in (
+      omega (arith, k .lesser2 .ensures, l .lesser .ensures, a .loop .inv .0 .allowed, e2 .if2 .left),
+      omega (arith, k .lesser2 .ensures, l .lesser .ensures, a .loop .inv .0 .allowed, e2 .if2 .left),
+    )
+
+-- and some.
+waits-some : (k : tie.After-lesser2 Inv-loop μ-loop) → 0 < k .lesser2 .result
+waits-some k =
+    let th = k .before in
+    let l = th .before in
+    let e2 = l .before in
+    let a = waits-at k in
+    omega (arith, k .lesser2 .ensures, l .lesser .ensures, th .if3 .taken, a .loop .inv .0 .allowed, e2 .before .if1 .left, e2 .if2 .left)
+
+pass-all-requires : tie.Need-pass-all-requires Inv-loop μ-loop
+pass-all-requires c κs =
+    let k = c .before .before .before .before in
+    let a = waits-at k in
+    (rung-now _ _ _ _ _ _ _ _ _ _ _ _ _ _ _ (a .loop .inv .0), a .loop .inv .1, waits-lent k .1)
+
+sub-wait : tie.Need-sub-wait Inv-loop μ-loop
+sub-wait c = let k = waiting (c .before .before) in omega (arith, k .lesser2 .ensures)
 
 add-taken : tie.Need-add-taken Inv-loop μ-loop
 add-taken c =
-    let a = c .before .before .before .before .before .before .before .before .before .before .before .before .before in
-    next-fits _ _ (c .before .before .before .before .before .before .before .before .before .before .if2 .left) (start (a .before) .good .1 .1 .1 .1 .1 .1 .1 .1 .1 .1 .1 .1 .1 .1 .1 .1 .1 .1 .0 .0)
+    let k = waiting (c .before .before) in
+    let a = waits-at k in
+    up-to-fits _ _ (waits-lent k .1) (start (a .before) .good .1 .1 .1 .1 .1 .1 .1 .1 .1 .1 .1 .1 .1 .1 .1 .1 .1 .1 .1 .0 .0)
 
 loop-less : tie.Need-loop-less Inv-loop μ-loop
-loop-less c =
-    let a = c .before .before .before .before .before .before .before .before .before .before .before .before .before in
-    less-left _ _ (a .loop .inv .0 .allowed) (c .before .before .before .before .before .before .before .before .before .before .before .if1 .left)
+loop-less c = let k = waiting (c .before .before) in omega (arith, waits-lent k .0, waits-some k)
 
 loop-again : tie.Need-loop-again Inv-loop μ-loop
 loop-again c =
-    let p = c .before .before .before in
-    let th = p .before .before .before .before .before in
-    let e2 = th .before .before in
-    let i = e2 .before .before in
-    let a = i .before in (
-      slides-waits _ _ _ _ _ _ _ _ _ _ _ _ _ _ _ (a .loop .inv .0) _ _ _ _ _ _ (p .pass .ensures) (e2 .before .if1 .left),
-      p .pass .kept .1 .1 .1 .1 .1 .1 .1 .1 .0 ∙ a .loop .inv .1,
-      λ t size G. glide-waits _ _ _ _ _ _ _ _ _ _ _ _ _ _ _ _ _ _ _ _ _ _ _ _ G _ _ _ _ _ _ _ _ _ (a .loop .inv .2 t size G) _ _ _ _ _ _ (p .pass .ensures) refl (i .loop-test .taken) (e2 .before .if1 .left) (e2 .if2 .left) (th .if3 .taken),
+    let p = c .before .before in
+    let k = waiting p in
+    let a = waits-at k in (
+      slides-waits _ _ _ _ _ _ _ _ _ _ _ _ _ _ _ (a .loop .inv .0) _ _ _ _ (p .pass-all .ensures .1) (waits-lent k .0),
+      p .pass-all .ensures .2,
+      λ t size at wants caps passed S G.
+          glide-waited _ _ _ _ _ _ _ _ _ _ _ _ _ _ _ _ _ _ _ _ _ _ _ _ G _ _ _ _ _ _ _ _ _ (a .loop .inv .2 t size at wants caps passed S G) _ _ _ _ _ _ (p .pass-all .ensures .0)
+          (k .before .before .before .before .before .loop-test .taken) (omega (arith, k .lesser2 .ensures)) (waits-lent k .0) (waits-lent k .1),
     )
 
-sub-if4 : tie.Need-sub-if4 Inv-loop μ-loop
-sub-if4 c = c .before .before .before .before .before .loop .inv .0 .room
+-- ---- firings
 
-sub-t58 : tie.Need-sub-t58 Inv-loop μ-loop
-sub-t58 c = c .before .before .before .before .before .before .loop .inv .0 .begun
+sub-room : tie.Need-sub-room Inv-loop μ-loop
+sub-room c = c .before .before .before .before .before .loop .inv .0 .room
+
+sub-t49 : tie.Need-sub-t49 Inv-loop μ-loop
+sub-t49 c = c .before .before .before .before .before .before .loop .inv .0 .begun
 
 same-length-5 : tie.Need-same-length-5 Inv-loop μ-loop
-same-length-5 c = c .before .before .before .before .before .before .loop .inv .0 .store-length
+same-length-5 c = c .before .before .before .before .before .before .loop .inv .0 .rung .room-is
 
 same-length-6 : tie.Need-same-length-6 Inv-loop μ-loop
 same-length-6 c = c .before .before .before .before .before .before .loop .inv .0 .out-length
@@ -165,122 +171,134 @@ same-length-6 c = c .before .before .before .before .before .before .loop .inv .
 returns-3 : tie.Need-returns-3 Inv-loop μ-loop
 returns-3 c =
     let a = c .before .before .before .before .before .before in
-    let f = a .before in
-    λ t size G.
-    let H = sized _ _ _ _ _ _ _ _ _ _ _ _ _ _ _ _ _ _ _ _ _ _ (f .before .width .ensures) G in
-    let s = a .loop .inv .2 t size H in
-    record { ends = glide-full _ _ _ _ _ _ _ _ _ _ _ _ _ _ _ _ _ _ _ _ _ _ _ _ H _ _ _ _ _ _ _ _ _ s (c .before .before .before .before .before .loop-test .taken) (c .before .before .before .before .if1 .left) (c .before .before .before .if2 .left) (c .before .if3 .left) (c .if4 .taken); had = s .had; allowed = s .allowed; fewer = s .fewer; inside = s .inside; most = fired-most _ _ _ _ _ _ _ _ _ _ _ _ _ _ _ _ _ _ _ _ _ _ _ _ H _ _ _ _ _ _ _ _ _ s }
+    λ t size at wants caps passed S G.
+    let s = a .loop .inv .2 t size at wants caps passed S G in
+    record { ends = glide-full _ _ _ _ _ _ _ _ _ _ _ _ _ _ _ _ _ _ _ _ _ _ _ _ G _ _ _ _ _ _ _ _ _ s (c .before .before .before .before .before .loop-test .taken) (c .before .before .before .before .if1 .left) (c .before .before .before .if2 .left) (c .before .if3 .left) (c .if4 .taken); had = s .had; allowed = s .allowed; fewer = s .fewer; inside = s .inside; most = fired-most _ _ _ _ _ _ _ _ _ _ _ _ _ _ _ _ _ _ _ _ _ _ _ _ G _ _ _ _ _ _ _ _ _ s }
 
-slice-aggregate-fire : tie.Need-slice-aggregate-fire Inv-loop μ-loop
-slice-aggregate-fire c = sym (c .before .before .before .before .before .before .before .before .before .before .loop .inv .1)
+sub-firings-in : tie.Need-sub-firings-in Inv-loop μ-loop
+sub-firings-in c = omega (arith, c .before .before .before .before .before .loop-test .taken)
 
-fire-requires : tie.Need-fire-requires Inv-loop μ-loop
-fire-requires c κs =
-    let e4 = c .before .before .before .before .before in
-    let a = e4 .before .before .before .before .before .before in
-    may-fire _ _ _ _ _ _ _ _ _ _ _ _ _ _ _ (a .loop .inv .0) _ _ _ (a .before .before .width .ensures) (a .loop .inv .1) (e4 .if4 .left)
+firings-in-requires : tie.Need-firings-in-requires Inv-loop μ-loop
+firings-in-requires c κs =
+    let a = c .before .before .before .before .before .before in
+    width-some _ _ _ (a .loop .inv .0 .rung .rings .some) (start (a .before) .pre .0 .1)
+
+-- the firings that are made, from the call that makes them, and the loop
+abbrev firing : tie.After-fire-all Inv-loop μ-loop → tie.After-firings-in Inv-loop μ-loop
+firing f = f .before .before .before .before .before .before
+
+abbrev fires-at : tie.After-firings-in Inv-loop μ-loop → tie.At-loop Inv-loop μ-loop
+fires-at g = g .before .before .before .before .before .before .before
+
+-- they are lent,
+fires-lent : (g : tie.After-firings-in Inv-loop μ-loop) →
+    let a = fires-at g in
+    (a .loop .taken + g .firings-in .result ≤ start (a .before) .args .allowance) × (a .loop .taken + g .firings-in .result ≤ length (start (a .before) .args .cells .now))
+fires-lent g =
+    let l = g .before .before .before in
+    let e2 = l .before in
+    let a = fires-at g in (
+      omega (arith, g .firings-in .ensures .2, l .lesser .ensures, a .loop .inv .0 .allowed, e2 .if2 .left),
+      omega (arith, g .firings-in .ensures .2, l .lesser .ensures, a .loop .inv .0 .allowed, e2 .if2 .left),
+    )
+
+-- some,
+fires-some : (g : tie.After-firings-in Inv-loop μ-loop) → 0 < g .firings-in .result
+fires-some g =
+    let e4 = g .before in
+    let l = e4 .before .before in
+    let e2 = l .before in
+    let i = e2 .before .before in
+    let a = i .before in
+    g .firings-in .ensures .4 (a .loop .inv .0 .left-some) (omega (arith, i .loop-test .taken)) (omega (arith, l .lesser .ensures, a .loop .inv .0 .allowed, e2 .before .if1 .left, e2 .if2 .left)) (e4 .if4 .left)
+
+-- of iterations that are left.
+fires-left : (g : tie.After-firings-in Inv-loop μ-loop) → let a = fires-at g in a .loop .fired + g .firings-in .result ≤ start (a .before) .args .iterations
+fires-left g = omega (arith, g .firings-in .ensures .1, g .before .before .before .before .before .before .loop-test .taken)
+
+fire-all-requires : tie.Need-fire-all-requires Inv-loop μ-loop
+fire-all-requires c κs =
+    let g = c .before .before .before .before .before in
+    let a = fires-at g in
+    let s = a .loop .inv .0 in
+    let p = start (a .before) .pre .0 in
+    ((rung-now _ _ _ _ _ _ _ _ _ _ _ _ _ _ _ s, a .loop .inv .1, omega (arith, fires-lent g .1)), (p .0, p .1, omega (arith, g .firings-in .ensures .3, s .room)))
+
+mul-o : tie.Need-mul-o Inv-loop μ-loop
+mul-o c =
+    let g = firing (c .before .before .before .before) in
+    let a = fires-at g in
+    up-to-fits _ _ (omega (arith, g .firings-in .ensures .3, a .loop .inv .0 .out-length)) (start (a .before) .good .1 .1 .1 .1 .1 .1 .1 .1 .1 .1 .1 .1 .1 .1 .1 .1 .1 .1 .1 .1 .0 .0)
 
 add-o : tie.Need-add-o Inv-loop μ-loop
 add-o c =
-    let e4 = c .before .before .before .before .before .before .before .before .before .before .before in
-    let e2 = e4 .before .before .before in
-    let i = e2 .before .before in
-    let a = i .before in
-    output-fits _ _ _ _ _ _ _ _ _ _ _ _ _ _ _ (a .loop .inv .0) _ (e4 .if4 .left) (start (a .before) .good .1 .1 .1 .1 .1 .1 .1 .1 .1 .1 .1 .1 .1 .1 .1 .1 .1 .1 .1 .0 .0)
+    let g = firing (c .before .before .before .before) in
+    let a = fires-at g in
+    up-to-fits _ _ (omega (arith, g .firings-in .ensures .3, a .loop .inv .0 .room, a .loop .inv .0 .out-length)) (start (a .before) .good .1 .1 .1 .1 .1 .1 .1 .1 .1 .1 .1 .1 .1 .1 .1 .1 .1 .1 .1 .1 .0 .0)
 
 add-fired : tie.Need-add-fired Inv-loop μ-loop
 add-fired c =
-    let e4 = c .before .before .before .before .before .before .before .before .before .before .before in
-    let e2 = e4 .before .before .before in
-    let i = e2 .before .before in
-    let a = i .before in
-    next-fits _ _ (i .loop-test .taken) (start (a .before) .fits .iterations .fits)
+    let g = firing (c .before .before .before .before) in
+    up-to-fits _ _ (fires-left g) (start (fires-at g .before) .fits .iterations .fits)
 
 add-taken-2 : tie.Need-add-taken-2 Inv-loop μ-loop
 add-taken-2 c =
-    let e4 = c .before .before .before .before .before .before .before .before .before .before .before in
-    let e2 = e4 .before .before .before in
-    let i = e2 .before .before in
-    let a = i .before in
-    next-fits _ _ (e2 .if2 .left) (start (a .before) .good .1 .1 .1 .1 .1 .1 .1 .1 .1 .1 .1 .1 .1 .1 .1 .1 .1 .1 .0 .0)
+    let g = firing (c .before .before .before .before) in
+    let a = fires-at g in
+    up-to-fits _ _ (fires-lent g .1) (start (a .before) .good .1 .1 .1 .1 .1 .1 .1 .1 .1 .1 .1 .1 .1 .1 .1 .1 .1 .1 .1 .0 .0)
 
-sub-left-2 : tie.Need-sub-left-2 Inv-loop μ-loop
-sub-left-2 c =
-    let e4 = c .before .before .before .before .before .before .before .before .before .before .before in
-    let e2 = e4 .before .before .before in
-    let i = e2 .before .before in
-    let a = i .before in
-    a .loop .inv .0 .left-some
+sub-left : tie.Need-sub-left Inv-loop μ-loop
+sub-left c = firing (c .before .before .before .before) .firings-in .ensures .0
 
 loop-less-2 : tie.Need-loop-less-2 Inv-loop μ-loop
-loop-less-2 c =
-    let e4 = c .before .before .before .before .before .before .before .before .before .before .before .before in
-    let e2 = e4 .before .before .before in
-    let i = e2 .before .before in
-    let a = i .before in
-    less-left _ _ (a .loop .inv .0 .allowed) (e2 .before .if1 .left)
+loop-less-2 c = let g = firing (c .before .before .before .before .before) in omega (arith, fires-lent g .0, fires-some g)
 
 loop-again-2 : tie.Need-loop-again-2 Inv-loop μ-loop
 loop-again-2 c =
-    let f = c .before .before .before .before .before .before in
-    let e4 = f .before .before .before .before .before .before in
-    let e2 = e4 .before .before .before in
-    let i = e2 .before .before in
-    let a = i .before in (
-      slides-fires _ _ _ _ _ _ _ _ _ _ _ _ _ _ _ (a .loop .inv .0) _ _ _ _ _ _ _ _ _ (f .fire .ensures) (e2 .before .if1 .left) (e4 .if4 .left) (c .if5 .taken),
-      f .fire .kept .1 .1 .1 .1 .1 .1 .1 .1 .1 .1 .0 ∙ a .loop .inv .1,
-      λ t size G.
-          let s = a .loop .inv .2 t size G in
-          glide-fires _ _ _ _ _ _ _ _ _ _ _ _ _ _ _ _ _ _ _ _ _ _ _ _ G _ _ _ _ _ _ _ _ _ s _ _ _ _ _ (f .fire .ensures) refl (i .loop-test .taken) (e2 .before .if1 .left) (e2 .if2 .left) (e4 .before .if3 .left) (e4 .if4 .left)
-          (c .if5 .taken),
+    let f = c .before .before .before .before .before in
+    let g = firing f in
+    let a = fires-at g in (
+      slides-fires _ _ _ _ _ _ _ _ _ _ _ _ _ _ _ (a .loop .inv .0) _ _ _ _ _ _ _ (f .fire-all .ensures .1) (f .fire-all .ensures .3) (fires-lent g .0) (g .firings-in .ensures .3) (c .if5 .taken),
+      f .fire-all .ensures .2,
+      λ t size at wants caps passed S G.
+          glide-fired _ _ _ _ _ _ _ _ _ _ _ _ _ _ _ _ _ _ _ _ _ _ _ _ G _ _ _ _ _ _ _ _ _ (a .loop .inv .2 t size at wants caps passed S G) (g .before .before .before .before .before .before .loop-test .taken) (g .before .before .if3 .left)
+          _ _ _ _ _ (f .fire-all .ensures .0) (fires-left g) (fires-lent g .0) (fires-lent g .1) (g .firings-in .ensures .3) (c .if5 .taken),
     )
 
 add-wait-for : tie.Need-add-wait-for Inv-loop μ-loop
 add-wait-for c =
-    let e4 = c .before .before .before .before .before .before .before .before .before .before .before .before in
-    let e2 = e4 .before .before .before in
-    let i = e2 .before .before in
-    let a = i .before in
-    let r = start (a .before) .pre .1 .in-rows in
-    position-fits _ _ _ _ (r .due) (r .wanted-low) (e2 .if2 .left) (start (a .before) .good .1 .1 .1 .1 .1 .1 .1 .1 .1 .1 .1 .1 .1 .1 .1 .1 .1 .1 .0 .1)
+    let g = firing (c .before .before .before .before .before) in
+    let a = fires-at g in
+    let r = start (a .before) .pre .1 .1 .0 in
+    position-fits _ _ _ _ (r .due) (r .wanted-low) (fires-lent g .1) (start (a .before) .good .1 .1 .1 .1 .1 .1 .1 .1 .1 .1 .1 .1 .1 .1 .1 .1 .1 .1 .1 .0 .1)
 
 wait-for-requires : tie.Need-wait-for-requires Inv-loop μ-loop
 wait-for-requires c κs =
-    let e4 = c .before .before .before .before .before .before .before .before .before .before .before .before in
-    let e2 = e4 .before .before .before in
-    let i = e2 .before .before in
-    let a = i .before in
-    let r = start (a .before) .pre .1 .in-rows in
+    let r = start (fires-at (firing (c .before .before .before .before .before)) .before) .pre .1 .1 .0 in
     (r .walks, r .most, r .first-low)
 
 loop-less-3 : tie.Need-loop-less-3 Inv-loop μ-loop
-loop-less-3 c =
-    let e4 = c .before .before .before .before .before .before .before .before .before .before .before .before .before in
-    let e2 = e4 .before .before .before in
-    let i = e2 .before .before in
-    let a = i .before in
-    less-left _ _ (a .loop .inv .0 .allowed) (e2 .before .if1 .left)
+loop-less-3 c = let g = firing (c .before .before .before .before .before .before) in omega (arith, fires-lent g .0, fires-some g)
 
 loop-again-3 : tie.Need-loop-again-3 Inv-loop μ-loop
 loop-again-3 c =
-    let f = c .before .before .before .before .before .before .before in
-    let e4 = f .before .before .before .before .before .before in
-    let e2 = e4 .before .before .before in
-    let i = e2 .before .before in
-    let a = i .before in (
-      slides-fires _ _ _ _ _ _ _ _ _ _ _ _ _ _ _ (a .loop .inv .0) _ _ _ _ _ _ _ _ _ (f .fire .ensures) (e2 .before .if1 .left) (e4 .if4 .left) (start (a .before) .pre .1 .in-rows .some),
-      f .fire .kept .1 .1 .1 .1 .1 .1 .1 .1 .1 .1 .0 ∙ a .loop .inv .1,
-      λ t size G.
-          let s = a .loop .inv .2 t size G in
-          glide-turns _ _ _ _ _ _ _ _ _ _ _ _ _ _ _ _ _ _ _ _ _ _ _ _ G _ _ _ _ _ _ _ _ _ s _ _ _ _ _ (f .fire .ensures) refl (i .loop-test .taken) (e2 .before .if1 .left) (e2 .if2 .left) (e4 .before .if3 .left) (e4 .if4 .left)
-          _ (c .before .if5 .left) (λ h. c .wait-for .ensures h (due-after _ _ _ _ _ _ _ _ _ _ _ _ _ _ _ _ _ _ _ _ _ _ _ _ G _ _ _ _ _ _ _ _ _ s (i .loop-test .taken) (e4 .before .if3 .left) h)),
+    let f = c .before .before .before .before .before .before in
+    let g = firing f in
+    let a = fires-at g in (
+      slides-fires _ _ _ _ _ _ _ _ _ _ _ _ _ _ _ (a .loop .inv .0) _ _ _ _ _ _ _ (f .fire-all .ensures .1) (f .fire-all .ensures .3) (fires-lent g .0) (g .firings-in .ensures .3)
+          (start (a .before) .pre .1 .1 .0 .some),
+      f .fire-all .ensures .2,
+      λ t size at wants caps passed S G.
+          glide-turned _ _ _ _ _ _ _ _ _ _ _ _ _ _ _ _ _ _ _ _ _ _ _ _ G _ _ _ _ _ _ _ _ _ (a .loop .inv .2 t size at wants caps passed S G) (g .before .before .before .before .before .before .loop-test .taken) (g .before .before .if3 .left)
+          _ _ _ _ _ (f .fire-all .ensures .0) (fires-left g) (fires-lent g .0) (fires-lent g .1) (g .firings-in .ensures .3)
+          _ _ _ _ _ S (fires-some g) (g .firings-in .ensures .0) (c .before .if5 .left) _ (c .wait-for .ensures),
     )
 
-sub-t36 : tie.Need-sub-t36 Inv-loop μ-loop
-sub-t36 c = c .before .loop .inv .0 .begun
+sub-t59 : tie.Need-sub-t59 Inv-loop μ-loop
+sub-t59 c = c .before .loop .inv .0 .begun
 
 same-length-7 : tie.Need-same-length-7 Inv-loop μ-loop
-same-length-7 c = c .before .loop .inv .0 .store-length
+same-length-7 c = c .before .loop .inv .0 .rung .room-is
 
 same-length-8 : tie.Need-same-length-8 Inv-loop μ-loop
 same-length-8 c = c .before .loop .inv .0 .out-length
@@ -288,11 +306,9 @@ same-length-8 c = c .before .loop .inv .0 .out-length
 returns-4 : tie.Need-returns-4 Inv-loop μ-loop
 returns-4 c =
     let a = c .before in
-    let f = a .before in
-    λ t size G.
-    let H = sized _ _ _ _ _ _ _ _ _ _ _ _ _ _ _ _ _ _ _ _ _ _ (f .before .width .ensures) G in
-    let s = a .loop .inv .2 t size H in
-    record { ends = glide-done _ _ _ _ _ _ _ _ _ _ _ _ _ _ _ _ _ _ _ _ _ _ _ _ H _ _ _ _ _ _ _ _ _ s (c .loop-test .left); had = s .had; allowed = s .allowed; fewer = s .fewer; inside = s .inside; most = fired-most _ _ _ _ _ _ _ _ _ _ _ _ _ _ _ _ _ _ _ _ _ _ _ _ H _ _ _ _ _ _ _ _ _ s }
+    λ t size at wants caps passed S G.
+    let s = a .loop .inv .2 t size at wants caps passed S G in
+    record { ends = glide-done _ _ _ _ _ _ _ _ _ _ _ _ _ _ _ _ _ _ _ _ _ _ _ _ G _ _ _ _ _ _ _ _ _ s (c .loop-test .left); had = s .had; allowed = s .allowed; fewer = s .fewer; inside = s .inside; most = fired-most _ _ _ _ _ _ _ _ _ _ _ _ _ _ _ _ _ _ _ _ _ _ _ _ G _ _ _ _ _ _ _ _ _ s }
 
 pub slide-spec : {M : Type 1} → statement M
 slide-spec =
@@ -300,49 +316,43 @@ slide-spec =
     (tie.spec
     Inv-loop
     μ-loop
-    element-copy-out-first
-    element-copy-out-wanted
-    element-copy-out-position
-    width-requires
-    full-fifos-requires
-    sub-wait
-    rem-left
-    sub-left
     loop-holds
-    sub-t43
+    sub-t37
     same-length
     same-length-2
     returns
-    sub-t46
+    sub-t40
     same-length-3
     same-length-4
     returns-2
-    mul-word
-    shared-slice-read-word
-    slice-aggregate-pass
-    pass-requires
-    sub-wait-2
+    lesser-requires
+    sub-lent
+    lesser-requires-2
+    pass-all-requires
+    sub-wait
     add-taken
     loop-less
     loop-again
-    sub-if4
-    sub-t58
+    sub-room
+    sub-t49
     same-length-5
     same-length-6
     returns-3
-    slice-aggregate-fire
-    fire-requires
+    sub-firings-in
+    firings-in-requires
+    fire-all-requires
+    mul-o
     add-o
     add-fired
     add-taken-2
-    sub-left-2
+    sub-left
     loop-less-2
     loop-again-2
     add-wait-for
     wait-for-requires
     loop-less-3
     loop-again-3
-    sub-t36
+    sub-t59
     same-length-7
     same-length-8
     returns-4)

@@ -82,8 +82,8 @@ array-read-t41 c =
     let s = start w in
     omega (arith, some-dimensions (s .args .chain) (chain-shaped (s .args .chain) (s .pre .1 .accepted) (s .args .shape) _ _ _ (s .pre .0 .0) (w .before .before .before .before .before .before .before .before .widen4 .ensures) (w .before .before .before .before .widen42 .ensures) (w .widen32 .ensures)))
 
-cast-t43 : tie.Need-cast-t43
-cast-t43 c = search needs
+cast-t42 : tie.Need-cast-t42
+cast-t42 c = search needs
 
 returns-2 : tie.Need-returns-2
 returns-2 c =
@@ -115,5 +115,5 @@ with-store-spec =
     sub-t37
     mul-t38
     array-read-t41
-    cast-t43
+    cast-t42
     returns-2)

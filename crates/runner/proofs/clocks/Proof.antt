@@ -36,8 +36,8 @@ going f = f .before .before .before .before .before .before .before .before
 counts-requires : tie.Need-counts-requires
 counts-requires c κs = search needs
 
-cast-t40 : tie.Need-cast-t40
-cast-t40 c = let st = c .before .before .before .before .before in fired-fits _ _ _ _ _ _ _ _ _ _ _ (st .pre .0) _ _ _ _ (st .pre .1)
+cast-t41 : tie.Need-cast-t41
+cast-t41 c = let st = c .before .before .before .before .before in fired-fits _ _ _ _ _ _ _ _ _ _ _ (st .pre .0) _ _ _ _ (st .pre .1)
 
 returns : tie.Need-returns
 unfolding outcomeOf
@@ -48,8 +48,8 @@ returns c =
 counts-requires-2 : tie.Need-counts-requires-2
 counts-requires-2 c κs = search needs
 
-cast-t44 : tie.Need-cast-t44
-cast-t44 c = let st = c .before .before .before .before .before .before in fired-fits _ _ _ _ _ _ _ _ _ _ _ (st .pre .0) _ _ _ _ (st .pre .1)
+cast-t45 : tie.Need-cast-t45
+cast-t45 c = let st = c .before .before .before .before .before .before in fired-fits _ _ _ _ _ _ _ _ _ _ _ (st .pre .0) _ _ _ _ (st .pre .1)
 
 returns-2 : tie.Need-returns-2
 unfolding outcomeOf
@@ -75,8 +75,8 @@ counts-requires-3 c κs =
     let st = start f in
     filled-counts _ _ _ _ _ _ _ _ _ _ _ (st .pre .0) _ _ _ _ (st .pre .1) (going f .if1 .left) _ (st .args .out .now) _ (f .fill .result) _ _ _ _ (f .fill .ensures .0 _ _ _ _ (may-fill _ _ _ _ _ _ _ _ _ _ _ (st .pre .0) _ _ _ _ (st .pre .1) (going f .if1 .left))) (st .fits .allowance .fits)
 
-cast-t52 : tie.Need-cast-t52
-cast-t52 c =
+cast-t53 : tie.Need-cast-t53
+cast-t53 c =
     let f = c .before .before .before .before .before .before in
     let st = start f in
     fired-fits _ _ _ _ _ _ _ _ _ _ _ (st .pre .0) _ _ _ _ (st .pre .1)
@@ -100,8 +100,8 @@ counts-requires-4 c κs =
     let st = start f in
     filled-counts _ _ _ _ _ _ _ _ _ _ _ (st .pre .0) _ _ _ _ (st .pre .1) (going f .if1 .left) _ (st .args .out .now) _ (f .fill .result) _ _ _ _ (f .fill .ensures .0 _ _ _ _ (may-fill _ _ _ _ _ _ _ _ _ _ _ (st .pre .0) _ _ _ _ (st .pre .1) (going f .if1 .left))) (st .fits .allowance .fits)
 
-cast-t56 : tie.Need-cast-t56
-cast-t56 c =
+cast-t57 : tie.Need-cast-t57
+cast-t57 c =
     let f = c .before .before .before .before .before .before in
     let st = start f in
     fired-fits _ _ _ _ _ _ _ _ _ _ _ (st .pre .0) _ _ _ _ (st .pre .1)
@@ -125,8 +125,8 @@ counts-requires-5 c κs =
     let st = start f in
     filled-counts _ _ _ _ _ _ _ _ _ _ _ (st .pre .0) _ _ _ _ (st .pre .1) (going f .if1 .left) _ (st .args .out .now) _ (f .fill .result) _ _ _ _ (f .fill .ensures .0 _ _ _ _ (may-fill _ _ _ _ _ _ _ _ _ _ _ (st .pre .0) _ _ _ _ (st .pre .1) (going f .if1 .left))) (st .fits .allowance .fits)
 
-cast-t60 : tie.Need-cast-t60
-cast-t60 c =
+cast-t61 : tie.Need-cast-t61
+cast-t61 c =
     let f = c .before .before .before .before .before .before in
     let st = start f in
     fired-fits _ _ _ _ _ _ _ _ _ _ _ (st .pre .0) _ _ _ _ (st .pre .1)
@@ -187,7 +187,7 @@ advance-requires c κs =
     let g = c .before .before .before .before .before in
     let f = filled (aligned g) in
     let st = start f in
-    let G = g .glide .ensures .0 _ _ (may-glide _ _ _ _ _ _ _ _ _ _ _ (st .pre .0) _ _ _ _ (st .pre .1) (going f .if1 .left) _ (st .args .out .now) _ (f .fill .result) _ _ _ _ (f .fill .ensures .0 _ _ _ _ (may-fill _ _ _ _ _ _ _ _ _ _ _ (st .pre .0) _ _ _ _ (st .pre .1) (going f .if1 .left))) (aligned g .enum-told4 .given .1) (f .fill .kept .1 .1 .1 .1 .1 .1 .1 .1 .1 .1 .0)) in
+    let G = g .glide .ensures .0 _ _ _ (f .fill .ensures .2) (may-glide _ _ _ _ _ _ _ _ _ _ _ (st .pre .0) _ _ _ _ (st .pre .1) (going f .if1 .left) _ (st .args .out .now) _ (f .fill .result) _ _ _ _ (f .fill .ensures .0 _ _ _ _ (may-fill _ _ _ _ _ _ _ _ _ _ _ (st .pre .0) _ _ _ _ (st .pre .1) (going f .if1 .left))) (aligned g .enum-told4 .given .1) (f .fill .kept .1 .1 .1 .1 .1 .1 .1 .1 .1 .1 .0)) in
     ((few _ _ _ _ _ _ _ _ _ _ _ (st .pre .0) _ _ _ _ (st .pre .1), (f .fill .ensures .0 _ _ _ _ (may-fill _ _ _ _ _ _ _ _ _ _ _ (st .pre .0) _ _ _ _ (st .pre .1) (going f .if1 .left))) .there), slid-fits _ _ _ _ _ _ _ _ _ _ _ (st .pre .0) _ _ _ _ (st .pre .1) (going f .if1 .left) _ (st .args .out .now) _ (f .fill .result) _ _ _ _ (f .fill .ensures .0 _ _ _ _ (may-fill _ _ _ _ _ _ _ _ _ _ _ (st .pre .0) _ _ _ _ (st .pre .1) (going f .if1 .left))) (aligned g .enum-told4 .given .1) _ _ _ G)
 
 add-counts : tie.Need-add-counts
@@ -195,7 +195,7 @@ add-counts c =
     let g = c .before .before .before .before .before .before in
     let f = filled (aligned g) in
     let st = start f in
-    let G = g .glide .ensures .0 _ _ (may-glide _ _ _ _ _ _ _ _ _ _ _ (st .pre .0) _ _ _ _ (st .pre .1) (going f .if1 .left) _ (st .args .out .now) _ (f .fill .result) _ _ _ _ (f .fill .ensures .0 _ _ _ _ (may-fill _ _ _ _ _ _ _ _ _ _ _ (st .pre .0) _ _ _ _ (st .pre .1) (going f .if1 .left))) (aligned g .enum-told4 .given .1) (f .fill .kept .1 .1 .1 .1 .1 .1 .1 .1 .1 .1 .0)) in
+    let G = g .glide .ensures .0 _ _ _ (f .fill .ensures .2) (may-glide _ _ _ _ _ _ _ _ _ _ _ (st .pre .0) _ _ _ _ (st .pre .1) (going f .if1 .left) _ (st .args .out .now) _ (f .fill .result) _ _ _ _ (f .fill .ensures .0 _ _ _ _ (may-fill _ _ _ _ _ _ _ _ _ _ _ (st .pre .0) _ _ _ _ (st .pre .1) (going f .if1 .left))) (aligned g .enum-told4 .given .1) (f .fill .kept .1 .1 .1 .1 .1 .1 .1 .1 .1 .1 .0)) in
     taken-fits _ _ _ _ _ _ _ _ _ _ _ (st .pre .0) _ _ _ _ (st .pre .1) (going f .if1 .left) _ (st .args .out .now) _ (f .fill .result) _ _ _ _ (f .fill .ensures .0 _ _ _ _ (may-fill _ _ _ _ _ _ _ _ _ _ _ (st .pre .0) _ _ _ _ (st .pre .1) (going f .if1 .left))) (aligned g .enum-told4 .given .1) _ _ _ G (st .fits .allowance .fits)
 
 add-counts-2 : tie.Need-add-counts-2
@@ -203,7 +203,7 @@ add-counts-2 c =
     let g = c .before .before .before .before .before .before in
     let f = filled (aligned g) in
     let st = start f in
-    let G = g .glide .ensures .0 _ _ (may-glide _ _ _ _ _ _ _ _ _ _ _ (st .pre .0) _ _ _ _ (st .pre .1) (going f .if1 .left) _ (st .args .out .now) _ (f .fill .result) _ _ _ _ (f .fill .ensures .0 _ _ _ _ (may-fill _ _ _ _ _ _ _ _ _ _ _ (st .pre .0) _ _ _ _ (st .pre .1) (going f .if1 .left))) (aligned g .enum-told4 .given .1) (f .fill .kept .1 .1 .1 .1 .1 .1 .1 .1 .1 .1 .0)) in
+    let G = g .glide .ensures .0 _ _ _ (f .fill .ensures .2) (may-glide _ _ _ _ _ _ _ _ _ _ _ (st .pre .0) _ _ _ _ (st .pre .1) (going f .if1 .left) _ (st .args .out .now) _ (f .fill .result) _ _ _ _ (f .fill .ensures .0 _ _ _ _ (may-fill _ _ _ _ _ _ _ _ _ _ _ (st .pre .0) _ _ _ _ (st .pre .1) (going f .if1 .left))) (aligned g .enum-told4 .given .1) (f .fill .kept .1 .1 .1 .1 .1 .1 .1 .1 .1 .1 .0)) in
     clocks-fit _ _ _ _ _ _ _ _ _ _ _ (st .pre .0) _ _ _ _ (st .pre .1) (going f .if1 .left) _ (st .args .out .now) _ (f .fill .result) _ _ _ _ (f .fill .ensures .0 _ _ _ _ (may-fill _ _ _ _ _ _ _ _ _ _ _ (st .pre .0) _ _ _ _ (st .pre .1) (going f .if1 .left))) (aligned g .enum-told4 .given .1) _ _ _ G (st .fits .allowance .fits)
 
 counts-requires-6 : tie.Need-counts-requires-6
@@ -211,7 +211,7 @@ counts-requires-6 c κs =
     let g = c .before .before .before .before .before .before in
     let f = filled (aligned g) in
     let st = start f in
-    let G = g .glide .ensures .0 _ _ (may-glide _ _ _ _ _ _ _ _ _ _ _ (st .pre .0) _ _ _ _ (st .pre .1) (going f .if1 .left) _ (st .args .out .now) _ (f .fill .result) _ _ _ _ (f .fill .ensures .0 _ _ _ _ (may-fill _ _ _ _ _ _ _ _ _ _ _ (st .pre .0) _ _ _ _ (st .pre .1) (going f .if1 .left))) (aligned g .enum-told4 .given .1) (f .fill .kept .1 .1 .1 .1 .1 .1 .1 .1 .1 .1 .0)) in
+    let G = g .glide .ensures .0 _ _ _ (f .fill .ensures .2) (may-glide _ _ _ _ _ _ _ _ _ _ _ (st .pre .0) _ _ _ _ (st .pre .1) (going f .if1 .left) _ (st .args .out .now) _ (f .fill .result) _ _ _ _ (f .fill .ensures .0 _ _ _ _ (may-fill _ _ _ _ _ _ _ _ _ _ _ (st .pre .0) _ _ _ _ (st .pre .1) (going f .if1 .left))) (aligned g .enum-told4 .given .1) (f .fill .kept .1 .1 .1 .1 .1 .1 .1 .1 .1 .1 .0)) in
     counts-small _ _ _ _ _ _ _ _ _ _ _ (st .pre .0) _ _ _ _ (st .pre .1) (going f .if1 .left) _ (st .args .out .now) _ (f .fill .result) _ _ _ _ (f .fill .ensures .0 _ _ _ _ (may-fill _ _ _ _ _ _ _ _ _ _ _ (st .pre .0) _ _ _ _ (st .pre .1) (going f .if1 .left))) (aligned g .enum-told4 .given .1) _ _ _ G (st .fits .allowance .fits)
 
 add-all : tie.Need-add-all
@@ -219,18 +219,18 @@ add-all c =
     let g = c .before .before .before .before .before .before .before in
     let f = filled (aligned g) in
     let st = start f in
-    let G = g .glide .ensures .0 _ _ (may-glide _ _ _ _ _ _ _ _ _ _ _ (st .pre .0) _ _ _ _ (st .pre .1) (going f .if1 .left) _ (st .args .out .now) _ (f .fill .result) _ _ _ _ (f .fill .ensures .0 _ _ _ _ (may-fill _ _ _ _ _ _ _ _ _ _ _ (st .pre .0) _ _ _ _ (st .pre .1) (going f .if1 .left))) (aligned g .enum-told4 .given .1) (f .fill .kept .1 .1 .1 .1 .1 .1 .1 .1 .1 .1 .0)) in
+    let G = g .glide .ensures .0 _ _ _ (f .fill .ensures .2) (may-glide _ _ _ _ _ _ _ _ _ _ _ (st .pre .0) _ _ _ _ (st .pre .1) (going f .if1 .left) _ (st .args .out .now) _ (f .fill .result) _ _ _ _ (f .fill .ensures .0 _ _ _ _ (may-fill _ _ _ _ _ _ _ _ _ _ _ (st .pre .0) _ _ _ _ (st .pre .1) (going f .if1 .left))) (aligned g .enum-told4 .given .1) (f .fill .kept .1 .1 .1 .1 .1 .1 .1 .1 .1 .1 .0)) in
     all-fits _ _ _ _ _ _ _ _ _ _ _ (st .pre .0) _ _ _ _ (st .pre .1) (going f .if1 .left) _ (st .args .out .now) _ (f .fill .result) _ _ _ _ (f .fill .ensures .0 _ _ _ _ (may-fill _ _ _ _ _ _ _ _ _ _ _ (st .pre .0) _ _ _ _ (st .pre .1) (going f .if1 .left))) (aligned g .enum-told4 .given .1) _ _ _ G
 
 outcome-of-requires : tie.Need-outcome-of-requires
 outcome-of-requires c κs = search needs
 
-cast-t78 : tie.Need-cast-t78
-cast-t78 c =
+cast-t79 : tie.Need-cast-t79
+cast-t79 c =
     let g = c .before .before .before .before .before .before .before .before in
     let f = filled (aligned g) in
     let st = start f in
-    let G = g .glide .ensures .0 _ _ (may-glide _ _ _ _ _ _ _ _ _ _ _ (st .pre .0) _ _ _ _ (st .pre .1) (going f .if1 .left) _ (st .args .out .now) _ (f .fill .result) _ _ _ _ (f .fill .ensures .0 _ _ _ _ (may-fill _ _ _ _ _ _ _ _ _ _ _ (st .pre .0) _ _ _ _ (st .pre .1) (going f .if1 .left))) (aligned g .enum-told4 .given .1) (f .fill .kept .1 .1 .1 .1 .1 .1 .1 .1 .1 .1 .0)) in
+    let G = g .glide .ensures .0 _ _ _ (f .fill .ensures .2) (may-glide _ _ _ _ _ _ _ _ _ _ _ (st .pre .0) _ _ _ _ (st .pre .1) (going f .if1 .left) _ (st .args .out .now) _ (f .fill .result) _ _ _ _ (f .fill .ensures .0 _ _ _ _ (may-fill _ _ _ _ _ _ _ _ _ _ _ (st .pre .0) _ _ _ _ (st .pre .1) (going f .if1 .left))) (aligned g .enum-told4 .given .1) (f .fill .kept .1 .1 .1 .1 .1 .1 .1 .1 .1 .1 .0)) in
     all-fits-32 _ _ _ _ _ _ _ _ _ _ _ (st .pre .0) _ _ _ _ (st .pre .1) (going f .if1 .left) _ (st .args .out .now) _ (f .fill .result) _ _ _ _ (f .fill .ensures .0 _ _ _ _ (may-fill _ _ _ _ _ _ _ _ _ _ _ (st .pre .0) _ _ _ _ (st .pre .1) (going f .if1 .left))) (aligned g .enum-told4 .given .1) _ _ _ G
 
 same-length-4 : tie.Need-same-length-4
@@ -246,7 +246,7 @@ returns-6 c =
     let g = c .before .before .before .before .before .before .before .before in
     let f = filled (aligned g) in
     let st = start f in
-    let G = g .glide .ensures .0 _ _ (may-glide _ _ _ _ _ _ _ _ _ _ _ (st .pre .0) _ _ _ _ (st .pre .1) (going f .if1 .left) _ (st .args .out .now) _ (f .fill .result) _ _ _ _ (f .fill .ensures .0 _ _ _ _ (may-fill _ _ _ _ _ _ _ _ _ _ _ (st .pre .0) _ _ _ _ (st .pre .1) (going f .if1 .left))) (aligned g .enum-told4 .given .1) (f .fill .kept .1 .1 .1 .1 .1 .1 .1 .1 .1 .1 .0)) in
+    let G = g .glide .ensures .0 _ _ _ (f .fill .ensures .2) (may-glide _ _ _ _ _ _ _ _ _ _ _ (st .pre .0) _ _ _ _ (st .pre .1) (going f .if1 .left) _ (st .args .out .now) _ (f .fill .result) _ _ _ _ (f .fill .ensures .0 _ _ _ _ (may-fill _ _ _ _ _ _ _ _ _ _ _ (st .pre .0) _ _ _ _ (st .pre .1) (going f .if1 .left))) (aligned g .enum-told4 .given .1) (f .fill .kept .1 .1 .1 .1 .1 .1 .1 .1 .1 .1 .0)) in
     ends-glided _ _ _ _ _ _ _ _ _ _ _ (st .pre .0) _ _ _ _ (st .pre .1) (going f .if1 .left) _ (st .args .out .now) _ (f .fill .result) _ _ _ _ (f .fill .ensures .0 _ _ _ _ (may-fill _ _ _ _ _ _ _ _ _ _ _ (st .pre .0) _ _ _ _ (st .pre .1) (going f .if1 .left))) (aligned g .enum-told4 .given .1) _ _ _ G _ _ _ (c .before .counts6 .ensures) (c .outcome-of .ensures) (c .before .before .advance .ensures)
 
 pub clocks-spec : {M : Type 1} → statement M
@@ -254,27 +254,27 @@ clocks-spec =
     tie.close
     (tie.spec
     counts-requires
-    cast-t40
+    cast-t41
     returns
     counts-requires-2
-    cast-t44
+    cast-t45
     returns-2
     cast-n
     cast-dims
     fill-requires
     enum-told
     counts-requires-3
-    cast-t52
+    cast-t53
     same-length
     returns-3
     enum-told-2
     counts-requires-4
-    cast-t56
+    cast-t57
     same-length-2
     returns-4
     enum-told-3
     counts-requires-5
-    cast-t60
+    cast-t61
     same-length-3
     returns-5
     enum-told-4
@@ -290,7 +290,7 @@ clocks-spec =
     counts-requires-6
     add-all
     outcome-of-requires
-    cast-t78
+    cast-t79
     same-length-4
     same-length-5
     returns-6)

@@ -18,11 +18,8 @@ enum-told c = search needs
 plan-requires : tie.Need-plan-requires
 plan-requires c κs = search needs
 
-write-chain-requires : tie.Need-write-chain-requires
-write-chain-requires c κs = search needs
-
-number-requires-2 : tie.Need-number-requires-2
-number-requires-2 c κs = search needs
+write-requires : tie.Need-write-requires
+write-requires c κs = search needs
 
 returns : tie.Need-returns
 returns c =
@@ -35,11 +32,11 @@ same-length c = search needs
 
 returns-2 : tie.Need-returns-2
 returns-2 c =
-    let w = c .before .before .before in
+    let w = c .before .before in
     let p = w .before .before in
     let t = p .before in
     let r = t .before .before in
-    plan-written _ _ _ (r .read-request .ensures) _ _ _ _ (t .enum-told .given .1) (p .plan .ensures) (w .write-chain .ensures) (c .number2 .ensures)
+    plan-written _ _ _ (r .read-request .ensures) _ _ (t .enum-told .given .1) (p .plan .ensures) (w .write .ensures)
 
 pub zohmirka-plan-spec : {M : Type 1} → statement M
 zohmirka-plan-spec =
@@ -50,8 +47,7 @@ zohmirka-plan-spec =
     number-requires
     enum-told
     plan-requires
-    write-chain-requires
-    number-requires-2
+    write-requires
     returns
     same-length
     returns-2)

@@ -148,7 +148,7 @@ fn safe_call(
     lent.state[..STATE_WORDS].copy_from_slice(&state.words);
     Some(match answer {
         Err(refusal) => Report {
-            refusal: refusal.number() as u32,
+            refusal: refusal.number(),
             outcome: 5,
             cells: 0,
             firings: 0,

@@ -53,7 +53,7 @@ pub fn plan(round: &mut Round) -> Result<(), Differs> {
     round.same(
         "plan_into: answer",
         &safe,
-        &want.map_err(|refusal| refusal.number()),
+        &want.map_err(|refusal| refusal.number() as u32),
     )?;
     round.same_at("plan_into: sheet", &sheet, &wanted)?;
     Ok(())
@@ -80,7 +80,7 @@ pub fn chain(round: &mut Round) -> Result<(), Differs> {
     round.same(
         "safe judge",
         &safe,
-        &want.map(|_| ()).map_err(|r| r.number()),
+        &want.map(|_| ()).map_err(|r| r.number() as u32),
     )?;
 
     let mut wanted = [FILL_WORD; 208];
@@ -100,7 +100,9 @@ pub fn chain(round: &mut Round) -> Result<(), Differs> {
     let safe = zohmirka::Chain::read(&text)
         .map(|c| c.words)
         .map_err(|r| r.number());
-    let want = want.map(|c| chain_words(&c)).map_err(|r| r.number());
+    let want = want
+        .map(|c| chain_words(&c))
+        .map_err(|r| r.number() as u32);
     round.same("safe read", &safe, &want)?;
     Ok(())
 }

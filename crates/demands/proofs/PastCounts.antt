@@ -1,0 +1,104 @@
+-- What stands past the counts plays no part.
+use Prim.Native.Nat.{ℕ, zero, suc, _-_, _<_}
+use mathlib.Core.List.{List, [], _∷_, _++_, map, flatMap}
+use mathlib.Core.Path.{_≡_, refl, sym, _∙_, ap, ap₂}
+use native.Mathlib.Omega.{arith}
+use lib.Dec.{ltb}
+use lib.ListN.{length, drop}
+use Rattle.model.specs.Lists.{tabulate}
+use Rattle.model.specs.Values.{Trimmed, sizesOf, offsetOf, offsetsOf, capacitiesOf, trimmedOf, trimmed, chainOf, blankChain, Same}
+use Rattle.model.specs.Answers.{check, firstOf, byVerdict}
+use Rattle.model.specs.Judging.{judged, judgeChain}
+use Rattle.model.specs.Planning.{sorted, distances, trimmedRequest, judgeRequest, plannedChain, planOf}
+use Rattle.model.specs.Frames.{framed}
+use Rattle.model.specs.Numbers.{wordBytes}
+use Rattle.model.specs.Writing.{gridLine, offsetLine, capacityLine, kernelLine, chainLines, sheetOf, writeVerdict, Written, writeOf}
+use Rattle.model.specs.declared.Grid.{Grid}
+use Rattle.model.specs.declared.Window.{Window}
+use Rattle.model.specs.declared.Kernel.{Kernel}
+use Rattle.model.specs.declared.Request.{Request}
+use Rattle.model.specs.declared.Chain.{Chain}
+use Rattle.model.specs.declared.Planned.{Planned}
+use Rattle.model.specs.declared.Refusal.the-variants as refusal
+use Rattle.model.specs.declared.Verdict.the-variants as verdict
+use Rattle.demands.specs.PastCounts.{GridsAgree, WindowsAgree, ChainsAgree, RequestsAgree, SameRequest, PastCounts}
+
+-- Lists of equally many entries, the same at each place.
+module _ {A : Type 0} where
+  entries-alike : (n : ℕ) (f g : ℕ → A) → ((k : ℕ) → k < n → f k ≡ g k) → tabulate n f ≡ tabulate n g
+  unfolding tabulate
+  entries-alike zero f g h = refl
+  entries-alike (suc n) f g h = ap₂ _∷_ (h 0 (omega arith)) (entries-alike n (λ i. f (suc i)) (λ i. g (suc i)) (λ k b. h (suc k) (omega arith)))
+
+  alike : (n m : ℕ) (f g : ℕ → A) → n ≡ m → ((k : ℕ) → k < n → f k ≡ g k) → tabulate n f ≡ tabulate m g
+  alike n m f g e h = entries-alike n f g h ∙ ap (λ (l : ℕ). tabulate l g) e
+
+sizes-alike : (g h : Grid) → GridsAgree g h → sizesOf g ≡ sizesOf h
+unfolding sizesOf
+sizes-alike g h a = alike (g .dims) (h .dims) _ _ (a .dims) (a .sizes)
+
+offsets-alike : (n m : ℕ) (v w : Window) → n ≡ m → WindowsAgree n v w → offsetsOf n v ≡ offsetsOf m w
+unfolding offsetsOf offsetOf
+offsets-alike n m v w e a = alike (v .count) (w .count) _ _ (a .count) (λ k b. alike n m _ _ e (λ d c. a .entries k d b c))
+
+trimmed-alike : (g h : Grid) (v w : Window) (xs ys : List ℕ) (k l : Kernel) → GridsAgree g h → WindowsAgree (g .dims) v w → xs ≡ ys → k ≡ l
+    → trimmedOf g v xs k ≡ trimmedOf h w ys l
+trimmed-alike g h v w xs ys k l a b capacities kernel = λ i. record {
+  dims = a .dims i;
+  sizes = sizes-alike g h a i;
+  count = b .count i;
+  offsets = offsets-alike (g .dims) (h .dims) v w (a .dims) b i;
+  capacities = capacities i;
+  kernel = kernel i;
+}
+
+same-chains : (c d : Chain) → ChainsAgree c d → Same c d
+unfolding trimmed capacitiesOf
+same-chains c d a =
+    trimmed-alike (c .grid) (d .grid) (c .window) (d .window) (capacitiesOf c) (capacitiesOf d) (c .kernel) (d .kernel) (a .grid) (a .window)
+    (alike (c .window .count - 1) (d .window .count - 1) _ _ (ap (λ (n : ℕ). n - 1) (a .window .count)) (a .capacities)) (a .kernel)
+
+same-requests : (r q : Request) → RequestsAgree r q → SameRequest r q
+unfolding trimmedRequest
+same-requests r q a = both _ _ (ap (λ (t : Trimmed). distances (sorted t)) (both [] [] refl))
+  where
+    both : (xs ys : List ℕ) → xs ≡ ys → trimmedOf (r .grid) (r .window) xs (r .kernel) ≡ trimmedOf (q .grid) (q .window) ys (q .kernel)
+    both xs ys e = trimmed-alike (r .grid) (q .grid) (r .window) (q .window) xs ys (r .kernel) (q .kernel) (a .grid) (a .window) e (a .kernel)
+
+-- What is written of a chain, from what plays a part.
+linesFrom : Trimmed → List (List ℕ)
+linesFrom t = (1 ∷ t .dims ∷ flatMap wordBytes (t .sizes)) ∷ (map offsetLine (t .offsets) ++ (map capacityLine (t .capacities) ++ (kernelLine (t .kernel) ∷ [])))
+
+writtenFrom : Trimmed → List ℕ → Written
+writtenFrom t output =
+    let sheet = flatMap framed (linesFrom t) in
+    let last = firstOf (check (ltb (length output) (length sheet)) refusal.ShortOutput ∷ []) in
+    byVerdict (byVerdict (judged t) last verdict.Refused)
+    (record { answer = record { verdict = verdict.Accepted; bytes = length sheet }; output = sheet ++ drop (length sheet) output })
+    (λ x. record { answer = record { verdict = verdict.Refused x; bytes = 0 }; output = output })
+
+written-from : (c : Chain) (output : List ℕ) → writeOf c output ≡ writtenFrom (trimmed c) output
+unfolding writeOf writeVerdict sheetOf chainLines gridLine judgeChain trimmed linesFrom writtenFrom
+written-from c output = refl
+
+written-alike : (c d : Chain) → Same c d → (output : List ℕ) → writeOf c output ≡ writeOf d output
+written-alike c d e output = written-from c output ∙ ap (λ (t : Trimmed). writtenFrom t output) e ∙ sym (written-from d output)
+
+-- What is planned of a request.
+plannedFrom : Trimmed → Planned
+plannedFrom t =
+    byVerdict (judged t) (record { verdict = verdict.Accepted; chain = chainOf (sorted t) }) (λ x. record { verdict = verdict.Refused x; chain = blankChain })
+
+planned-from : (r : Request) → planOf r ≡ plannedFrom (trimmedRequest r)
+unfolding planOf plannedChain judgeRequest plannedFrom
+planned-from r = refl
+
+planned-alike : (r q : Request) → SameRequest r q → planOf r ≡ planOf q
+planned-alike r q e = planned-from r ∙ ap plannedFrom e ∙ sym (planned-from q)
+
+judged-alike : (r q : Request) → SameRequest r q → judgeRequest r ≡ judgeRequest q
+unfolding judgeRequest
+judged-alike r q e = ap judged e
+
+pub past-counts : PastCounts
+past-counts = record { same-chains = same-chains; same-requests = same-requests; written = written-alike; judged = judged-alike; planned = planned-alike }

@@ -1,0 +1,53 @@
+-- Iterations, distances and cells, and number 6 (document 01, "Grid, window, distances").
+use Prim.Native.Nat.{ℕ, suc, _+_, _-_, _<_}
+use mathlib.Core.Bool.{true, false}
+use mathlib.Core.List.{List}
+use mathlib.Core.Logic.{_↔_}
+use mathlib.Core.Path.{_≡_}
+use lib.IntN.{ℤ}
+use Rattle.model.specs.Vectors.{before}
+use Rattle.model.specs.Values.{Trimmed, trimmed}
+use Rattle.model.specs.Iterations.{cellsOf, isCellOf, positionOf, isIterationOf, iterationsOf, iterationOf, readsOf, distanceOf}
+use Rattle.model.specs.Answers.{verdictNumber}
+use Rattle.model.specs.Judging.{badGrid, badCount, repeats, noIteration, judged, judgeChain}
+use Rattle.model.specs.Planning.{trimmedRequest}
+use Rattle.model.specs.declared.Chain.{Chain}
+use Rattle.model.specs.declared.Request.{Request}
+use Rattle.model.specs.declared.Verdict.the-variants as verdict
+
+module _ (t : Trimmed) where
+  -- Iterations 0, 1, 2, .. are exactly the vectors that "added to each offset stay inside the grid", each once, "in lexicographic order".
+  pub record Enumerated : Type 0 where
+    pub each : (j : ℕ) → j < iterationsOf t → isIterationOf t (iterationOf t j) ≡ true
+    pub no-other : (v : List ℤ) → isIterationOf t v ≡ true → (j : ℕ) × (j < iterationsOf t) × (v ≡ iterationOf t j)
+    pub once : (i j : ℕ) → i < iterationsOf t → j < iterationsOf t → iterationOf t i ≡ iterationOf t j → i ≡ j
+    pub in-order : (i j : ℕ) → i < j → j < iterationsOf t → before (iterationOf t i) (iterationOf t j) ≡ true
+
+  -- "This is the same in all iterations": of any two references, whichever reads further on, and of neighbours by the name of their distance.
+  pub record SameDistance : Type 0 where
+    pub pair : (i j k l : ℕ) → i < iterationsOf t → j < iterationsOf t → k < t .count → l < t .count → readsOf t i k + readsOf t j l ≡ readsOf t j k + readsOf t i l
+    pub neighbours : (j k : ℕ) → j < iterationsOf t → suc k < t .count → readsOf t j k - readsOf t j (suc k) ≡ distanceOf t k
+
+  -- "streamed in lexicographic order": on cells that is the order of positions, and each position below the cell count is that of one cell.
+  pub record Placed : Type 0 where
+    pub in-order : (v w : List ℤ) → isCellOf t v ≡ true → isCellOf t w ≡ true → before v w ≡ true ↔ positionOf t v < positionOf t w
+    pub below : (v : List ℤ) → isCellOf t v ≡ true → positionOf t v < cellsOf t
+    pub each : (p : ℕ) → p < cellsOf t → (v : List ℤ) × (isCellOf t v ≡ true) × (positionOf t v ≡ p)
+    pub once : (v w : List ℤ) → isCellOf t v ≡ true → isCellOf t w ≡ true → positionOf t v ≡ positionOf t w → v ≡ w
+
+  -- There is no iteration.
+  abbrev pub Empty : Type 0
+  Empty = (v : List ℤ) → isIterationOf t v ≡ false
+
+  -- "6: no iteration": where there is a reference its condition holds exactly if there is none, and where 3, 4 and 5 do not hold the answer is 6 exactly then.
+  pub record Number6 : Type 0 where
+    pub condition : badCount (t .count) ≡ false → noIteration (t .sizes) (t .offsets) ≡ true ↔ Empty
+    pub answer : badGrid (t .dims) (t .sizes) ≡ false → badCount (t .count) ≡ false → repeats (t .offsets) ≡ false → verdictNumber (judged t) ≡ 6 ↔ Empty
+
+-- Iterations of every accepted chain, distances and cells of every chain, number 6 of every chain and every request.
+pub record Geometry : Type 0 where
+  pub iterations : (c : Chain) → judgeChain c ≡ verdict.Accepted → Enumerated (trimmed c)
+  pub distances : (c : Chain) → SameDistance (trimmed c)
+  pub cells : (c : Chain) → Placed (trimmed c)
+  pub chain-6 : (c : Chain) → Number6 (trimmed c)
+  pub request-6 : (r : Request) → Number6 (trimmedRequest r)

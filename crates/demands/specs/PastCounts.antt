@@ -1,0 +1,47 @@
+-- "entries past its counts play no part, and chains that differ only there are the same" (document 01, "Turned back on account of the input"). That such chains are judged and run alike
+-- stands in `Promises`.
+use Prim.Native.Nat.{ℕ, _-_, _<_}
+use mathlib.Core.List.{List}
+use mathlib.Core.Path.{_≡_}
+use lib.ListN.{getD}
+use Rattle.model.specs.Values.{entryOf, capacityOf, Same}
+use Rattle.model.specs.Planning.{trimmedRequest, judgeRequest, planOf}
+use Rattle.model.specs.Writing.{writeOf}
+use Rattle.model.specs.declared.Grid.{Grid}
+use Rattle.model.specs.declared.Window.{Window}
+use Rattle.model.specs.declared.Request.{Request}
+use Rattle.model.specs.declared.Chain.{Chain}
+
+-- Two grids, two windows on a grid of some dimensions, two chains and two requests that differ only past their counts.
+pub record GridsAgree (g h : Grid) : Type 0 where
+  pub dims : g .dims ≡ h .dims
+  pub sizes : (d : ℕ) → d < g .dims → getD (g .sizes) d 0 ≡ getD (h .sizes) d 0
+
+pub record WindowsAgree (dims : ℕ) (v w : Window) : Type 0 where
+  pub count : v .count ≡ w .count
+  pub entries : (k d : ℕ) → k < v .count → d < dims → entryOf v k d ≡ entryOf w k d
+
+pub record ChainsAgree (c d : Chain) : Type 0 where
+  pub grid : GridsAgree (c .grid) (d .grid)
+  pub window : WindowsAgree (c .grid .dims) (c .window) (d .window)
+  pub capacities : (k : ℕ) → k < c .window .count - 1 → capacityOf c k ≡ capacityOf d k
+  pub kernel : c .kernel ≡ d .kernel
+
+pub record RequestsAgree (r q : Request) : Type 0 where
+  pub grid : GridsAgree (r .grid) (q .grid)
+  pub window : WindowsAgree (r .grid .dims) (r .window) (q .window)
+  pub kernel : r .kernel ≡ q .kernel
+
+-- Two requests are the same.
+abbrev pub SameRequest : Request → Request → Type 0
+SameRequest r q = trimmedRequest r ≡ trimmedRequest q
+
+pub record PastCounts : Type 0 where
+  -- "chains that differ only there are the same", and so are requests.
+  pub same-chains : (c d : Chain) → ChainsAgree c d → Same c d
+  pub same-requests : (r q : Request) → RequestsAgree r q → SameRequest r q
+  -- The same chain is written alike,
+  pub written : (c d : Chain) → Same c d → (output : List ℕ) → writeOf c output ≡ writeOf d output
+  -- the same request judged and planned alike.
+  pub judged : (r q : Request) → SameRequest r q → judgeRequest r ≡ judgeRequest q
+  pub planned : (r q : Request) → SameRequest r q → planOf r ≡ planOf q

@@ -1,0 +1,111 @@
+-- Chains and requests handed over as values, judged (document 01, "Turned back on account of the input", 3 to 9): one table, computed.
+use Prim.Native.Nat.{ℕ}
+use mathlib.Core.List.{List, [], _∷_, map, flatMap}
+use mathlib.Core.Path.{_≡_, refl}
+use lib.IntN.{ℤ, pos, negsuc}
+use lib.Ieee.{ofBits}
+use Rattle.model.specs.Lists.{tabulate, sum, product, greatest, any}
+use Rattle.model.specs.Vectors.{same, above, plus, equal, before, isZero}
+use Rattle.model.specs.Geometry.{cellCount, place, natural, position, firstEntry, otherEntries, leastFrom, least, lows, extent, extents, iterationCount, indices, fromLows, iteration, reads, distance}
+use Rattle.model.specs.Values.{sizesOf, offsetOf, offsetsOf, capacitiesOf, trimmed, requestOf}
+use Rattle.model.specs.Iterations.{distanceOf}
+use Rattle.model.specs.Answers.{numberOf, verdictNumber, firstOf}
+use Rattle.model.specs.Judging.{badDims, badSizes, badGrid, badCount, repeats, noIteration, needsCentre, lacksCentre, notFinite, badFactor, tooLarge, windowChecks, kernelChecks, capacityChecks, valueChecks, judged, judgeChain}
+use Rattle.model.specs.Planning.{insert, falling, sorted, distances, trimmedRequest, judgeRequest}
+use Rattle.model.specs.Kernels.{float}
+use Rattle.model.specs.declared.Chain.{Chain}
+use Rattle.model.specs.declared.Grid.{Grid}
+use Rattle.model.specs.declared.Kernel.{Kernel}
+use Rattle.model.specs.declared.Kernel.the-variants as kernel
+
+-- The number that turns a chain back, and the one that turns back the request which the chain without its capacities is; 0 for none.
+pub record Numbers : Type 0 where
+  pub chain : ℕ
+  pub request : ℕ
+
+pub record Case : Type 0 where
+  pub value : Chain
+  pub numbers : Numbers
+
+unfoldable pub answered : Case → Numbers
+answered c = record { chain = verdictNumber (judgeChain (c .value)); request = verdictNumber (judgeRequest (requestOf (c .value))) }
+
+unfoldable pub expected : Case → Numbers
+expected c = c .numbers
+
+abbrev case : Grid → (count : ℕ) (offsets : List ℤ) (capacities : List ℕ) → Kernel → (chain request : ℕ) → Case
+case g count offsets capacities k chain request = record {
+  value = record {
+    grid = g;
+    window = record { count = count; offsets = flatMap (λ (x : ℤ). let offset : List ℤ = x ∷ pos 0 ∷ pos 0 ∷ pos 0 ∷ [] in offset) offsets };
+    capacities = capacities;
+    kernel = k;
+  };
+  numbers = record { chain = chain; request = request };
+}
+
+-- A grid in one dimension, with sizes 0 past it, and others.
+abbrev line : ℕ → Grid
+line size = record { dims = 1; sizes = size ∷ 0 ∷ 0 ∷ 0 ∷ [] }
+
+abbrev grid : ℕ → List ℕ → Grid
+grid dims sizes = record { dims = dims; sizes = sizes }
+
+abbrev scaledBy : ℕ → Kernel
+scaledBy f = kernel.Scaled (float f)
+
+abbrev blendBy : (a b : ℕ) → Kernel
+blendBy a b = kernel.Blend (record { a = float a; b = float b })
+
+unfoldable pub cases : List Case
+cases =
+    -- "entries past its counts play no part": a size 0, an offset that stands twice, and a capacity
+    case (line 5) 2 (pos 3 ∷ pos 0 ∷ pos 0 ∷ []) (3 ∷ 99999 ∷ []) kernel.Raw 0 0
+    -- 3: "dimension count outside 1 to 4", before 4: the last has n = 99
+    ∷ case (grid 0 (5 ∷ 5 ∷ 5 ∷ 5 ∷ [])) 1 (pos 0 ∷ []) [] kernel.Raw 3 3
+    ∷ case (grid 5 (1 ∷ 1 ∷ 1 ∷ 1 ∷ [])) 1 (pos 0 ∷ []) [] kernel.Raw 3 3
+    ∷ case (grid 9 (1 ∷ 1 ∷ 1 ∷ 1 ∷ [])) 99 [] [] kernel.Raw 3 3
+    -- "a size 0", before 4: n = 0
+    ∷ case (line 0) 0 [] [] kernel.Raw 3 3
+    -- "too many cells", as whole numbers: 65,536 four times
+    ∷ case (grid 4 (65536 ∷ 65536 ∷ 65536 ∷ 65536 ∷ [])) 1 (pos 0 ∷ []) [] kernel.Raw 3 3
+    -- 4: "n outside 1 to 32", before 5: the offsets past those given are all 0. With n = 32 it is 5.
+    ∷ case (line 5) 0 [] [] kernel.Raw 4 4
+    ∷ case (line 5) 33 (pos 0 ∷ []) [] kernel.Raw 4 4
+    ∷ case (line 5) 255 (pos 0 ∷ []) [] kernel.Raw 4 4
+    ∷ case (line 5) 32 (pos 0 ∷ []) [] kernel.Raw 5 5
+    -- 5 before 6: on size 2, offsets 0, 2 and 0
+    ∷ case (line 2) 3 (pos 0 ∷ pos 2 ∷ pos 0 ∷ []) (2 ∷ 2 ∷ []) kernel.Raw 5 5
+    -- 6 before 7: on size 2, offsets 1 and −1, and difference
+    ∷ case (line 2) 2 (pos 1 ∷ negsuc 0 ∷ []) (2 ∷ []) kernel.Difference 6 6
+    -- 7 before 8: no centre, and an infinite factor; scaled and raw need no centre
+    ∷ case (line 5) 2 (pos 2 ∷ pos 1 ∷ []) (1 ∷ []) (blendBy 0x7F800000 0x3F800000) 7 7
+    ∷ case (line 5) 2 (pos 2 ∷ pos 1 ∷ []) (1 ∷ []) kernel.Difference 7 7
+    ∷ case (line 5) 2 (pos 2 ∷ pos 1 ∷ []) (1 ∷ []) (scaledBy 0x3F800000) 0 0
+    ∷ case (line 5) 2 (pos 2 ∷ pos 1 ∷ []) (1 ∷ []) kernel.Raw 0 0
+    -- 8: "a factor that is infinite or not a number": of either sign; of a blend, only a or only b
+    ∷ case (line 5) 1 (pos 0 ∷ []) [] (scaledBy 0x7F800000) 8 8
+    ∷ case (line 5) 1 (pos 0 ∷ []) [] (scaledBy 0xFF800000) 8 8
+    ∷ case (line 5) 1 (pos 0 ∷ []) [] (scaledBy 0x7FC00000) 8 8
+    ∷ case (line 5) 1 (pos 0 ∷ []) [] (blendBy 0xFFFFFFFF 0x3F800000) 8 8
+    ∷ case (line 5) 1 (pos 0 ∷ []) [] (blendBy 0x3F800000 0x7F800000) 8 8
+    -- but not the greatest number, −0 or a subnormal
+    ∷ case (line 5) 1 (pos 0 ∷ []) [] (scaledBy 0x7F7FFFFF) 0 0
+    ∷ case (line 5) 1 (pos 0 ∷ []) [] (blendBy 0x80000000 0x00000001) 0 0
+    -- 8 before 9: an infinite factor, and a capacity of 16,385, given and planned; 9 alone
+    ∷ case (line 20000) 2 (pos 16385 ∷ pos 0 ∷ []) (16385 ∷ []) (scaledBy 0x7F800000) 8 8
+    ∷ case (line 20000) 2 (pos 16385 ∷ pos 0 ∷ []) (16385 ∷ []) kernel.Raw 9 9
+    -- 9: "capacities, given or planned": a chain's are those given, a request's those planned
+    ∷ case (line 20000) 2 (pos 16385 ∷ pos 0 ∷ []) (16384 ∷ []) kernel.Raw 0 9
+    ∷ case (line 5) 3 (pos 2 ∷ pos 1 ∷ pos 0 ∷ []) (16384 ∷ 1 ∷ []) kernel.Raw 9 0
+    -- summed as whole numbers: 80000000 twice
+    ∷ case (line 5) 3 (pos 2 ∷ pos 1 ∷ pos 0 ∷ []) (0x80000000 ∷ 0x80000000 ∷ []) kernel.Raw 9 0
+    ∷ []
+
+pub table : map answered cases ≡ map expected cases
+unfolding answered expected cases flatMap ofBits tabulate sum product greatest any same above plus equal before isZero
+    cellCount place natural position firstEntry otherEntries leastFrom least lows extent extents iterationCount indices fromLows iteration reads distance distanceOf
+    sizesOf offsetOf offsetsOf capacitiesOf trimmed numberOf verdictNumber firstOf
+    badDims badSizes badGrid badCount repeats noIteration needsCentre lacksCentre notFinite badFactor tooLarge windowChecks kernelChecks capacityChecks valueChecks judged judgeChain
+    insert falling sorted distances trimmedRequest judgeRequest
+table = refl

@@ -1,0 +1,23 @@
+use mathlib.Core.Path.{_∙_, ap}
+use borrow.Author.Needs.{needs}
+use Rattle.model.specs.Answers.{verdictNumber}
+use Rattle.model.specs.Judging.{judgeChain}
+use Rattle.zohmirka.proofs.zohmirka_judge_chain.Statement.{statement}
+use Rattle.zohmirka.proofs.zohmirka_judge_chain.Tie as tie
+
+chain-in-requires : tie.Need-chain-in-requires
+chain-in-requires c κs = search needs
+
+judge-chain-requires : tie.Need-judge-chain-requires
+judge-chain-requires c κs = search needs
+
+number-requires : tie.Need-number-requires
+number-requires c κs = search needs
+
+returns : tie.Need-returns
+returns c =
+    let j = c .before in
+    c .number .ensures ∙ ap verdictNumber (j .judge-chain .ensures ∙ ap judgeChain (j .before .chain-in .ensures))
+
+pub zohmirka-judge-chain-spec : {M : Type 1} → statement M
+zohmirka-judge-chain-spec = tie.close (tie.spec chain-in-requires judge-chain-requires number-requires returns)

@@ -1,0 +1,152 @@
+-- Chains in the range of the machine's types: one that words of 32 bits give, and one that is planned from a request sheet.
+use Prim.Native.Nat.{ℕ, zero, suc, _+_, _*_, _/_, _%_, _≤_, _<_}
+use mathlib.Core.Bool.{false}
+use mathlib.Core.List.{List, [], _∷_}
+use mathlib.Core.Path.{_≡_, subst}
+use native.Mathlib.Nat.{mul-le-mul-left, mul-le-mul-right, mul-one, one-mul}
+use native.Mathlib.Omega.{arith}
+use lib.Dec.{eqb, ltb}
+use lib.Ieee.{binary32}
+use lib.Ieee.Bits.{ofBits-fits}
+use lib.IntN.{ℤ, pos}
+use lib.ListN.{length, getD, List·getD-eq-default}
+use lib.Signed.{mag}
+use borrow.Author.Tests.{le-ltb, eqb-false, ltb-false}
+use Rattle.model.specs.Lists.{tabulate, sum, product, any}
+use Rattle.model.specs.Numbers.{signed}
+use Rattle.model.specs.Geometry.{cellCount}
+use Rattle.model.specs.Values.{Trimmed, offsetOf, offsetsOf, chainOf, blankChain, requestOf}
+use Rattle.model.specs.Judging.{mostCells, badDims, badSizes, badGrid, judged}
+use Rattle.model.specs.Planning.{falling, sorted, trimmedRequest, judgeRequest, plannedChain, planOf}
+use Rattle.model.specs.declared.Chain.{Chain}
+use Rattle.model.specs.declared.Verdict.the-variants as verdict
+use Rattle.model.proofs.CheckLaws.{value-passes}
+use Rattle.model.proofs.SortLaws.{falling-no-other}
+use Rattle.geometry.proofs.GridLaws.{product-above}
+use Rattle.run_laws.proofs.Accepts as accepts
+use Rattle.sheet_laws.proofs.Cases.{by-bool, by-lt, or-false}
+use Rattle.sheet_trips.specs.RoundTrips.{FactorsFit, InRange}
+use Rattle.sheet_trips.proofs.ReadBack.{blank-at}
+use Rattle.zohmirka_words.specs.Words.{wordAt, kernelIn, chainIn}
+use Rattle.zohmirka_words.proofs.WordLaws.{few-chain}
+use Rattle.zohmirka_laws.proofs.ReadChains.{Held, signed-small}
+
+-- What holds of the function's values and of the default holds of every entry.
+each-tabulate : {A : Type 0} (P : A → Type 0) (n : ℕ) (f : ℕ → A) (d : A) → ((i : ℕ) → P (f i)) → P d → (i : ℕ) → P (getD (tabulate n f) i d)
+unfolding tabulate
+each-tabulate P zero f d h z i = z
+each-tabulate P (suc n) f d h z zero = h 0
+each-tabulate P (suc n) f d h z (suc i) = each-tabulate P n (λ j. f (suc j)) d (λ j. h (suc j)) z i
+
+abbrev Word : ℕ → Type 0
+Word w = w < 4294967296
+
+abbrev Entry : ℤ → Type 0
+Entry z = mag z < 32768
+
+-- ---- Words
+
+blank-range : InRange blankChain
+unfolding FactorsFit
+blank-range = record {
+  sizes = λ d. rw (blank-at {A = ℕ} 4 d 0) (omega arith);
+  entries = λ i. rw (blank-at {A = ℤ} 128 i (pos 0)) (omega arith);
+  capacities = λ k. rw (blank-at {A = ℕ} 31 k 0) (omega arith);
+  factors = tt;
+}
+
+kernel-fits : (which a b : ℕ) → FactorsFit (kernelIn which a b)
+unfolding kernelIn FactorsFit
+kernel-fits which a b =
+    by-bool (eqb which 0) (λ e. rw e tt)
+    (λ e.
+    by-bool (eqb which 1) (λ d. rw (e, d) tt)
+    (λ d.
+    by-bool (eqb which 2) (λ f. rw (e, d, f) (ofBits-fits binary32 _))
+    (λ f.
+    by-bool (eqb which 3) (λ g. rw (e, d, f, g) (ofBits-fits binary32 _, ofBits-fits binary32 _)) (λ g. rw (e, d, f, g) (ofBits-fits binary32 _)))))
+
+four : (a b c d : ℕ) → Word a → Word b → Word c → Word d → (i : ℕ) → Word (getD (a ∷ b ∷ c ∷ d ∷ []) i 0)
+four a b c d p q r s zero = p
+four a b c d p q r s (suc zero) = q
+four a b c d p q r s (suc (suc zero)) = r
+four a b c d p q r s (suc (suc (suc zero))) = s
+four a b c d p q r s (suc (suc (suc (suc i)))) = omega arith
+
+pub words-range : (ws : List ℕ) → ((i : ℕ) → Word (wordAt ws i)) → InRange (chainIn ws)
+unfolding chainIn
+words-range ws small =
+    by-lt (length ws) 168
+    (λ h. subst InRange (few-chain ws h) blank-range)
+    (λ h. rw (le-ltb _ _ h)
+    (record {
+      sizes = four _ _ _ _ (small 1) (small 2) (small 3) (small 4);
+      entries = each-tabulate Entry 128 (λ i. signed (wordAt ws (6 + i) % 65536)) (pos 0) (λ i. signed-small _) (omega arith);
+      capacities = each-tabulate Word 31 (λ k. wordAt ws (134 + k)) 0 (λ k. small (134 + k)) (omega arith);
+      factors = kernel-fits _ _ _;
+    }))
+
+-- ---- Plans
+
+below-sum : (xs : List ℕ) (k : ℕ) → getD xs k 0 ≤ sum xs
+unfolding sum
+below-sum [] k = omega arith
+below-sum (x ∷ xs) zero = omega arith
+below-sum (x ∷ xs) (suc k) = omega (arith, below-sum xs k)
+
+below-product : (ss : List ℕ) → any (λ s. eqb s 0) ss ≡ false → (d : ℕ) → getD ss d 0 ≤ product ss
+unfolding any product
+below-product [] e d = omega arith
+below-product (s ∷ ss) e zero =
+    let h = or-false (eqb s 0) (any (λ x. eqb x 0) ss) e in
+    omega (arith, mul-le-mul-left s (product-above ss (h .1)), mul-one s)
+below-product (s ∷ ss) e (suc d) =
+    let h = or-false (eqb s 0) (any (λ x. eqb x 0) ss) e in
+    let l : 1 ≤ s = omega (arith, eqb-false s 0 (h .0)) in
+    omega (arith, below-product ss (h .1) d, mul-le-mul-right (product ss) l, one-mul (product ss))
+
+module _ (t : Trimmed) (ok : judged t ≡ verdict.Accepted) where
+  size-small : (d : ℕ) → Word (getD (t .sizes) d 0)
+  unfolding judged badGrid badSizes cellCount
+  size-small d =
+      let g = or-false (badDims (t .dims)) (badSizes (t .sizes)) (value-passes t ok .window .grid) in
+      let h = or-false (any (λ s. eqb s 0) (t .sizes)) (ltb mostCells (cellCount (t .sizes))) (g .1) in
+      omega (arith, below-product (t .sizes) (h .0) d, ltb-false mostCells (product (t .sizes)) (h .1))
+
+  capacity-small : (k : ℕ) → Word (getD (t .capacities) k 0)
+  capacity-small k = omega (arith, below-sum (t .capacities) k, accepts.accepted t ok .places)
+
+abbrev Small : List ℤ → Type 0
+Small v = (j : ℕ) → Entry (getD v j (pos 0))
+
+-- Sorted offsets are those that were sorted.
+sorted-small : (os : List (List ℤ)) → ((i : ℕ) → Small (getD os i [])) → (i : ℕ) → Small (getD (falling os) i [])
+sorted-small os h i =
+    by-lt i (length (falling os))
+    (λ l. let (k, b, e) = falling-no-other os i l in rw (← e) (h k))
+    (λ l. rw (List·getD-eq-default (falling os) [] l) (λ j. omega arith))
+
+module _ (c : Chain) (held : Held c) where
+  request-small : (i : ℕ) → Small (getD (trimmedRequest (requestOf c) .offsets) i [])
+  unfolding trimmedRequest offsetsOf offsetOf
+  request-small =
+      each-tabulate Small (c .window .count) (offsetOf (c .grid .dims) (c .window)) []
+      (λ k. each-tabulate Entry (c .grid .dims) (λ d. getD (c .window .offsets) (4 * k + d) (pos 0)) (pos 0) (λ d. held .entries (4 * k + d)) (omega arith))
+      (λ j. omega arith)
+
+  request-fits : FactorsFit (trimmedRequest (requestOf c) .kernel)
+  unfolding trimmedRequest
+  request-fits = held .factors
+
+pub planned-range : (c : Chain) → Held c → judgeRequest (requestOf c) ≡ verdict.Accepted → InRange (planOf (requestOf c) .chain)
+unfolding planOf plannedChain chainOf judgeRequest sorted
+planned-range c held ok = rw ok
+    (record {
+      sizes = each-tabulate Word 4 (λ d. getD (t .sizes) d 0) 0 (size-small t ok) (omega arith);
+      entries = each-tabulate Entry 128 (λ i. getD (getD (falling (t .offsets)) (i / 4) []) (i % 4) (pos 0)) (pos 0) (λ i. sorted-small (t .offsets) (request-small c held) (i / 4) (i % 4)) (omega arith);
+      capacities = each-tabulate Word 31 (λ k. getD (t .capacities) k 0) 0 (capacity-small t ok) (omega arith);
+      factors = request-fits c held;
+    })
+  where
+    t : Trimmed
+    t = trimmedRequest (requestOf c)
