@@ -43,7 +43,7 @@ use Rattle.run_laws.proofs.Outputs.{drop-written}
 use Rattle.run_laws.proofs.Calls.{Counted, counted}
 use Rattle.run_laws.proofs.Ends.{EndsSo, ends-so, no-clock}
 use Rattle.run_laws.proofs.Between.{counters-back, width-right}
-use Rattle.run_laws.proofs.CallEnds.{outcome-counts}
+use Rattle.run_laws.proofs.CallEnds.{outcome-counts, answered, answered-back}
 use Rattle.demands.specs.AnyState.{Lent, Means, run, Within, Kept, onceMore, CalledAgain, AnyStates}
 use Rattle.demands.proofs.Again.{done-dead, stalled-dead}
 use Rattle.demands.proofs.Stores.{puts, Heads, stored-puts, puts-leaves}
@@ -203,23 +203,6 @@ module _ (t : Trimmed) (proper : Proper t) (ok : Accepted t) (l : Lent) (rest : 
       endingAt goes = Done
       endingAt (ends d) = d
 
--- The ending that an answer reports.
-reportedIn : Answer → Ending
-reportedIn (answer.Ended (outcome.Done c)) = Done
-reportedIn (answer.Ended (outcome.Spent c)) = Spent
-reportedIn (answer.Ended (outcome.Starved c)) = Starved
-reportedIn (answer.Ended (outcome.Stalled c)) = Stalled
-reportedIn (answer.Ended (outcome.Full c)) = Full
-reportedIn (answer.Refused x) = Done
-
-reported-back : (e : Ending) (c : Counts) → reportedIn (answer.Ended (outcomeOf e c)) ≡ e
-unfolding reportedIn outcomeOf
-reported-back Done c = refl
-reported-back Spent c = refl
-reported-back Starved c = refl
-reported-back Stalled c = refl
-reported-back Full c = refl
-
 -- What a call that no number turns back is judged by, and the other way.
 record Judged (t : Trimmed) (s : State) (store : List ℕ) : Type 0 where
   value : judged t ≡ verdict.Accepted
@@ -349,7 +332,7 @@ module _ (c : Chain) (s : State) (l : Lent) (j : Judged (trimmed c) s (l .store)
     λ r.
         subst₂ (λ (n : Counters) (d : Counts). Means t l n d e) (sym run-counters) (sym run-counts)
         (subst (Means t l (end .standing .counters) (end .standing .done))
-        (sym (reported-back (end .ending) (end .standing .done)) ∙ ap reportedIn (sym (run-answer (end .ending) (end .standing .done) refl refl) ∙ r .answer) ∙ reported-back e (r .counts)) end-means),
+        (sym (answered-back (end .ending) (end .standing .done)) ∙ ap answered (sym (run-answer (end .ending) (end .standing .done) refl refl) ∙ r .answer) ∙ answered-back e (r .counts)) end-means),
     λ m. record {
       counts = end .standing .done;
       answer = run-answer e (end .standing .done) (end-one e (subst₂ (λ (n : Counters) (d : Counts). Means t l n d e) run-counters run-counts m)) refl;

@@ -26,7 +26,7 @@ use Rattle.program_stages.specs.Stages.{begun, staged, closedBy, closed, afterR
 use Rattle.program_lines.specs.Texts.{Laid, laid, laidIfFits}
 use Rattle.program_answer.specs.Answer.{planAnswer}
 use Rattle.program_driver.specs.Steps.{Left, lastLine, advancedBy, advanced}
-use Rattle.program_laws.specs.Whole.{Loop, withBlock, received, supplied, stepped, turn, turns, Lent, NonEmpty, startOf, planTaken}
+use Rattle.program_laws.specs.Whole.{Loop, withBlock, received, supplied, stepped, turn, turns, Lent, NonEmpty, startOf, ReadFails, planTaken}
 use Rattle.program_laws.specs.Loops.{given, readDue, SuppliedBy, Supplied, loopOf, InLoop, going, ended, RunDue, turn-text, read-failed, Taking, Taken, PlanDue}
 use Rattle.program_laws.proofs.Plan.{plan-writes}
 
@@ -103,11 +103,9 @@ ends-over j block at store cells words text w = go (j .stage) w
     go (stage.Refusing x) w = absurd (never (sym w))
     go stage.Over w = absurd (never (sym w))
 
--- Where a read failed nothing is written.
-failed-over : (j : Job) (block : List ℕ) (at : ℕ) (store cells words text : List ℕ)
-    → (over (advanced (staged j stage.Over) block at store cells words text .step .job .stage) ≡ true) × (advanced (staged j stage.Over) block at store cells words text .step .bytes ≡ 0)
-unfolding advanced advancedBy over
-failed-over j block at store cells words text = (refl, refl)
+pub read-fails : ReadFails
+unfolding afterRead advanced advancedBy over
+read-fails j n block at store cells words text = (refl, refl)
 
 -- What a turn leaves with a step s.
 abbrev pub TurnLeaves : (block : List ℕ) → Left → Type 0
@@ -156,10 +154,10 @@ module _ (j : Job) (block : List ℕ) (at len : ℕ) (store cells words text : L
       due past [] [] (advanced (closed j) [] 0 store cells words text) [] some (append-nil past) (turn-ends j at store cells words text on (take len block) written (same-due true e)),
     )
 
-    fail : TurnLeaves [] (advanced (staged j stage.Over) [] 0 store cells words text)
-    fail =
-        let f = failed-over j [] 0 store cells words text in
-        let s = advanced (staged j stage.Over) [] 0 store cells words text in
+    fail : (k : ℕ) → TurnLeaves [] (advanced (afterRead (negsuc k) j) [] 0 store cells words text)
+    fail k =
+        let f = read-fails j k [] 0 store cells words text in
+        let s = advanced (afterRead (negsuc k) j) [] 0 store cells words text in
         (ended (f .0), subst (λ (n : ℕ). RunDue (s .step .job) (take n (s .text))) (sym (f .1)) (read-failed (f .0)))
 
   wants : (a b : Bool) → (a && b) ≡ true → b ≡ true
@@ -194,7 +192,7 @@ module _ (j : Job) (block : List ℕ) (at len : ℕ) (store cells words text : L
               let long : suc k ≤ length block′ = omega (arith, a .within, ap given d) in
               move j (take (suc k) block′) 0 (told (pos (suc k)) d) (part (pos (suc k)) d) (a .start)
               (read lent past some n written same e (take (suc k) block′) (omega (arith, length-take-le (suc k) block′ long)))
-          by (negsuc k) d = move (staged j stage.Over) [] 0 (told (negsuc k) d) (part (negsuc k) d) (a .start) (fail lent past some n written same)
+          by (negsuc k) d = move (afterRead (negsuc k) j) [] 0 (told (negsuc k) d) (part (negsuc k) d) (a .start) (fail lent past some n written same k)
 
 -- What `supply` leaves, by its ways: a block that is not used up, no input wanted, a read.
 module _ (j : Job) (at len : ℕ) (block : List ℕ) where

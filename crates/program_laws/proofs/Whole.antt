@@ -5,6 +5,7 @@ use native.Mathlib.Omega.{arith}
 use Rattle.program_laws.specs.Whole.{turns, startOf, Writes, Ends, NothingElse, Buffers, ProgramLaws}
 use Rattle.program_laws.proofs.Steps.{weight}
 use Rattle.program_laws.proofs.Plan.{plan-writes}
+use Rattle.program_laws.proofs.Loops.{read-fails}
 use Rattle.program_laws.proofs.Waiting.{writes-first, reads-starved, stops-reading}
 use Rattle.program_laws.proofs.Turns.{turns-hold, turns-end, start-holds, over-written, turns-write}
 
@@ -30,4 +31,4 @@ pub buffers : Buffers
 buffers = record { store = omega arith; cells = omega arith; words = omega arith; text = omega arith; plan-text = omega arith }
 
 pub program-laws : ProgramLaws
-program-laws = record { writes = writes; ends = ends; nothing-else = nothing-else; writes-first = writes-first; reads-starved = reads-starved; stops-reading = stops-reading; plan-writes = plan-writes; buffers = buffers }
+program-laws = record { writes = writes; ends = ends; nothing-else = nothing-else; writes-first = writes-first; reads-starved = reads-starved; stops-reading = stops-reading; read-fails = read-fails; plan-writes = plan-writes; buffers = buffers }

@@ -4,6 +4,7 @@ use mathlib.Core.Bool.{Bool, true, false, cond, _&&_}
 use mathlib.Core.List.{List, [], _∷_, _++_, flatten}
 use mathlib.Core.Path.{_≡_}
 use lib.Dec.{eqb}
+use lib.IntN.{negsuc}
 use lib.ListN.{length, take}
 use Rattle.model.specs.declared.Arriving.{Arriving}
 use Rattle.model.specs.declared.Refusal.the-variants as refusal
@@ -22,7 +23,7 @@ use Rattle.program_lines.specs.Texts.{laidIfFits}
 use Rattle.program_stages.specs.declared.Job.{Job}
 use Rattle.program_stages.specs.declared.Stage.{Stage}
 use Rattle.program_stages.specs.declared.Stage.the-variants as stage
-use Rattle.program_stages.specs.Stages.{begun, closed, wantsInput, over}
+use Rattle.program_stages.specs.Stages.{begun, closed, afterRead, wantsInput, over}
 use Rattle.program_answer.specs.Answer.{planAnswer}
 use Rattle.program_driver.specs.Steps.{advanced}
 
@@ -185,6 +186,11 @@ settled stage.Over v = true
 abbrev pub StopsReading : Type 0
 StopsReading = (l : Loop) (n : ℕ) → settled (l .job .stage) (l .job .line .verdict) ≡ true → turns n l .blocks ≡ l .blocks
 
+-- After a read that failed the step writes nothing, no last line either, and the program is over.
+abbrev pub ReadFails : Type 0
+ReadFails = (j : Job) (n : ℕ) (block : List ℕ) (at : ℕ) (store cells words text : List ℕ)
+    → let s = advanced (afterRead (negsuc n) j) block at store cells words text .step in (over (s .job .stage) ≡ true) × (s .bytes ≡ 0)
+
 -- `plan` takes block after block, up to the first that is turned back.
 unfoldable pub planTaken : Arriving → List (List ℕ) → Arriving
 planTaken a [] = a
@@ -214,5 +220,6 @@ pub record ProgramLaws : Type 0 where
   pub writes-first : WritesFirst
   pub reads-starved : ReadsStarved
   pub stops-reading : StopsReading
+  pub read-fails : ReadFails
   pub plan-writes : PlanWrites
   pub buffers : Buffers

@@ -42,11 +42,11 @@ endingOf (outcome.Starved c) = Starved
 endingOf (outcome.Stalled c) = Stalled
 endingOf (outcome.Full c) = Full
 
-answered : Answer → Ending
+pub answered : Answer → Ending
 answered (answer.Ended o) = endingOf o
 answered (answer.Refused x) = Done
 
-answered-back : (e : Ending) (c : Counts) → answered (answer.Ended (outcomeOf e c)) ≡ e
+pub answered-back : (e : Ending) (c : Counts) → answered (answer.Ended (outcomeOf e c)) ≡ e
 unfolding answered endingOf outcomeOf
 answered-back Done c = refl
 answered-back Spent c = refl
