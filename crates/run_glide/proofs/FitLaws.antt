@@ -1,6 +1,5 @@
--- Numbers that fit, and a count of clocks that falls.
+-- Numbers that fit.
 use Prim.Native.Nat.{ℕ, _+_, _-_, _^_, _≤_, _<_}
-use mathlib.Core.Path.{_≡_}
 use native.Mathlib.Omega.{arith}
 use mir.Syntax.{w64}
 use mir.Val.{Fits}
@@ -12,10 +11,6 @@ next-fits i len h l = record { fits = omega arith }
 -- A place within a slice, some places on.
 pub sum-fits : (o m len : ℕ) → o ≤ len → m ≤ len - o → len < 2 ^ 64 → Fits w64 (o + m)
 sum-fits o m len h g l = record { fits = omega arith }
-
--- One clock more is made.
-pub less-left : (taken allowance : ℕ) → taken ≤ allowance → (taken ≡ allowance → ⊥) → allowance - (taken + 1) < allowance - taken
-less-left taken allowance h n = omega arith
 
 -- A number up to one that fits.
 pub up-to-fits : (x len : ℕ) → x ≤ len → len < 2 ^ 64 → Fits w64 x
