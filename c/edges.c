@@ -1,5 +1,5 @@
-/* Tries what the header says beside what each function answers: slices of 0 elements whose pointer is NULL, calls in several threads at the same time, a store of any
- * content, too few output places, and the stack that a call needs (with EDGES_STACK set it prints how much). Prints what does not hold, and last `c/edges: ok` or
+/* Tries what the header says beside what each function answers: slices of 0 elements whose pointer is NULL, windows by name, calls in several threads at the same time,
+ * a store of any content, too few output places, and the stack that a call needs (with EDGES_STACK set it prints how much). Prints what does not hold, and last `c/edges: ok` or
  * `c/edges: failed`. */
 #define _POSIX_C_SOURCE 200809L
 #include "zohmirka.h"
@@ -67,6 +67,21 @@ static void null_slices(void) {
     expect(is(zohmirka_run(bytes(ALONE), strlen(ALONE), state, ZOHMIRKA_STATE_WORDS, NULL, 0, CELLS, 5, five, 5, 9), 0, ZOHMIRKA_DONE, 5, 5, 5), "run: no FIFO, no store");
     expect(memcmp(five, CELLS, sizeof five) == 0, "run: no FIFO, no store: words");
     expect(is(zohmirka_run_chain(alone, ZOHMIRKA_CHAIN_WORDS, state, ZOHMIRKA_STATE_WORDS, NULL, 0, NULL, 0, NULL, 0, 9), 0, ZOHMIRKA_DONE, 0, 0, 0), "run_chain: done, nothing lent");
+}
+
+/* A window by its name and by its offsets, and 13. */
+static void names(void) {
+    const char *name = "01020000000400000005\n0701\n0400\n";
+    const char *offsets = "01020000000400000005\n0200010000\n0200000001\n0200000000\n020000FFFF\n02FFFF0000\n0400\n";
+    const char *dimensions = "010100000005\n0701\n0400\n";
+    uint8_t one[ZOHMIRKA_SHEET_BYTES], other[ZOHMIRKA_SHEET_BYTES], kept[ZOHMIRKA_SHEET_BYTES];
+    struct zohmirka_sheet a = zohmirka_plan(bytes(name), strlen(name), one, sizeof one);
+    struct zohmirka_sheet b = zohmirka_plan(bytes(offsets), strlen(offsets), other, sizeof other);
+    expect(a.refusal == 0 && b.refusal == 0 && a.bytes == b.bytes && memcmp(one, other, a.bytes) == 0, "plan: a name and its offsets");
+    memcpy(kept, one, sizeof one);
+    a = zohmirka_plan(bytes(dimensions), strlen(dimensions), one, sizeof one);
+    expect(a.refusal == 13 && a.bytes == 0 && memcmp(one, kept, sizeof one) == 0, "plan: a name of other dimensions");
+    expect(zohmirka_judge(bytes(name), strlen(name)) == 2, "judge: a name in a chain sheet");
 }
 
 /* Raw of two references needs two places. */
@@ -193,6 +208,7 @@ static void stack(void) {
 int main(void) {
     expect(zohmirka_version() == ZOHMIRKA_VERSION, "version");
     null_slices();
+    names();
     few_places();
     threads();
     stack();

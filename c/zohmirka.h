@@ -8,11 +8,13 @@
  * - Nothing else is asked: any bytes, words, lengths and allowances are taken. Each function returns, and keeps nothing: what there is to keep is in the slices. The
  *   library has no state of its own, allocates nothing and makes no system call; calls may run in several threads at the same time, by the rule above.
  * - A call needs at most ZOHMIRKA_STACK_BYTES of stack, and the usual floating-point environment: rounding to nearest, subnormals kept (-ffast-math may change it).
- * - `refusal` is document 01's number of what turned the input back first, or 0. After a refusal every slice is as before.
+ * - `refusal` is the number, of documents 01 and 02, of what turned the input back first, or 0. After a refusal every slice is as before. Later versions of the
+ *   library may answer numbers that are not listed here.
  *
  * Numbers: 1 a malformed line, 2 a line out of its order or missing, 3 dimension count, sizes or number of cells, 4 number of references, 5 two equal offsets,
  * 6 no iteration, 7 difference or blend without a centre, 8 a factor that is infinite or not a number, 9 capacities summing above 16,384, 10 a store that is too
- * short, 11 a state that is too short or whose counters do not fit the chain, 12 what is to be written is longer than the slice lent for it.
+ * short, 11 a state that is too short or whose counters do not fit the chain, 12 what is to be written is longer than the slice lent for it, 13 (request sheets) a
+ * byte that names no window, or one whose dimensions are not the grid's.
  */
 #ifndef ZOHMIRKA_H
 #define ZOHMIRKA_H
@@ -77,8 +79,8 @@ struct zohmirka_report {
 /* ZOHMIRKA_VERSION of the library. */
 uint32_t zohmirka_version(void);
 
-/* Plans: the chain sheet of a request sheet goes to the first places of `sheet`, later places stay. Refusals: 1 to 9 of the request, then 12 if the chain sheet has
- * more bytes than `sheet`. */
+/* Plans: the chain sheet of a request sheet goes to the first places of `sheet`, later places stay. Refusals: 1 to 9 and 13 of the request, then 12 if the chain
+ * sheet has more bytes than `sheet`. */
 struct zohmirka_sheet zohmirka_plan(const uint8_t *request, size_t request_len, uint8_t *sheet, size_t sheet_len);
 
 /* Judges a chain sheet, which ends with its `04` line: 1 to 9, or 0 if it is accepted. */

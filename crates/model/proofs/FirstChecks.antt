@@ -80,7 +80,7 @@ write c room =
     subst (AnswersFirst (valueNumbers ++ (12 ∷ [])) (valueConditions (trimmed c) ++ (ltb room (length (sheetOf c)) ∷ []))) (then-checks (valueChecks (trimmed c)) last)
     (checks (valueChecks (trimmed c) ++ last))
 
-line : (chainSheet : Bool) (r : Reading) (l : Seen) → AnswersFirst (1 ∷ 2 ∷ 3 ∷ 1 ∷ 3 ∷ 4 ∷ []) (conditionsOf (lineChecks chainSheet r l)) (lineVerdict chainSheet r l)
+line : (chainSheet : Bool) (r : Reading) (l : Seen) → AnswersFirst (1 ∷ 2 ∷ 3 ∷ 1 ∷ 3 ∷ 4 ∷ 13 ∷ []) (conditionsOf (lineChecks chainSheet r l)) (lineVerdict chainSheet r l)
 unfolding numbersOf numberOf lineChecks lineVerdict
 line chainSheet r l = checks (lineChecks chainSheet r l)
 

@@ -14,4 +14,5 @@ pub mod SortLaws
 pub mod ChainLaws
 pub mod CheckLaws
 pub mod KernelLaws
+pub mod NameLaws
 pub mod FirstChecks

@@ -1,4 +1,4 @@
--- Document 01's number and values of each case of an answer.
+-- The number, of documents 01 and 02, and the values of each case of an answer.
 use Prim.Native.Nat.{ℕ}
 use mathlib.Core.Bool.{Bool, cond}
 use mathlib.Core.List.{List, [], _∷_}
@@ -26,6 +26,7 @@ numberOf refusal.TooLarge = 9
 numberOf refusal.ShortStore = 10
 numberOf refusal.BadState = 11
 numberOf refusal.ShortOutput = 12
+numberOf refusal.BadName = 13
 
 -- The number that a verdict answers; 0 where nothing is turned back.
 unfoldable pub verdictNumber : Verdict → ℕ

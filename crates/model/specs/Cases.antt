@@ -3,10 +3,10 @@ use Prim.Native.Nat.{ℕ, suc, _*_}
 use mathlib.Core.Bool.{Bool, cond}
 use mathlib.Core.List.{List, [], _∷_, map}
 use mathlib.Core.Path.{_≡_, refl}
-use lib.IntN.{ℤ, pos, negsuc}
+use lib.IntN.{ℤ, pos}
 use lib.ListN.{length, take, replicate}
 use Rattle.model.specs.Lists.{tabulate, upTo, sum, product, greatest, any}
-use Rattle.model.specs.Vectors.{same, above, plus, equal, before, isZero}
+use Rattle.model.specs.Vectors.{−1, same, above, plus, equal, before, isZero}
 use Rattle.model.specs.Geometry.{cellCount, place, natural, position, firstEntry, otherEntries, leastFrom, least, lows, extent, extents, iterationCount, indices, fromLows, iteration, reads, distance}
 use Rattle.model.specs.Values.{sizesOf, offsetOf, offsetsOf, capacitiesOf, trimmed, chainOf, requestOf}
 use Rattle.model.specs.Iterations.{cellsOf, iterationsOf, readsOf, distanceOf}
@@ -95,10 +95,6 @@ expected (plans sizes offsets number order capacities) =
     record { number = number; offsets = order; capacities = capacities; outcome = 0; cells = 0; clocks = 0; firing = []; words = [] }
 expected (runs sizes offsets capacities outcome cells clocks firing words) =
     record { number = 0; offsets = offsets; capacities = capacities; outcome = outcome; cells = cells; clocks = clocks; firing = firing; words = words }
-
--- Whole numbers and vectors, written short.
-abbrev pub −1 : ℤ
-−1 = negsuc 0
 
 -- The five-point cross: centre and its four neighbours, in falling order.
 unfoldable pub cross : List (List ℤ)

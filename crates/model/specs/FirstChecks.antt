@@ -59,6 +59,6 @@ pub record FirstChecks : Type 0 where
       → AnswersFirst (valueNumbers ++ (10 ∷ 11 ∷ [])) (valueConditions t ++ (shortStore t store ∷ badState (layout t) (countersOf (t .count) s) ∷ [])) (judgeRun t s store)
   -- 12 is "looked at last".
   pub write : (c : Chain) (room : ℕ) → AnswersFirst (valueNumbers ++ (12 ∷ [])) (valueConditions (trimmed c) ++ (ltb room (length (sheetOf c)) ∷ [])) (writeVerdict c room)
-  -- A sheet's line: form 1, order 2, a bad count 3, a wrong length 1, sizes 3, a 33rd `02` line 4; and a line where a cell is wanted: 1, then 2.
-  pub line : (chainSheet : Bool) (r : Reading) (l : Seen) → AnswersFirst (1 ∷ 2 ∷ 3 ∷ 1 ∷ 3 ∷ 4 ∷ []) (conditionsOf (lineChecks chainSheet r l)) (lineVerdict chainSheet r l)
+  -- A sheet's line: form 1, order 2, a bad count 3, a wrong length 1, sizes 3, a 33rd `02` line 4, a bad name 13; and a line where a cell is wanted: 1, then 2.
+  pub line : (chainSheet : Bool) (r : Reading) (l : Seen) → AnswersFirst (1 ∷ 2 ∷ 3 ∷ 1 ∷ 3 ∷ 4 ∷ 13 ∷ []) (conditionsOf (lineChecks chainSheet r l)) (lineVerdict chainSheet r l)
   pub cell : (l : Seen) → AnswersFirst (1 ∷ 2 ∷ []) (malformed (l .sound) (l .len) (kindOf l) (secondOf l) ∷ not (eqb (kindOf l) 5) ∷ []) (cellVerdict l)

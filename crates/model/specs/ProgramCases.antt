@@ -24,11 +24,12 @@ use Rattle.model.specs.Lines.{linesOf}
 use Rattle.model.specs.Frames.{isDigit, valueOf, digitOf, whole, bytesOf, digitsOf, framed, padded, seenOf}
 use Rattle.model.specs.Numbers.{halfAt, wordAt, halfBytes, wordBytes, signed, pattern}
 use Rattle.model.specs.Reading.{badKernel, badForm, malformed, nextInRequest, nextInChain, miscounted, among, misplaced, badLength, sizesIn, lineChecks, lineVerdict}
-use Rattle.model.specs.Reading.{withGrid, entriesIn, withOffset, withCapacity, kernelIn, withKernel, taken, stepOf, closes, complete, readLines, endVerdict}
+use Rattle.model.specs.NamedWindows.{windows, isName, namedOf, badName, withReferences, windowNamed}
+use Rattle.model.specs.Reading.{withGrid, entriesIn, withOffset, withName, withCapacity, kernelIn, withKernel, taken, stepOf, closes, complete, readLines, endVerdict}
 use Rattle.model.specs.Reading.{readRequest, cellVerdict}
 use Rattle.model.specs.Writing.{gridLine, offsetLine, capacityLine, kernelLine, chainLines, sheetOf}
 use Rattle.model.specs.Programs.{firingLine, endLine, refusalLine, firingsText, planText, sheetAndBehind, cellsIn, behindCells, wholeRun, runText}
-use Rattle.model.specs.SheetCases.{bytesIn, five, printed, sameBytes}
+use Rattle.model.specs.SheetCases.{bytesIn, five, plane, printed, sameBytes}
 
 -- What stands on standard input, and what is written.
 pub record Listing : Type 0 where
@@ -44,6 +45,10 @@ plans =
     ∷ listing "" "1F02\n"
     ∷ listing (five ++ "020000\n020000\n0400\n") "1F05\n"
     ∷ listing (five ++ "020000\n020000\n0400\n05\n") "1F01\n"
+    -- case 6, its window by name; a name of other dimensions
+    ∷ listing (plane ++ "0701\n0400\n")
+    (plane ++ "0200010000\n0200000001\n0200000000\n020000FFFF\n02FFFF0000\n0300000004\n0300000001\n0300000001\n0300000004\n0400\n")
+    ∷ listing (plane ++ "0704\n0400\n") "1F0D\n"
     ∷ []
 
 -- Document 01's two firings, and the first of them.
@@ -75,6 +80,7 @@ runs =
     -- too few cells; another line where a cell is wanted; a cell's line that is malformed, or lacks its LF
     ∷ listing (printed ++ four) (firing ++ "110200000004\n")
     ∷ listing (printed ++ four ++ "0400\n") (firing ++ "1F02\n")
+    ∷ listing (printed ++ four ++ "0706\n") (firing ++ "1F02\n")
     ∷ listing (printed ++ four ++ "05000000\n") (firing ++ "1F01\n")
     ∷ listing (printed ++ four ++ "0500000005") (firing ++ "1F01\n")
     -- case 8 is starved until a cell is lent; case 7 takes ten cells, and stalls with the eleventh
@@ -108,7 +114,7 @@ unfolding bytesIn plans runs sameBytes planRight runRight flatMap ofBits toBits 
     layout words clocked look call termsOf writesOf writtenBy widthOf
     linesOf isDigit valueOf digitOf whole bytesOf digitsOf framed padded halfAt wordAt halfBytes wordBytes signed pattern
     badKernel badForm malformed nextInRequest nextInChain miscounted among misplaced badLength sizesIn lineChecks lineVerdict
-    withGrid entriesIn withOffset withCapacity kernelIn withKernel taken stepOf closes complete readLines endVerdict readRequest cellVerdict
+    windows isName namedOf badName withReferences windowNamed withGrid entriesIn withOffset withName withCapacity kernelIn withKernel taken stepOf closes complete readLines endVerdict readRequest cellVerdict
     gridLine offsetLine capacityLine kernelLine chainLines sheetOf
     firingLine endLine refusalLine firingsText planText sheetAndBehind cellsIn behindCells wholeRun runText
 table = refl

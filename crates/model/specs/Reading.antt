@@ -1,11 +1,10 @@
--- Reading a sheet line by line (document 01, "Lines of the sheet", "Turned back on account of the input").
+-- Reading a sheet line by line (document 01, "Lines of the sheet", "Turned back on account of the input"; document 02, request 1).
 use Prim.Native.Nat.{ℕ, _+_, _*_}
 use mathlib.Core.Bool.{Bool, true, false, cond, not, _&&_}
 use mathlib.Core.List.{List, [], _∷_}
 use lib.Dec.{eqb, leb, ltb}
 use lib.IntN.{ℤ}
 use lib.ListN.{take, set}
-use lib.Seq.{sets}
 use lib.Ieee.{ofBits, binary32}
 use Rattle.model.specs.declared.Kernel.{Kernel}
 use Rattle.model.specs.declared.Kernel.the-variants as kernel
@@ -19,15 +18,16 @@ use Rattle.model.specs.declared.LineStep.{LineStep}
 use Rattle.model.specs.declared.ReadChain.{ReadChain}
 use Rattle.model.specs.declared.ReadRequest.{ReadRequest}
 use Rattle.model.specs.Lists.{any}
-use Rattle.model.specs.Values.{blankChain, requestOf, setGrid, setWindow, setCapacities, setKernel}
+use Rattle.model.specs.Values.{withReference, blankChain, requestOf, setGrid, setWindow, setCapacities, setKernel}
 use Rattle.model.specs.Answers.{Check, check, firstOf, byVerdict}
 use Rattle.model.specs.Judging.{badDims, badSizes, judgeChain}
 use Rattle.model.specs.Planning.{judgeRequest}
 use Rattle.model.specs.Lines.{Line, linesOf}
 use Rattle.model.specs.Frames.{Seen, seenOf}
 use Rattle.model.specs.Numbers.{byteAt, halfAt, wordAt, signed}
+use Rattle.model.specs.NamedWindows.{badName, windowNamed}
 
--- The first byte, which says what kind of line it is; and the second: the dimension count of an `01` line, the kernel byte of an `04` line.
+-- The first byte, which says what kind of line it is; and the second: the dimension count of an `01` line, the kernel byte of an `04` line, the name of an `07` line.
 abbrev pub kindOf : Seen → ℕ
 kindOf l = byteAt (l .first) 0
 
@@ -50,17 +50,19 @@ badForm len kind second =
     (cond (eqb kind 3) (not (eqb len 5))
     (cond (eqb kind 4) (badKernel len second)
     (cond (eqb kind 5) (not (eqb len 5))
-    true))))
+    (cond (eqb kind 7) (not (eqb len 2))
+    true)))))
 
 -- 1, before the order of lines: no sound frame, an empty line, or a bad form.
 unfoldable pub malformed : (sound : Bool) (len kind second : ℕ) → Bool
 malformed sound len kind second = cond sound (cond (eqb len 0) true (badForm len kind second)) true
 
--- What may come next, by what stood last: "A request sheet is one `01`, one or more `02`, one `04`."
+-- What may come next, by what stood last: "A request sheet is one `01`, one or more `02`, one `04`."; "A line `07` with one byte may stand for all `02` lines".
 unfoldable pub nextInRequest : Last → List ℕ
 nextInRequest stood.Nothing = 1 ∷ []
-nextInRequest stood.Grid = 2 ∷ []
+nextInRequest stood.Grid = 2 ∷ 7 ∷ []
 nextInRequest stood.Offset = 2 ∷ 4 ∷ []
+nextInRequest stood.Name = 4 ∷ []
 nextInRequest stood.Capacity = []
 nextInRequest stood.Kernel = []
 
@@ -69,6 +71,7 @@ unfoldable pub nextInChain : Last → List ℕ
 nextInChain stood.Nothing = 1 ∷ []
 nextInChain stood.Grid = 2 ∷ []
 nextInChain stood.Offset = 2 ∷ 3 ∷ 4 ∷ []
+nextInChain stood.Name = []
 nextInChain stood.Capacity = 3 ∷ 4 ∷ []
 nextInChain stood.Kernel = []
 
@@ -101,7 +104,8 @@ unfoldable pub sizesIn : List ℕ → List ℕ
 sizesIn x = wordAt x 2 ∷ wordAt x 6 ∷ wordAt x 10 ∷ wordAt x 14 ∷ []
 
 -- "On one line 1 comes before 2, but a length that another line sets, as in `02`, is checked after 2; on an `01` line a fault of the frame or a missing count
--- is 1, then its order 2, then a bad count 3, then a wrong length 1, then sizes 3. 4 comes at the 33rd line, after 1 and 2."
+-- is 1, then its order 2, then a bad count 3, then a wrong length 1, then sizes 3. 4 comes at the 33rd line, after 1 and 2." 13 is "looked at on its line, after
+-- 1 and 2".
 unfoldable pub lineChecks : (chainSheet : Bool) → Reading → Seen → List Check
 lineChecks chainSheet r l =
     let kind = kindOf l in
@@ -113,6 +117,7 @@ lineChecks chainSheet r l =
     ∷ check (badLength (l .len) kind second (r .chain .grid .dims)) refusal.Malformed
     ∷ check (eqb kind 1 && badSizes (take second (sizesIn (l .first)))) refusal.BadGrid
     ∷ check (eqb kind 2 && leb 32 count) refusal.BadCount
+    ∷ check (eqb kind 7 && badName second (r .chain .grid .dims)) refusal.BadName
     ∷ []
 
 unfoldable pub lineVerdict : (chainSheet : Bool) → Reading → Seen → Verdict
@@ -130,12 +135,12 @@ entriesIn x = signed (halfAt x 1) ∷ signed (halfAt x 3) ∷ signed (halfAt x 5
 -- An `02` line: the next reference's offset.
 unfoldable pub withOffset : Reading → List ℕ → Reading
 withOffset r x =
-    let w = r .chain .window in
-    record {
-      last = stood.Offset;
-      given = r .given;
-      chain = setWindow (record { count = w .count + 1; offsets = sets (w .offsets) (4 * w .count) (entriesIn x) }) (r .chain);
-    }
+    record { last = stood.Offset; given = r .given; chain = setWindow (withReference (r .chain .window) (entriesIn x)) (r .chain) }
+
+-- An `07` line: the window of that name.
+unfoldable pub withName : Reading → List ℕ → Reading
+withName r x =
+    record { last = stood.Name; given = r .given; chain = setWindow (windowNamed (byteAt x 1)) (r .chain) }
 
 -- An `03` line: the next FIFO's capacity.
 unfoldable pub withCapacity : Reading → List ℕ → Reading
@@ -160,7 +165,11 @@ withKernel r x =
 unfoldable pub taken : Reading → List ℕ → Reading
 taken r x =
     let kind = byteAt x 0 in
-    cond (eqb kind 1) (withGrid r x) (cond (eqb kind 2) (withOffset r x) (cond (eqb kind 3) (withCapacity r x) (withKernel r x)))
+    cond (eqb kind 1) (withGrid r x)
+    (cond (eqb kind 2) (withOffset r x)
+    (cond (eqb kind 3) (withCapacity r x)
+    (cond (eqb kind 7) (withName r x)
+    (withKernel r x))))
 
 -- One line, read.
 unfoldable pub stepOf : (chainSheet : Bool) → Reading → Seen → LineStep
@@ -177,6 +186,7 @@ unfoldable pub closes : Last → Bool
 closes stood.Nothing = false
 closes stood.Grid = false
 closes stood.Offset = false
+closes stood.Name = false
 closes stood.Capacity = false
 closes stood.Kernel = true
 

@@ -23,7 +23,8 @@ use Rattle.model.specs.Lines.{linesOf}
 use Rattle.model.specs.Frames.{isDigit, valueOf, digitOf, whole, bytesOf, digitsOf, framed, padded, seenOf}
 use Rattle.model.specs.Numbers.{halfAt, wordAt, halfBytes, wordBytes, signed, pattern}
 use Rattle.model.specs.Reading.{badKernel, badForm, malformed, nextInRequest, nextInChain, miscounted, among, misplaced, badLength, sizesIn, lineChecks, lineVerdict}
-use Rattle.model.specs.Reading.{withGrid, entriesIn, withOffset, withCapacity, kernelIn, withKernel, taken, stepOf, closes, complete, readLines, endVerdict}
+use Rattle.model.specs.NamedWindows.{windows, isName, namedOf, badName, withReferences, windowNamed}
+use Rattle.model.specs.Reading.{withGrid, entriesIn, withOffset, withName, withCapacity, kernelIn, withKernel, taken, stepOf, closes, complete, readLines, endVerdict}
 use Rattle.model.specs.Reading.{readChain, readRequest, cellVerdict}
 use Rattle.model.specs.Writing.{gridLine, offsetLine, capacityLine, kernelLine, chainLines, sheetOf, writeVerdict, writeOf}
 
@@ -47,6 +48,13 @@ case t n = record { sheet = t; number = n }
 -- A grid of size 5.
 abbrev pub five : String
 five = "010100000005\n"
+
+-- A grid of 4 rows of 5 cells, and one of 3 by 4 by 3.
+abbrev pub plane : String
+plane = "01020000000400000005\n"
+
+abbrev pub solid : String
+solid = "0103000000030000000400000003\n"
 
 -- Document 01's chain sheet.
 abbrev pub printed : String
@@ -122,6 +130,41 @@ requests =
     ∷ case (five ++ "020001\n04037F80000000000000\n") 7
     ∷ case (five ++ "020000\n04027FC00000\n") 8
     ∷ case "010100004E20\n020000\n024001\n0400\n" 9
+    -- an `07` line: each name, on a grid of its dimensions
+    ∷ case (plane ++ "0701\n0400\n") 0
+    ∷ case (plane ++ "0702\n0400\n") 0
+    ∷ case (plane ++ "0703\n0400\n") 0
+    ∷ case (solid ++ "0704\n0400\n") 0
+    ∷ case (solid ++ "0705\n0400\n") 0
+    -- no name; a name of other dimensions
+    ∷ case (plane ++ "0700\n0400\n") 13
+    ∷ case (plane ++ "0706\n0400\n") 13
+    ∷ case (plane ++ "07FF\n0400\n") 13
+    ∷ case (five ++ "0701\n0400\n") 13
+    ∷ case (solid ++ "0702\n0400\n") 13
+    ∷ case (solid ++ "0703\n0400\n") 13
+    ∷ case (plane ++ "0704\n0400\n") 13
+    ∷ case (plane ++ "0705\n0400\n") 13
+    -- its length first, also out of its order
+    ∷ case (plane ++ "07\n") 1
+    ∷ case (plane ++ "070101\n") 1
+    ∷ case "07\n" 1
+    ∷ case (plane ++ "0701\n070101\n") 1
+    -- then its order, whatever the byte: first, behind an `02`, an `07` or the `04`; then the byte, before a line behind it and behind the line before it
+    ∷ case "0700\n" 2
+    ∷ case (plane ++ "0200000000\n0700\n") 2
+    ∷ case (plane ++ "0701\n0700\n") 2
+    ∷ case (plane ++ "0701\n0400\n0700\n") 2
+    ∷ case (plane ++ "0706\n\n") 13
+    ∷ case "01020000000400000000\n0706\n" 3
+    -- lines behind it; none
+    ∷ case (plane ++ "0701\n0200000000\n0400\n") 2
+    ∷ case (plane ++ "0701\n0300000001\n") 2
+    ∷ case (plane ++ "0701\n") 2
+    -- 6, 7 and 9 of its offsets
+    ∷ case "01020000000200000005\n0701\n0400\n" 6
+    ∷ case (plane ++ "0702\n0401\n") 7
+    ∷ case "01030000000300000003000186A0\n0704\n0400\n" 9
     ∷ []
 
 unfoldable pub chains : List Case
@@ -150,6 +193,11 @@ chains =
     ∷ case "010100010000\n027FFF\n028000\n0300004000\n0400\n" 0
     ∷ case (five ++ "020003\n020000\n0300004001\n0400\n") 9
     ∷ case (five ++ "020003\n020001\n020000\n0380000000\n0380000000\n0400\n") 9
+    -- an `07` line, which has no place here; its length comes first
+    ∷ case (plane ++ "0701\n0400\n") 2
+    ∷ case (plane ++ "0700\n") 2
+    ∷ case (five ++ "020000\n0701\n") 2
+    ∷ case (plane ++ "07\n") 1
     ∷ []
 
 -- Lines where a cell is wanted.
@@ -162,6 +210,8 @@ cells =
     ∷ case "0400\n" 2
     ∷ case "0109\n" 2
     ∷ case "02\n" 2
+    ∷ case "0700\n" 2
+    ∷ case "07\n" 1
     ∷ []
 
 unfoldable pub sameBytes : List ℕ → List ℕ → Bool
@@ -211,6 +261,6 @@ unfolding bytesIn times requests chains cells sameBytes requestRight writesBack 
     insert falling sorted distances trimmedRequest judgeRequest trimmed
     linesOf isDigit valueOf digitOf whole bytesOf digitsOf framed padded halfAt wordAt halfBytes wordBytes signed pattern
     badKernel badForm malformed nextInRequest nextInChain miscounted among misplaced badLength sizesIn lineChecks lineVerdict
-    withGrid entriesIn withOffset withCapacity kernelIn withKernel taken stepOf closes complete readLines endVerdict readChain readRequest cellVerdict
+    windows isName namedOf badName withReferences windowNamed withGrid entriesIn withOffset withName withCapacity kernelIn withKernel taken stepOf closes complete readLines endVerdict readChain readRequest cellVerdict
     gridLine offsetLine capacityLine kernelLine chainLines sheetOf writeVerdict writeOf
 table = refl

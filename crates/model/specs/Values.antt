@@ -4,6 +4,7 @@ use mathlib.Core.List.{List, []}
 use mathlib.Core.Path.{_≡_}
 use lib.IntN.{ℤ, pos}
 use lib.ListN.{getD, replicate}
+use lib.Seq.{sets}
 use Rattle.model.specs.Lists.{tabulate}
 use Rattle.model.specs.declared.Grid.{Grid}
 use Rattle.model.specs.declared.Window.{Window}
@@ -68,11 +69,18 @@ chainOf t = record {
   kernel = t .kernel;
 }
 
+-- A window without references, and a window with one reference more, whose offset has these entries.
+abbrev pub blankWindow : Window
+blankWindow = record { count = 0; offsets = replicate 128 (pos 0) }
+
+abbrev pub withReference : Window → List ℤ → Window
+withReference w entries = record { count = w .count + 1; offsets = sets (w .offsets) (4 * w .count) entries }
+
 -- What a refusal hands back in place of a chain: all counts and entries 0, and raw.
 abbrev pub blankChain : Chain
 blankChain = record {
   grid = record { dims = 0; sizes = replicate 4 0 };
-  window = record { count = 0; offsets = replicate 128 (pos 0) };
+  window = blankWindow;
   capacities = replicate 31 0;
   kernel = kernel.Raw;
 }

@@ -6,6 +6,9 @@ use lib.Dec.{eqb}
 use lib.IntN.{ℤ, pos, negsuc, _+ℤ_}
 use lib.Signed.{ltZ}
 
+abbrev pub −1 : ℤ
+−1 = negsuc 0
+
 unfoldable pub same : ℤ → ℤ → Bool
 same (pos a) (pos b) = eqb a b
 same (pos a) (negsuc b) = false

@@ -18,6 +18,9 @@ pub struct Window {
     pub offsets: [i16; 128],
 }
 
+// An offset of a window that has a name, by its entries; of a window of two dimensions the third is 0.
+pub struct Triple(pub i16, pub i16, pub i16);
+
 // The two factors of a blend.
 pub struct Factors {
     pub a: f32,
@@ -75,7 +78,7 @@ pub const STALLED_BYTE: u8 = 1;
 
 pub const STARVED_BYTE: u8 = 2;
 
-// Why input is turned back, from number 1 to 12.
+// Why input is turned back, from number 1 to 13.
 pub enum Refusal {
     Malformed,
     Misplaced,
@@ -89,6 +92,7 @@ pub enum Refusal {
     ShortStore,
     BadState,
     ShortOutput,
+    BadName,
 }
 
 // What judging answers.
@@ -129,11 +133,12 @@ pub struct Frame {
     pub high: u8,
 }
 
-// Which of a sheet's lines stood last: none, or an `01`, `02`, `03` or `04` line.
+// Which of a sheet's lines stood last: none, or an `01`, `02`, `07`, `03` or `04` line.
 pub enum Last {
     Nothing,
     Grid,
     Offset,
+    Name,
     Capacity,
     Kernel,
 }

@@ -18,9 +18,10 @@ use Rattle.model.specs.Answers.{Check, check, firstOf, byVerdict}
 use Rattle.model.specs.Judging.{badDims, badSizes}
 use Rattle.model.specs.Frames.{Seen}
 use Rattle.model.specs.Numbers.{byteAt}
+use Rattle.model.specs.NamedWindows.{badName}
 use Rattle.model.specs.Reading.{kindOf, secondOf, badKernel, badForm, malformed, badLength, sizesIn, lineChecks, lineVerdict}
 use Rattle.model.specs.Reading.{nextInRequest, nextInChain, miscounted, among, misplaced, closes, complete}
-use Rattle.model.specs.Reading.{taken, withGrid, withOffset, withCapacity, withKernel}
+use Rattle.model.specs.Reading.{taken, withGrid, withOffset, withName, withCapacity, withKernel}
 use Rattle.sheet_laws.proofs.Cases.{by-eq, never, of-kind, both, neither, or-false}
 
 -- A refusal is no acceptance.
@@ -33,14 +34,21 @@ unfolding firstOf
 clear true r cs h = absurd (refused-accepted h)
 clear false r cs h = (refl, h)
 
+-- What stood last where the `04` line is in its place: an `02` line, in a chain sheet an `03` line, in a request sheet an `07` line.
+pub data BehindWindow (chainSheet : Bool) (last : Last) : Type 0 where
+  offsets : last ≡ stood.Offset → BehindWindow chainSheet last
+  capacities : last ≡ stood.Capacity → BehindWindow chainSheet last
+  named : chainSheet ≡ false → last ≡ stood.Name → BehindWindow chainSheet last
+
 -- A line that is not turned back: one case for each kind, with what was checked of it.
 pub data Admitted (chainSheet : Bool) (r : Reading) (l : Seen) : Type 0 where
   grid : kindOf l ≡ 1 → r .last ≡ stood.Nothing → 0 < secondOf l → secondOf l ≤ 4 → l .len ≡ 2 + 4 * secondOf l
       → badSizes (take (secondOf l) (sizesIn (l .first))) ≡ false → Admitted chainSheet r l
   offset : kindOf l ≡ 2 → (r .last ≡ stood.Grid) ⊎ (r .last ≡ stood.Offset) → l .len ≡ 1 + 2 * r .chain .grid .dims → r .chain .window .count < 32 → Admitted chainSheet r l
   capacity : kindOf l ≡ 3 → (r .last ≡ stood.Offset) ⊎ (r .last ≡ stood.Capacity) → chainSheet ≡ true → r .given + 1 < r .chain .window .count → l .len ≡ 5 → Admitted chainSheet r l
-  kernel : kindOf l ≡ 4 → (r .last ≡ stood.Offset) ⊎ (r .last ≡ stood.Capacity) → (chainSheet ≡ true → r .chain .window .count ≡ r .given + 1)
+  kernel : kindOf l ≡ 4 → BehindWindow chainSheet (r .last) → (chainSheet ≡ true → r .chain .window .count ≡ r .given + 1)
       → badKernel (l .len) (secondOf l) ≡ false → Admitted chainSheet r l
+  name : kindOf l ≡ 7 → r .last ≡ stood.Grid → chainSheet ≡ false → l .len ≡ 2 → badName (secondOf l) (r .chain .grid .dims) ≡ false → Admitted chainSheet r l
 
 -- The tests that came out false, on plain numbers.
 module _ (sound : Bool) (len kind second : ℕ) (h : malformed sound len kind second ≡ false) where
@@ -56,12 +64,16 @@ module _ (sound : Bool) (len kind second : ℕ) (h : malformed sound len kind se
   unfolding badForm
   formed-kernel e = rw e at (well-formed .1)
 
-  formed-cell : (kind ≡ 1 → ⊥) → (kind ≡ 2 → ⊥) → (kind ≡ 3 → ⊥) → (kind ≡ 4 → ⊥) → kind ≡ 5
+  formed-name : kind ≡ 7 → len ≡ 2
   unfolding badForm
-  formed-cell a b c d =
+  formed-name e = eqb-true len 2 (not-false _ (rw e at (well-formed .1)))
+
+  formed-cell : (kind ≡ 1 → ⊥) → (kind ≡ 2 → ⊥) → (kind ≡ 3 → ⊥) → (kind ≡ 4 → ⊥) → (kind ≡ 7 → ⊥) → kind ≡ 5
+  unfolding badForm
+  formed-cell a b c d f =
       by-eq kind 5
       (λ e. e)
-      (λ e. absurd (never (simp (ne-eqb _ _ a, ne-eqb _ _ b, ne-eqb _ _ c, ne-eqb _ _ d, ne-eqb _ _ e) at (well-formed .1))))
+      (λ e. absurd (never (simp (ne-eqb _ _ a, ne-eqb _ _ b, ne-eqb _ _ c, ne-eqb _ _ d, ne-eqb _ _ e, ne-eqb _ _ f) at (well-formed .1))))
 
 -- What stood last, where a line of each kind is in its place.
 module _ (given count : ℕ) where
@@ -72,6 +84,8 @@ module _ (given count : ℕ) where
   placed-grid false stood.Grid h = absurd (never h)
   placed-grid true stood.Offset h = absurd (never h)
   placed-grid false stood.Offset h = absurd (never h)
+  placed-grid true stood.Name h = absurd (never h)
+  placed-grid false stood.Name h = absurd (never h)
   placed-grid true stood.Capacity h = absurd (never h)
   placed-grid false stood.Capacity h = absurd (never h)
   placed-grid true stood.Kernel h = absurd (never h)
@@ -83,6 +97,8 @@ module _ (given count : ℕ) where
   placed-offset false stood.Nothing h = absurd (never h)
   placed-offset chainSheet stood.Grid h = inl refl
   placed-offset chainSheet stood.Offset h = inr refl
+  placed-offset true stood.Name h = absurd (never h)
+  placed-offset false stood.Name h = absurd (never h)
   placed-offset true stood.Capacity h = absurd (never h)
   placed-offset false stood.Capacity h = absurd (never h)
   placed-offset true stood.Kernel h = absurd (never h)
@@ -94,25 +110,29 @@ module _ (given count : ℕ) where
   placed-capacity true stood.Nothing h = absurd (never h)
   placed-capacity true stood.Grid h = absurd (never h)
   placed-capacity true stood.Offset h = (inl refl, refl, leb-false _ _ h)
+  placed-capacity true stood.Name h = absurd (never h)
   placed-capacity true stood.Capacity h = (inr refl, refl, leb-false _ _ h)
   placed-capacity true stood.Kernel h = absurd (never h)
   placed-capacity false stood.Nothing h = absurd (never h)
   placed-capacity false stood.Grid h = absurd (never h)
   placed-capacity false stood.Offset h = absurd (never h)
+  placed-capacity false stood.Name h = absurd (never h)
   placed-capacity false stood.Capacity h = absurd (never h)
   placed-capacity false stood.Kernel h = absurd (never h)
 
   placed-kernel : (chainSheet : Bool) (last : Last) → misplaced chainSheet last given count 4 ≡ false
-      → ((last ≡ stood.Offset) ⊎ (last ≡ stood.Capacity)) × (chainSheet ≡ true → count ≡ given + 1)
+      → BehindWindow chainSheet last × (chainSheet ≡ true → count ≡ given + 1)
   unfolding misplaced among any nextInRequest nextInChain miscounted
   placed-kernel true stood.Nothing h = absurd (never h)
   placed-kernel true stood.Grid h = absurd (never h)
-  placed-kernel true stood.Offset h = (inl refl, λ z. eqb-true _ _ (not-false _ h))
-  placed-kernel true stood.Capacity h = (inr refl, λ z. eqb-true _ _ (not-false _ h))
+  placed-kernel true stood.Offset h = (offsets refl, λ z. eqb-true _ _ (not-false _ h))
+  placed-kernel true stood.Name h = absurd (never h)
+  placed-kernel true stood.Capacity h = (capacities refl, λ z. eqb-true _ _ (not-false _ h))
   placed-kernel true stood.Kernel h = absurd (never h)
   placed-kernel false stood.Nothing h = absurd (never h)
   placed-kernel false stood.Grid h = absurd (never h)
-  placed-kernel false stood.Offset h = (inl refl, λ z. absurd (never (sym z)))
+  placed-kernel false stood.Offset h = (offsets refl, λ z. absurd (never (sym z)))
+  placed-kernel false stood.Name h = (named refl refl, λ z. absurd (never (sym z)))
   placed-kernel false stood.Capacity h = absurd (never h)
   placed-kernel false stood.Kernel h = absurd (never h)
 
@@ -121,13 +141,30 @@ module _ (given count : ℕ) where
   never-cell true stood.Nothing h = never h
   never-cell true stood.Grid h = never h
   never-cell true stood.Offset h = never h
+  never-cell true stood.Name h = never h
   never-cell true stood.Capacity h = never h
   never-cell true stood.Kernel h = never h
   never-cell false stood.Nothing h = never h
   never-cell false stood.Grid h = never h
   never-cell false stood.Offset h = never h
+  never-cell false stood.Name h = never h
   never-cell false stood.Capacity h = never h
   never-cell false stood.Kernel h = never h
+
+  placed-name : (chainSheet : Bool) (last : Last) → misplaced chainSheet last given count 7 ≡ false → (last ≡ stood.Grid) × (chainSheet ≡ false)
+  unfolding misplaced among any nextInRequest nextInChain
+  placed-name true stood.Nothing h = absurd (never h)
+  placed-name true stood.Grid h = absurd (never h)
+  placed-name true stood.Offset h = absurd (never h)
+  placed-name true stood.Name h = absurd (never h)
+  placed-name true stood.Capacity h = absurd (never h)
+  placed-name true stood.Kernel h = absurd (never h)
+  placed-name false stood.Nothing h = absurd (never h)
+  placed-name false stood.Grid h = (refl, refl)
+  placed-name false stood.Offset h = absurd (never h)
+  placed-name false stood.Name h = absurd (never h)
+  placed-name false stood.Capacity h = absurd (never h)
+  placed-name false stood.Kernel h = absurd (never h)
 
 pub dims-in-order : (dims : ℕ) → badDims dims ≡ false → (0 < dims) × (dims ≤ 4)
 unfolding badDims
@@ -153,7 +190,8 @@ admitted chainSheet r l h =
     let size = clear _ _ _ (dims .1) in
     let sizes = clear _ _ _ (size .1) in
     let many = clear _ _ _ (sizes .1) in
-    go (form .0) (order .0) (dims .0) (size .0) (sizes .0) (many .0)
+    let names = clear _ _ _ (many .1) in
+    go (form .0) (order .0) (dims .0) (size .0) (sizes .0) (many .0) (names .0)
   where
     go : malformed (l .sound) (l .len) (kindOf l) (secondOf l) ≡ false
         → misplaced chainSheet (r .last) (r .given) (r .chain .window .count) (kindOf l) ≡ false
@@ -161,8 +199,9 @@ admitted chainSheet r l h =
         → badLength (l .len) (kindOf l) (secondOf l) (r .chain .grid .dims) ≡ false
         → (eqb (kindOf l) 1 && badSizes (take (secondOf l) (sizesIn (l .first)))) ≡ false
         → (eqb (kindOf l) 2 && leb 32 (r .chain .window .count)) ≡ false
+        → (eqb (kindOf l) 7 && badName (secondOf l) (r .chain .grid .dims)) ≡ false
         → (l .sound ≡ true) × Admitted chainSheet r l
-    go form order dims size sizes many =
+    go form order dims size sizes many names =
         let given = r .given in
         let count = r .chain .window .count in (
           well-formed _ _ _ _ form .0,
@@ -176,7 +215,9 @@ admitted chainSheet r l h =
               capacity e (p .0) (p .1) (p .2) (formed-capacity _ _ _ _ form e))
               (λ n3. by-eq (kindOf l) 4
               (λ e. let p = placed-kernel given count chainSheet (r .last) (rw e at order) in kernel e (p .0) (p .1) (formed-kernel _ _ _ _ form e))
-              (λ n4. let e = formed-cell _ _ _ _ form n1 n2 n3 n4 in absurd (never-cell given count chainSheet (r .last) (rw e at order)))))),
+              (λ n4. by-eq (kindOf l) 7
+              (λ e. let p = placed-name given count chainSheet (r .last) (rw e at order) in name e (p .0) (p .1) (formed-name _ _ _ _ form e) (of-kind _ 7 _ names e))
+              (λ n7. let e = formed-cell _ _ _ _ form n1 n2 n3 n4 n7 in absurd (never-cell given count chainSheet (r .last) (rw e at order))))))),
         )
 
 -- No line comes behind the `04` line.
@@ -187,8 +228,10 @@ not-complete chainSheet r l (offset e (inl last) len count) = ap closes last
 not-complete chainSheet r l (offset e (inr last) len count) = ap closes last
 not-complete chainSheet r l (capacity e (inl last) chain given len) = ap closes last
 not-complete chainSheet r l (capacity e (inr last) chain given len) = ap closes last
-not-complete chainSheet r l (kernel e (inl last) given form) = ap closes last
-not-complete chainSheet r l (kernel e (inr last) given form) = ap closes last
+not-complete chainSheet r l (kernel e (offsets last) given form) = ap closes last
+not-complete chainSheet r l (kernel e (capacities last) given form) = ap closes last
+not-complete chainSheet r l (kernel e (named request last) given form) = ap closes last
+not-complete chainSheet r l (name e last request len ok) = ap closes last
 
 -- What a line of each kind adds.
 module _ (r : Reading) (x : List ℕ) where
@@ -207,3 +250,7 @@ module _ (r : Reading) (x : List ℕ) where
   pub taken-kernel : byteAt x 0 ≡ 4 → taken r x ≡ withKernel r x
   unfolding taken
   taken-kernel e = rw e
+
+  pub taken-name : byteAt x 0 ≡ 7 → taken r x ≡ withName r x
+  unfolding taken
+  taken-name e = rw e

@@ -16,11 +16,12 @@ use Rattle.model.specs.Judging.{badDims}
 use Rattle.model.specs.Frames.{kept, Seen, seenOf, emptyFrame, feeds, shown}
 use Rattle.model.specs.Numbers.{byteAt}
 use Rattle.model.specs.Reading.{badKernel, badForm, malformed, badLength, lineChecks, lineVerdict}
-use Rattle.model.specs.Reading.{taken, withGrid, withOffset, withCapacity, withKernel, stepOf, start, cellVerdict}
+use Rattle.model.specs.Reading.{taken, withGrid, withOffset, withName, withCapacity, withKernel, stepOf, start, cellVerdict}
+use Rattle.model.proofs.NameLaws.{few-references}
 use Rattle.sheet_laws.proofs.Cases.{by-bool, by-eq, by-lt, of-kind}
 use Rattle.sheet_laws.proofs.FrameLaws.{capped, capped-few, capped-many, seen-alike}
-use Rattle.sheet_laws.proofs.AcceptedLines.{Admitted, admitted, dims-in-order, taken-grid, taken-offset, taken-capacity, taken-kernel}
-use Rattle.sheet_laws.proofs.AcceptedLines.Admitted.{grid, offset, capacity, kernel}
+use Rattle.sheet_laws.proofs.AcceptedLines.{Admitted, admitted, dims-in-order, taken-grid, taken-offset, taken-name, taken-capacity, taken-kernel}
+use Rattle.sheet_laws.proofs.AcceptedLines.Admitted.{grid, offset, capacity, kernel, name}
 
 -- What the lengths of lines hang on is small.
 pub record Bounded (r : Reading) : Type 0 where
@@ -53,7 +54,7 @@ cap-kernel n second = rw (cap-eqb n 2 (omega arith), cap-eqb n 6 (omega arith), 
 
 cap-malformed : (sound : Bool) (n kind second : ℕ) → malformed sound (capped n) kind second ≡ malformed sound n kind second
 unfolding malformed badForm
-cap-malformed sound n kind second = rw (cap-kernel n second, cap-eqb n 0 (omega arith), cap-eqb n 5 (omega arith), cap-ltb n 2 (omega arith))
+cap-malformed sound n kind second = rw (cap-kernel n second, cap-eqb n 0 (omega arith), cap-eqb n 2 (omega arith), cap-eqb n 5 (omega arith), cap-ltb n 2 (omega arith))
 
 cap-length : (n kind second dims : ℕ) → dims ≤ 4 → (eqb kind 1 && badDims second) ≡ false → badLength (capped n) kind second dims ≡ badLength n kind second dims
 unfolding badLength
@@ -76,7 +77,7 @@ cap-verdict chainSheet r n x h =
     (λ b. rw (cap-malformed true n kind second, b) (behind-third _ _ refusal.BadGrid _ _))
     (λ b. rw (cap-malformed true n kind second, cap-length n kind second (r .chain .grid .dims) (h .dims) b))
 
-unsound-verdict : (chainSheet : Bool) (r : Reading) (l : Seen) → l .sound ≡ false → lineVerdict chainSheet r l ≡ verdict.Refused refusal.Malformed
+pub unsound-verdict : (chainSheet : Bool) (r : Reading) (l : Seen) → l .sound ≡ false → lineVerdict chainSheet r l ≡ verdict.Refused refusal.Malformed
 unfolding lineVerdict lineChecks malformed firstOf
 unsound-verdict chainSheet r l h = rw h
 
@@ -109,7 +110,7 @@ no-line-feed chainSheet r ds = rw (unsound-verdict chainSheet r (seenOf false ds
 
 -- What was read stays small.
 pub keeps-bounded : (chainSheet : Bool) (r : Reading) (l : Seen) → Bounded r → Bounded (stepOf chainSheet r l .reading)
-unfolding stepOf withGrid withOffset withCapacity withKernel
+unfolding stepOf withGrid withOffset withName withCapacity withKernel
 keeps-bounded chainSheet r l h = go (lineVerdict chainSheet r l) refl
   where
     by : Admitted chainSheet r l → Bounded (taken r (l .first))
@@ -117,6 +118,7 @@ keeps-bounded chainSheet r l h = go (lineVerdict chainSheet r l) refl
     by (offset e last len count) = rw (taken-offset _ _ e) (record { dims = h .dims; count = omega arith })
     by (capacity e last chain given len) = rw (taken-capacity _ _ e) (record { dims = h .dims; count = h .count })
     by (kernel e last given form) = rw (taken-kernel _ _ e) (record { dims = h .dims; count = h .count })
+    by (name e last request len ok) = rw (taken-name _ _ e) (record { dims = h .dims; count = few-references (byteAt (l .first) 1) })
 
     go : (v : Verdict) → lineVerdict chainSheet r l ≡ v → Bounded (byVerdict v (taken r (l .first)) (λ x. r))
     go verdict.Accepted e = by (admitted chainSheet r l e .1)

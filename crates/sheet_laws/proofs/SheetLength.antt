@@ -36,7 +36,7 @@ unfolding flatMap wordBytes
 words-length [] = refl
 words-length (w ∷ ws) = omega (arith, words-length ws)
 
-entries-length : (es : List ℤ) → length (flatMap (λ e. halfBytes (pattern e)) es) ≡ 2 * length es
+pub entries-length : (es : List ℤ) → length (flatMap (λ e. halfBytes (pattern e)) es) ≡ 2 * length es
 unfolding flatMap halfBytes
 entries-length [] = refl
 entries-length (e ∷ es) = omega (arith, entries-length es)

@@ -46,7 +46,7 @@ grid-front g h =
     let e : 2 + 4 * g .dims ≡ suc (suc (4 * g .dims)) = omega arith in
     rw e (ap (λ t. 1 ∷ g .dims ∷ t) (four-words (g .dims) (λ d. getD (g .sizes) d 0) h))
 
-offset-front : (d : ℕ) (w : Window) (k : ℕ) → d ≤ 4 → offsetLine (offsetOf d w k) ≡ take (1 + 2 * d) (offsetRow w k)
+pub offset-front : (d : ℕ) (w : Window) (k : ℕ) → d ≤ 4 → offsetLine (offsetOf d w k) ≡ take (1 + 2 * d) (offsetRow w k)
 unfolding offsetLine offsetRow offsetOf
 offset-front d w k h =
     let e : 1 + 2 * d ≡ suc (2 * d) = omega arith in

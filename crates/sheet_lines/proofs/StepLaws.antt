@@ -1,19 +1,15 @@
--- One line read: an accepted line has room; four entries, and a step by its verdict.
-use Prim.Native.Nat.{ℕ, suc, _+_}
+-- One line read: an accepted line has room; a step by its verdict.
+use Prim.Native.Nat.{ℕ}
 use mathlib.Core.Bool.{Bool}
-use mathlib.Core.List.{List, [], _∷_}
 use mathlib.Core.Path.{_≡_, sym, _∙_}
 use native.Mathlib.Omega.{arith}
-use lib.IntN.{ℤ}
-use lib.ListN.{length, getD, set}
-use lib.Seq.{sets}
 use Rattle.model.specs.declared.Reading.{Reading}
 use Rattle.model.specs.declared.Refusal.{Refusal}
 use Rattle.model.specs.declared.Verdict.the-variants as verdict
 use Rattle.model.specs.Frames.{Seen}
 use Rattle.model.specs.Reading.{lineVerdict, taken, stepOf}
 use Rattle.sheet_laws.proofs.AcceptedLines.{Admitted, admitted}
-use Rattle.sheet_laws.proofs.AcceptedLines.Admitted.{grid, offset, capacity, kernel}
+use Rattle.sheet_laws.proofs.AcceptedLines.Admitted.{grid, offset, capacity, kernel, name}
 use Rattle.sheet_lines.specs.Room.{Room}
 
 pub accepted-room : (chained : Bool) (r : Reading) (l : Seen) → lineVerdict chained r l ≡ verdict.Accepted → Room r (l .first)
@@ -26,21 +22,8 @@ accepted-room chained r l h = go (admitted chained r l h .1)
     go (grid e last some few len sizes) = record { offset = λ z. absurd (other e z (λ y. omega arith)); capacity = λ z. absurd (other e z (λ y. omega arith)) }
     go (offset e last len count) = record { offset = λ z. count; capacity = λ z. absurd (other e z (λ y. omega arith)) }
     go (capacity e last chain given len) = record { offset = λ z. absurd (other e z (λ y. omega arith)); capacity = λ z. given }
+    go (name e last request len ok) = record { offset = λ z. absurd (other e z (λ y. omega arith)); capacity = λ z. absurd (other e z (λ y. omega arith)) }
     go (kernel e last given form) = record { offset = λ z. absurd (other e z (λ y. omega arith)); capacity = λ z. absurd (other e z (λ y. omega arith)) }
-
--- Four entries, set one after the other.
-pub four-set : (o xs : List ℤ) (i : ℕ) (d : ℤ) → length xs ≡ 4
-    → set (set (set (set o i (getD xs 0 d)) (i + 1) (getD xs 1 d)) (i + 2) (getD xs 2 d)) (i + 3) (getD xs 3 d) ≡ sets o i xs
-four-set o [] i d h = absurd (omega arith)
-four-set o (x ∷ []) i d h = absurd (omega arith)
-four-set o (x ∷ y ∷ []) i d h = absurd (omega arith)
-four-set o (x ∷ y ∷ z ∷ []) i d h = absurd (omega arith)
-four-set o (x ∷ y ∷ z ∷ w ∷ []) i d h =
-    let e : i + 1 ≡ suc i = omega arith in
-    let f : i + 2 ≡ suc (suc i) = omega arith in
-    let g : i + 3 ≡ suc (suc (suc i)) = omega arith in
-    rw (e, f, g)
-four-set o (x ∷ y ∷ z ∷ w ∷ v ∷ vs) i d h = absurd (omega arith)
 
 module _ (chained : Bool) (r : Reading) (l : Seen) where
   pub step-accepted : (t : Reading) → lineVerdict chained r l ≡ verdict.Accepted → t ≡ taken r (l .first)

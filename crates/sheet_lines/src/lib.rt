@@ -12,10 +12,9 @@ use values::blank_chain;
 ghost use mathlib.Core.Path.{_≡_};
 ghost use Prim.Native.Nat.{_+_, _<_};
 ghost use lib.ListN.{set};
-ghost use lib.Seq.{sets};
 ghost use Rattle.model.specs.Frames.{shown};
 ghost use Rattle.model.specs.Lines.{linesOf};
-ghost use Rattle.model.specs.Reading.{withGrid, withOffset, withCapacity, withKernel, taken, stepOf, start, complete, readLines};
+ghost use Rattle.model.specs.Reading.{withGrid, withOffset, withName, withCapacity, withKernel, taken, stepOf, start, complete, readLines};
 ghost use Rattle.sheet_lines.specs.Room.{Room};
 
 // Before the first line.
@@ -41,18 +40,6 @@ fn with_grid(r: Reading, x: [u8; KEPT]) -> Reading
     }
 }
 
-fn set_entries(offsets: [i16; 128], at: usize, entries: [i16; 4]) -> [i16; 128]
-    requires { ⌜ at < 125 ⌝ }
-    ensures { λ s. ⌜ s ≡ sets offsets at entries ⌝ }
-{
-    let mut o = offsets;
-    o[at] = entries[0];
-    o[at + 1] = entries[1];
-    o[at + 2] = entries[2];
-    o[at + 3] = entries[3];
-    o
-}
-
 fn with_offset(r: Reading, x: [u8; KEPT]) -> Reading
     requires { ⌜ r .chain .window .count < 32 ⌝ }
     ensures { λ s. ⌜ s ≡ withOffset r x ⌝ }
@@ -61,15 +48,27 @@ fn with_offset(r: Reading, x: [u8; KEPT]) -> Reading
     let w = c.window;
     let count = w.count;
     let old = w.offsets;
-    let offsets = set_entries(old, 4 * (count as usize), sheet_fields::entries_in(x));
+    let offsets = sheet_windows::set_offset(old, count, sheet_fields::entries_in(x));
+    let next = count + 1;
     let window = Window {
-        count: count + 1,
+        count: next,
         offsets,
     };
     Reading {
         last: Last::Offset,
         given: r.given,
         chain: values::set_window(c, window),
+    }
+}
+
+fn with_name(r: Reading, x: [u8; KEPT]) -> Reading
+    ensures { λ s. ⌜ s ≡ withName r x ⌝ }
+{
+    let window = sheet_windows::window_of(x[1]);
+    Reading {
+        last: Last::Name,
+        given: r.given,
+        chain: values::set_window(r.chain, window),
     }
 }
 
@@ -125,6 +124,9 @@ fn take_line(r: Reading, x: [u8; KEPT]) -> Reading
     if kind == 3 {
         return with_capacity(r, x);
     }
+    if kind == 7 {
+        return with_name(r, x);
+    }
     with_kernel(r, x)
 }
 
@@ -158,6 +160,7 @@ pub fn is_complete(r: Reading) -> bool
         Last::Nothing => false,
         Last::Grid => false,
         Last::Offset => false,
+        Last::Name => false,
         Last::Capacity => false,
     }
 }
@@ -177,13 +180,21 @@ pub fn read_lines(chained: bool, sheet: &[u8]) -> LineStep
                 reading: r,
             };
         }
-        let s = step(chained, r, sheet_frames::frame(line));
-        let v = s.verdict;
+        // A step, taken apart: a reading is large, and so it is copied once less.
+        let f = sheet_frames::frame(line);
+        let v = sheet_verdicts::line_verdict(chained, r, f);
         match v {
             Verdict::Accepted => {}
-            Verdict::Refused(_) => return s,
+            Verdict::Refused(n) => {
+                return LineStep {
+                    verdict: Verdict::Refused(n),
+                    reading: r,
+                };
+            }
         }
-        r = s.reading;
+        let x = f.first;
+        let next = take_line(r, x);
+        r = next;
         at = end + 1;
     }
     LineStep {

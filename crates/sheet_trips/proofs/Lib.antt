@@ -4,6 +4,8 @@ pub mod AcceptedSheets
 pub mod LinesRead
 pub mod ReadWrite
 pub mod ReadBack
+pub mod LineGoes
 pub mod WriteRead
 pub mod Calls
 pub mod AsItArrives
+pub mod Names

@@ -25,8 +25,9 @@ use Rattle.model.specs.Reading.{taken, withGrid, withOffset, withCapacity, with
 use Rattle.model.specs.Writing.{gridLine, capacityLine, sheetOf}
 use Rattle.sheet_laws.specs.Rows.{offsetRow, lineAt, linesFrom}
 use Rattle.sheet_laws.proofs.Cases.{by-eq, by-lt, never, and-true}
-use Rattle.sheet_laws.proofs.AcceptedLines.{Admitted, admitted, refused-accepted, not-complete, taken-grid, taken-offset, taken-capacity, taken-kernel}
-use Rattle.sheet_laws.proofs.AcceptedLines.Admitted.{grid, offset, capacity, kernel}
+use Rattle.sheet_laws.proofs.AcceptedLines.{BehindWindow, Admitted, admitted, refused-accepted, not-complete, taken-grid, taken-offset, taken-capacity, taken-kernel}
+use Rattle.sheet_laws.proofs.AcceptedLines.BehindWindow.{offsets, capacities, named}
+use Rattle.sheet_laws.proofs.AcceptedLines.Admitted.{grid, offset, capacity, kernel, name}
 use Rattle.sheet_laws.proofs.AcceptedChains.{accepted-chain}
 use Rattle.sheet_laws.proofs.SheetRows.{line-grid, line-offset, line-capacity, line-kernel, lines-join, sheet-rows}
 use Rattle.sheet_trips.specs.RoundTrips.{ReadWrite}
@@ -75,6 +76,7 @@ unfoldable linesTo : Last → (count given : ℕ) → ℕ
 linesTo stood.Nothing count given = 0
 linesTo stood.Grid count given = 1 + count + given
 linesTo stood.Offset count given = 1 + count + given
+linesTo stood.Name count given = 1 + count + given
 linesTo stood.Capacity count given = 1 + count + given
 linesTo stood.Kernel count given = 2 * count + 1
 
@@ -97,6 +99,7 @@ unfoldable Counted : Last → (count given : ℕ) → Type 0
 Counted stood.Nothing count given = (count ≡ 0) × (given ≡ 0)
 Counted stood.Grid count given = given ≡ 0
 Counted stood.Offset count given = given ≡ 0
+Counted stood.Name count given = given ≡ 0
 Counted stood.Capacity count given = Unit {0}
 Counted stood.Kernel count given = 0 < count
 
@@ -155,6 +158,11 @@ module _ (r : Reading) (keeps : Kept r) (bs : List ℕ) (small : Small bs) where
   unfolding linesTo
   behind-grid (inl p) = lines-at stood.Grid p
   behind-grid (inr p) = lines-at stood.Offset p
+
+  behind-window : BehindWindow true (r .last) → (r .last ≡ stood.Offset) ⊎ (r .last ≡ stood.Capacity)
+  behind-window (offsets p) = inl p
+  behind-window (capacities p) = inr p
+  behind-window (named request p) = absurd (never request)
 
   behind-offsets : (r .last ≡ stood.Offset) ⊎ (r .last ≡ stood.Capacity) → linesRead r ≡ 1 + n + r .given
   unfolding linesTo
@@ -280,11 +288,12 @@ step-adds r k bs small h finite = go (admitted true r _ h .1)
             counted = tt;
           },
         )
+    go (name e last request len ok) = absurd (never request)
     go (kernel e last given form) =
         let counted = given refl in
         let same = taken-kernel r (padded bs) e in
         rw same (
-          kernel-adds r k bs small e last counted form ((rw same at finite) refl),
+          kernel-adds r k bs small e (behind-window r k bs small last) counted form ((rw same at finite) refl),
           record { offsets = k .offsets; capacities = k .capacities; dims = k .dims; count = k .count; counted = omega arith },
         )
 
@@ -306,6 +315,7 @@ all-written r k e = go (r .last) e (k .counted)
     go stood.Nothing h c = absurd (never (sym h))
     go stood.Grid h c = absurd (never (sym h))
     go stood.Offset h c = absurd (never (sym h))
+    go stood.Name h c = absurd (never (sym h))
     go stood.Capacity h c = absurd (never (sym h))
     go stood.Kernel h c = sym (sheet-rows (r .chain) (k .dims) c)
 

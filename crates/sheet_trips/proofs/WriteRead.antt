@@ -1,15 +1,16 @@
 -- A chain, written and read: line by line the reading takes up what was written.
 use Prim.Native.Nat.{ℕ, zero, suc, _+_, _-_, _*_, _/_, _%_, _≤_, _<_}
-use mathlib.Core.Bool.{true, false, not, _&&_}
+use mathlib.Core.Bool.{true, false, not}
 use mathlib.Core.List.{List, [], _++_}
+use mathlib.Core.Logic.{_⊎_, inl, inr}
 use mathlib.Core.Path.{_≡_, refl, sym, ap, _∙_}
 use native.Mathlib.Omega.{arith}
-use lib.Dec.{eqb, leb}
 use lib.Ieee.{toBits, binary32}
 use lib.Ieee.Bits.{ofBits-toBits, toBits-lt}
 use lib.IntN.{ℤ, pos}
-use lib.ListN.{length, take, getD, replicate, List·getD-append}
+use lib.ListN.{length, take, getD, replicate, List·getD-append, List·getD-eq-default}
 use lib.Seq.{getD-take, length-take-le, getD-append-add}
+use lib.Signed.{mag}
 use borrow.Author.Tests.{eq-eqb, ne-eqb, lt-leb, lt-ltb, le-ltb}
 use Rattle.model.specs.declared.Chain.{Chain}
 use Rattle.model.specs.declared.Kernel.{Kernel}
@@ -19,25 +20,25 @@ use Rattle.model.specs.declared.Last.the-variants as stood
 use Rattle.model.specs.declared.Reading.{Reading}
 use Rattle.model.specs.declared.Verdict.the-variants as verdict
 use Rattle.model.specs.Lists.{tabulate, any}
-use Rattle.model.specs.Values.{sizesOf, entryOf, capacityOf, trimmed}
-use Rattle.model.specs.Answers.{firstOf}
+use Rattle.model.specs.Values.{sizesOf, entryOf, offsetOf, capacityOf, trimmed}
 use Rattle.model.specs.Judging.{badDims, badSizes, judgeChain}
 use Rattle.model.specs.Lines.{linesOf}
-use Rattle.model.specs.Frames.{kept, padded, framed, Seen}
-use Rattle.model.specs.Numbers.{byteAt, halfAt, wordAt, halfBytes, wordBytes, signed, pattern}
-use Rattle.model.specs.Reading.{badKernel, badForm, malformed, nextInChain, miscounted, among, misplaced, badLength, sizesIn, entriesIn, kernelIn, lineChecks, lineVerdict}
-use Rattle.model.specs.Reading.{taken, withGrid, withOffset, withCapacity, withKernel, stepOf, start, closes, complete, readLines, endVerdict, readChain}
-use Rattle.model.specs.Writing.{capacityLine, kernelLine, sheetOf}
-use Rattle.sheet_laws.specs.Rows.{gridRow, offsetRow, linesFrom}
+use Rattle.model.specs.Frames.{kept, padded, framed}
+use Rattle.model.specs.Numbers.{byteAt, wordAt, wordBytes}
+use Rattle.model.specs.Reading.{badKernel, badForm, malformed, nextInChain, miscounted, among, misplaced, badLength, sizesIn, kernelIn}
+use Rattle.model.specs.Reading.{withGrid, withCapacity, withKernel, start, closes, complete, readLines, endVerdict, readChain}
+use Rattle.model.specs.Writing.{offsetLine, capacityLine, kernelLine, sheetOf}
+use Rattle.model.proofs.ListLaws.{length-tabulate, getD-tabulate}
+use Rattle.sheet_laws.specs.Rows.{gridRow, linesFrom}
 use Rattle.sheet_laws.proofs.Cases.{by-lt}
-use Rattle.sheet_laws.proofs.AcceptedLines.{taken-grid, taken-offset, taken-capacity, taken-kernel}
+use Rattle.sheet_laws.proofs.AcceptedLines.{taken-grid, taken-capacity, taken-kernel}
 use Rattle.sheet_laws.proofs.AcceptedChains.{Accepted, accepted-chain}
-use Rattle.sheet_laws.proofs.SheetRows.{line-grid, line-offset, line-capacity, line-kernel, sheet-rows}
+use Rattle.sheet_laws.proofs.SheetRows.{offset-front, line-grid, line-offset, line-capacity, line-kernel, sheet-rows}
 use Rattle.sheet_trips.specs.RoundTrips.{FactorsFit, InRange, WriteRead}
-use Rattle.sheet_trips.proofs.Bytes.{Small, small-append, small-take, small-half, small-word, lineSeen, seen-back, frame-line}
+use Rattle.sheet_trips.proofs.Bytes.{Small, small-append, small-take, small-word, lineSeen}
 use Rattle.sheet_trips.proofs.Bytes.Small.{none, more}
-use Rattle.sheet_trips.proofs.Values.{signed-pattern, pattern-small}
 use Rattle.sheet_trips.proofs.ReadBack.{upTo, blank-at, readSizes, readEntries, readOffsets, readCapacities, readBack, same-chain, normal-chain}
+use Rattle.sheet_trips.proofs.LineGoes.{all-clear, Goes, line-goes, four, small-offset, offset-goes}
 
 -- What stood last behind k offsets and g capacities.
 unfoldable lastOf : (k g : ℕ) → Last
@@ -64,10 +65,6 @@ past xs i h =
     let e : i ≡ length xs + (i - length xs) = omega arith in
     ap (λ j. byteAt (xs ++ replicate kept 0) j) e ∙ getD-append-add xs (replicate kept 0) (i - length xs) 0 ∙ blank-at kept (i - length xs) 0
 
-zero-entry : signed (0 * 256 + 0) ≡ pos 0
-unfolding signed
-zero-entry = refl
-
 module _ (n : ℕ) (row : List ℕ) (h : n ≤ length row) (l : n ≤ kept) where
   byte-in : (i : ℕ) → i < n → byteAt (padded (take n row)) i ≡ byteAt row i
   unfolding padded
@@ -80,7 +77,7 @@ module _ (n : ℕ) (row : List ℕ) (h : n ≤ length row) (l : n ≤ kept) wher
   unfolding padded
   byte-out i t q = getD-take kept (take n row ++ replicate kept 0) i 0 t ∙ past (take n row) i (omega (arith, length-take-le n row h))
 
-  -- A word and an entry of it, which the line has or has not.
+  -- A word of it, which the line has or has not.
   word-in : (i d dims w : ℕ) → i + 3 < kept → (d < dims → i + 4 ≤ n) → (dims ≤ d → n ≤ i) → w < 4294967296
       → byteAt row i ≡ w / 16777216 → byteAt row (i + 1) ≡ w / 65536 % 256 → byteAt row (i + 2) ≡ w / 256 % 256 → byteAt row (i + 3) ≡ w % 256
       → wordAt (padded (take n row)) i ≡ upTo 0 dims d w
@@ -99,34 +96,6 @@ module _ (n : ℕ) (row : List ℕ) (h : n ≤ length row) (l : n ≤ kept) wher
         byte-out (i + 3) (omega arith) (omega arith),
       ))
 
-  entry-in : (i d dims : ℕ) (e : ℤ) → i + 1 < kept → (d < dims → i + 2 ≤ n) → (dims ≤ d → n ≤ i) → signed (pattern e) ≡ e
-      → byteAt row i ≡ pattern e / 256 → byteAt row (i + 1) ≡ pattern e % 256
-      → signed (halfAt (padded (take n row)) i) ≡ upTo (pos 0) dims d e
-  unfolding halfAt
-  entry-in i d dims e t inside outside back a0 a1 =
-      by-lt d dims
-      (λ q. let u = inside q in
-      let z : pattern e / 256 * 256 + pattern e % 256 ≡ pattern e = omega arith in
-      rw (lt-ltb _ _ q, byte-in i (omega arith), byte-in (i + 1) (omega arith), a0, a1, z) back)
-      (λ q. let u = outside q in
-      rw (le-ltb _ _ q, byte-out i (omega arith) (omega arith), byte-out (i + 1) (omega arith) (omega arith)) zero-entry)
-
--- A line on which no condition holds.
-all-clear : (r : Reading) (l : Seen)
-    → malformed (l .sound) (l .len) (byteAt (l .first) 0) (byteAt (l .first) 1) ≡ false
-    → misplaced true (r .last) (r .given) (r .chain .window .count) (byteAt (l .first) 0) ≡ false
-    → (eqb (byteAt (l .first) 0) 1 && badDims (byteAt (l .first) 1)) ≡ false
-    → badLength (l .len) (byteAt (l .first) 0) (byteAt (l .first) 1) (r .chain .grid .dims) ≡ false
-    → (eqb (byteAt (l .first) 0) 1 && badSizes (take (byteAt (l .first) 1) (sizesIn (l .first)))) ≡ false
-    → (eqb (byteAt (l .first) 0) 2 && leb 32 (r .chain .window .count)) ≡ false
-    → lineVerdict true r l ≡ verdict.Accepted
-unfolding lineVerdict lineChecks firstOf
-all-clear r l a b c d e f = rw (a, b, c, d, e, f)
-
--- A line of these bytes takes the reading r to t.
-abbrev Goes : Reading → List ℕ → Reading → Type 0
-Goes r bs t = (lineVerdict true r (lineSeen bs) ≡ verdict.Accepted) × (taken r (padded bs) ≡ t)
-
 front-sizes : (dims : ℕ) (f : ℕ → ℕ) → dims ≤ 4 → take dims (tabulate 4 (λ d. upTo 0 dims d (f d))) ≡ tabulate dims f
 unfolding tabulate
 front-sizes zero f h = refl
@@ -136,11 +105,20 @@ front-sizes (suc (suc (suc zero))) f h = refl
 front-sizes (suc (suc (suc (suc zero)))) f h = refl
 front-sizes (suc (suc (suc (suc (suc d))))) f h = absurd (omega arith)
 
+front-entries : (dims : ℕ) (f : ℕ → ℤ) → dims ≤ 4 → four (tabulate dims f) ≡ tabulate 4 (λ d. upTo (pos 0) dims d (f d))
+unfolding tabulate
+front-entries zero f h = refl
+front-entries (suc zero) f h = refl
+front-entries (suc (suc zero)) f h = refl
+front-entries (suc (suc (suc zero))) f h = refl
+front-entries (suc (suc (suc (suc zero)))) f h = refl
+front-entries (suc (suc (suc (suc (suc d))))) f h = absurd (omega arith)
+
 -- The order of a chain sheet's lines: an offset behind the grid or an offset, a capacity and the kernel behind an offset or a capacity.
-offset-comes : (k : ℕ) → misplaced true (lastOf k 0) 0 k 2 ≡ false
-unfolding lastOf misplaced among any nextInChain miscounted
-offset-comes zero = refl
-offset-comes (suc k) = refl
+before-offset : (k : ℕ) → (lastOf k 0 ≡ stood.Grid) ⊎ (lastOf k 0 ≡ stood.Offset)
+unfolding lastOf
+before-offset zero = inl refl
+before-offset (suc k) = inr refl
 
 capacity-comes : (n g : ℕ) → g + 1 < n → misplaced true (lastOf n g) g n 3 ≡ false
 unfolding lastOf misplaced among any nextInChain miscounted
@@ -202,7 +180,7 @@ module _ (c : Chain) (range : InRange c) (ok : Accepted c) where
   unfolding readSizes sizesOf
   good-sizes = ap badSizes (front-sizes dims (λ d. getD (c .grid .sizes) d 0) (ok .few-dims)) ∙ ok .sizes
 
-  grid-goes : Goes start gridBytes (midway c 0 0)
+  grid-goes : Goes true start gridBytes (midway c 0 0)
   unfolding lastOf withGrid malformed badForm misplaced among any nextInChain miscounted badDims badLength readOffsets readCapacities
   grid-goes =
       let heads = grid-heads in
@@ -210,64 +188,32 @@ module _ (c : Chain) (range : InRange c) (ok : Accepted c) where
       let p : 2 ≤ 2 + 4 * dims = omega arith in
       let z : 2 + 4 * dims ≡ 0 → ⊥ = λ e. omega arith in
       let some : dims ≡ 0 → ⊥ = λ e. omega (arith, ok .some-dims) in (
-        all-clear start (lineSeen gridBytes)
+        all-clear true start (lineSeen gridBytes)
             (rw (heads .0, l, ne-eqb _ _ z, le-ltb _ _ p))
             (rw (heads .0))
             (rw (heads .0, heads .1, ne-eqb _ _ some, le-ltb _ _ (ok .few-dims)))
             (rw (heads .0, heads .1, l, eq-eqb (2 + 4 * dims) (2 + 4 * dims) refl))
             (rw (heads .0, heads .1, grid-sizes) good-sizes)
+            (rw (heads .0))
             (rw (heads .0)),
         taken-grid start (padded gridBytes) (heads .0) ∙ rw (heads .1, grid-sizes),
       )
 
   -- An offset's line.
-  module _ (k : ℕ) (less : k < 32) where
-    abbrev offsetBytes : List ℕ
-    offsetBytes = take (1 + 2 * dims) (offsetRow (c .window) k)
+  entry-fits : (k d : ℕ) → mag (getD (offsetOf dims (c .window) k) d (pos 0)) < 32768
+  unfolding offsetOf
+  entry-fits k d =
+      by-lt d dims
+      (λ l. rw (getD-tabulate dims (λ i. entryOf (c .window) k i) d (pos 0) l) (range .entries (4 * k + d)))
+      (λ l. rw (List·getD-eq-default (offsetOf dims (c .window) k) (pos 0) {n = d} (rw length-tabulate l)) (omega arith))
 
-    offset-fits : 1 + 2 * dims ≤ length (offsetRow (c .window) k)
-    unfolding offsetRow halfBytes
-    offset-fits = omega (arith, ok .few-dims)
-
-    offset-short : 1 + 2 * dims ≤ kept
-    offset-short = omega (arith, ok .few-dims)
-
-    offset-head : byteAt (padded offsetBytes) 0 ≡ 2
-    unfolding offsetRow
-    offset-head = byte-in (1 + 2 * dims) (offsetRow (c .window) k) offset-fits offset-short 0 (omega arith)
-
-    one-entry : (i d : ℕ) → i + 1 < kept → (d < dims → i + 2 ≤ 1 + 2 * dims) → (dims ≤ d → 1 + 2 * dims ≤ i)
-        → (let e = entryOf (c .window) k d in let row = offsetRow (c .window) k in
-        byteAt row i ≡ pattern e / 256 → byteAt row (i + 1) ≡ pattern e % 256 → signed (halfAt (padded offsetBytes) i) ≡ upTo (pos 0) dims d e)
-    one-entry i d t inside outside =
-        entry-in (1 + 2 * dims) (offsetRow (c .window) k) offset-fits offset-short i d dims (entryOf (c .window) k d) t inside outside
-        (signed-pattern _ (range .entries (4 * k + d)))
-
-    offset-entries : entriesIn (padded offsetBytes) ≡ readEntries dims (c .window) k
-    unfolding entriesIn readEntries tabulate offsetRow halfBytes
-    offset-entries =
-        rw (
-          one-entry 1 0 (omega arith) (λ q. omega arith) (λ q. omega arith) refl refl,
-          one-entry 3 1 (omega arith) (λ q. omega arith) (λ q. omega arith) refl refl,
-          one-entry 5 2 (omega arith) (λ q. omega arith) (λ q. omega arith) refl refl,
-          one-entry 7 3 (omega arith) (λ q. omega arith) (λ q. omega arith) refl refl,
-        )
-
-    offset-goes : Goes (midway c k 0) offsetBytes (midway c (suc k) 0)
-    unfolding lastOf withOffset malformed badForm badLength readOffsets
-    offset-goes =
-        let l : length offsetBytes ≡ 1 + 2 * dims = length-take-le (1 + 2 * dims) (offsetRow (c .window) k) offset-fits in
-        let z : 1 + 2 * dims ≡ 0 → ⊥ = λ e. omega arith in
-        let s : k + 1 ≡ suc k = omega arith in (
-          all-clear (midway c k 0) (lineSeen offsetBytes)
-              (rw (offset-head, l, ne-eqb _ _ z))
-              (rw offset-head (offset-comes k))
-              (rw offset-head)
-              (rw (offset-head, l, eq-eqb (1 + 2 * dims) (1 + 2 * dims) refl))
-              (rw offset-head)
-              (rw (offset-head, lt-leb _ _ less)),
-          taken-offset (midway c k 0) (padded offsetBytes) offset-head ∙ rw (s, offset-entries),
-        )
+  offset-read : (k : ℕ) → k < 32 → Goes true (midway c k 0) (offsetLine (offsetOf dims (c .window) k)) (midway c (suc k) 0)
+  unfolding lastOf readOffsets readEntries offsetOf
+  offset-read k less =
+      let s : k + 1 ≡ suc k = omega arith in
+      let l : length (offsetOf dims (c .window) k) ≡ dims = length-tabulate dims (λ i. entryOf (c .window) k i) in
+      let g = offset-goes true (midway c k 0) (offsetOf dims (c .window) k) (before-offset k) l (omega (arith, l, ok .few-dims)) (entry-fits k) less in
+      (g .0, g .1 ∙ rw (s, front-entries dims (λ i. entryOf (c .window) k i) (ok .few-dims)))
 
   -- A capacity's line.
   module _ (k : ℕ) (less : k + 1 < count) where
@@ -278,11 +224,11 @@ module _ (c : Chain) (range : InRange c) (ok : Accepted c) where
     unfolding capacityLine wordBytes padded wordAt
     capacity-word = let h = range .capacities k in omega arith
 
-    capacity-goes : Goes (midway c count k) (capacityLine places) (midway c count (suc k))
+    capacity-goes : Goes true (midway c count k) (capacityLine places) (midway c count (suc k))
     unfolding lastOf withCapacity malformed badForm badLength readCapacities capacityLine wordBytes padded
     capacity-goes =
         let s : k + 1 ≡ suc k = omega arith in (
-          all-clear (midway c count k) (lineSeen (capacityLine places)) refl (capacity-comes count k less) refl refl refl refl,
+          all-clear true (midway c count k) (lineSeen (capacityLine places)) refl (capacity-comes count k less) refl refl refl refl refl,
           taken-capacity (midway c count k) (padded (capacityLine places)) refl ∙ rw (s, capacity-word, capacity-last count k less),
         )
 
@@ -312,14 +258,6 @@ kernel-read (kernel.Blend g) h =
     )
 
 -- All lines, one after the other.
-step-goes : (r t : Reading) (bs : List ℕ) → Goes r bs t → stepOf true r (lineSeen bs) ≡ record { verdict = verdict.Accepted; reading = t }
-unfolding stepOf
-step-goes r t bs g = rw (g .0, g .1)
-
-line-goes : (r t : Reading) (bs rest : List ℕ) → Small bs → Goes r bs t → readLines true r (linesOf (framed bs ++ rest)) ≡ readLines true t (linesOf rest)
-unfolding readLines
-line-goes r t bs rest s g = rw (frame-line bs rest, seen-back s, step-goes r t bs g)
-
 small-kernel : (k : Kernel) → FactorsFit k → Small (kernelLine k)
 unfolding FactorsFit kernelLine
 small-kernel kernel.Raw h = more {b = 4} (omega arith) (more {b = 0} (omega arith) none)
@@ -342,13 +280,6 @@ module _ (c : Chain) (range : InRange c) (ok : Accepted c) where
       size : (d : ℕ) → Small (wordBytes (getD (c .grid .sizes) d 0))
       size d = small-word _ (range .sizes d)
 
-  small-offset : (k : ℕ) → Small (offsetRow (c .window) k)
-  unfolding offsetRow
-  small-offset k = more {b = 2} (omega arith) (small-append (entry 0) (small-append (entry 1) (small-append (entry 2) (entry 3))))
-    where
-      entry : (d : ℕ) → Small (halfBytes (pattern (entryOf (c .window) k d)))
-      entry d = small-half _ (pattern-small _ (range .entries (4 * k + d)))
-
   small-capacity : (k : ℕ) → Small (capacityLine (capacityOf c k))
   unfolding capacityLine
   small-capacity k = more {b = 3} (omega arith) (small-word _ (range .capacities k))
@@ -356,14 +287,15 @@ module _ (c : Chain) (range : InRange c) (ok : Accepted c) where
   abbrev atEnd : Reading
   atEnd = record { last = stood.Kernel; given = n - 1; chain = readBack c }
 
-  kernel-goes : Goes (midway c n (n - 1)) (kernelLine (c .kernel)) atEnd
+  kernel-goes : Goes true (midway c n (n - 1)) (kernelLine (c .kernel)) atEnd
   unfolding withKernel badLength readBack
   kernel-goes =
       let head = kernel-head (c .kernel) in
       let e : n ≡ n - 1 + 1 = omega (arith, ok .some) in (
-        all-clear (midway c n (n - 1)) (lineSeen (kernelLine (c .kernel)))
+        all-clear true (midway c n (n - 1)) (lineSeen (kernelLine (c .kernel)))
             (head .0)
             (rw (head .1) (kernel-comes n (n - 1) e))
+            (rw (head .1))
             (rw (head .1))
             (rw (head .1))
             (rw (head .1))
@@ -381,9 +313,9 @@ module _ (c : Chain) (range : InRange c) (ok : Accepted c) where
   offsets-read (suc i) k m e =
       let z : suc i + m ≡ suc (i + m) = omega arith in
       let y : 1 + k + 1 ≡ 1 + suc k = omega arith in
-      rw (z, line-offset c k (omega arith), y)
-      (line-goes (midway c k 0) (midway c (suc k) 0) (take (1 + 2 * c .grid .dims) (offsetRow (c .window) k)) _
-      (small-take (1 + 2 * c .grid .dims) (small-offset k)) (offset-goes c range ok k (omega (arith, ok .few)))
+      rw (z, line-offset c k (omega arith), ← offset-front (c .grid .dims) (c .window) k (ok .few-dims), y)
+      (line-goes true (midway c k 0) (midway c (suc k) 0) (offsetLine (offsetOf (c .grid .dims) (c .window) k)) _
+      (small-offset (offsetOf (c .grid .dims) (c .window) k) (entry-fits c range ok k)) (offset-read c range ok k (omega (arith, ok .few)))
       ∙ offsets-read i (suc k) m (omega arith))
 
   capacities-read : (i k m : ℕ) → k + i + 1 ≡ n
@@ -398,7 +330,7 @@ module _ (c : Chain) (range : InRange c) (ok : Accepted c) where
       let z : suc i + m ≡ suc (i + m) = omega arith in
       let y : 1 + n + k + 1 ≡ 1 + n + suc k = omega arith in
       rw (z, line-capacity c k (omega arith), y)
-      (line-goes (midway c n k) (midway c n (suc k)) (capacityLine (capacityOf c k)) _ (small-capacity k) (capacity-goes c range ok k (omega arith))
+      (line-goes true (midway c n k) (midway c n (suc k)) (capacityLine (capacityOf c k)) _ (small-capacity k) (capacity-goes c range ok k (omega arith))
       ∙ capacities-read i (suc k) m (omega arith))
 
   all-read : readLines true start (linesOf (sheetOf c)) ≡ record { verdict = verdict.Accepted; reading = atEnd }
@@ -407,13 +339,13 @@ module _ (c : Chain) (range : InRange c) (ok : Accepted c) where
       let z : 2 * n + 1 ≡ suc (n + (n - 1 + 1)) = omega (arith, ok .some) in
       let y : 1 + n + 0 ≡ 1 + n = omega arith in
       rw (sheet-rows c (ok .few-dims) (ok .some), z, line-grid c (ok .few-dims))
-      (line-goes start (midway c 0 0) (take (2 + 4 * c .grid .dims) (gridRow (c .grid))) (linesFrom c 1 (n + (n - 1 + 1)))
+      (line-goes true start (midway c 0 0) (take (2 + 4 * c .grid .dims) (gridRow (c .grid))) (linesFrom c 1 (n + (n - 1 + 1)))
       (small-take (2 + 4 * c .grid .dims) small-grid) (grid-goes c range ok)
       ∙ offsets-read n 0 (n - 1 + 1) (omega arith)
       ∙ ap (λ i. readLines true (midway c n 0) (linesOf (linesFrom c i (n - 1 + 1)))) (sym y)
       ∙ capacities-read (n - 1) 0 1 (omega (arith, ok .some))
       ∙ ap (λ l. readLines true (midway c n (n - 1)) (linesOf (framed l ++ []))) (line-kernel c (ok .some))
-      ∙ line-goes (midway c n (n - 1)) atEnd (kernelLine (c .kernel)) [] (small-kernel (c .kernel) (range .factors)) kernel-goes)
+      ∙ line-goes true (midway c n (n - 1)) atEnd (kernelLine (c .kernel)) [] (small-kernel (c .kernel) (range .factors)) kernel-goes)
 
 judged-alike : (c d : Chain) → trimmed c ≡ trimmed d → judgeChain c ≡ judgeChain d
 unfolding judgeChain

@@ -14,6 +14,7 @@ ghost use lib.ListN.{take};
 ghost use Rattle.model.specs.declared.Verdict.the-variants.{Refused};
 ghost use Rattle.model.specs.Judging.{badDims, badSizes};
 ghost use Rattle.model.specs.Frames.{shown};
+ghost use Rattle.model.specs.NamedWindows.{badName};
 ghost use Rattle.model.specs.Reading.{badKernel, badForm, malformed, nextInRequest, nextInChain, miscounted, among, misplaced, badLength, sizesIn, lineVerdict, cellVerdict};
 
 fn bad_kernel(len: usize, second: u8) -> bool
@@ -49,6 +50,9 @@ fn bad_form(len: usize, kind: u8, second: u8) -> bool
     if kind == 5 {
         return len != 5;
     }
+    if kind == 7 {
+        return len != 2;
+    }
     true
 }
 
@@ -70,13 +74,19 @@ fn comes_in_request(last: Last, kind: u8) -> bool
 {
     match last {
         Last::Nothing => kind == 1,
-        Last::Grid => kind == 2,
+        Last::Grid => {
+            if kind == 2 {
+                return true;
+            }
+            kind == 7
+        }
         Last::Offset => {
             if kind == 2 {
                 return true;
             }
             kind == 4
         }
+        Last::Name => kind == 4,
         Last::Capacity => false,
         Last::Kernel => false,
     }
@@ -98,6 +108,7 @@ fn comes_in_chain(last: Last, kind: u8) -> bool
             }
             kind == 4
         }
+        Last::Name => false,
         Last::Capacity => {
             if kind == 3 {
                 return true;
@@ -203,6 +214,16 @@ fn too_many(kind: u8, count: u8) -> bool
     32 <= count
 }
 
+// On an `07` line: its name.
+fn bad_name(kind: u8, name: u8, dims: u8) -> bool
+    ensures { λ r. ⌜ r ≡ (eqb kind 7 && badName name dims) ⌝ }
+{
+    if kind != 7 {
+        return false;
+    }
+    sheet_windows::bad_name(name, dims)
+}
+
 // Every character was a digit, and their number is even.
 fn whole_frame(sound: bool, half: bool) -> bool
     ensures { λ r. ⌜ r ≡ (sound && not half) ⌝ }
@@ -240,7 +261,9 @@ pub fn line_verdict(chained: bool, r: Reading, f: Frame) -> Verdict
     let length = bad_length(f.len, kind, second, grid.dims);
     let sizes = bad_grid(kind, second, x);
     let many = too_many(kind, window.count);
-    let v6 = refused_if(many, Refusal::BadCount, Verdict::Accepted);
+    let name = bad_name(kind, second, grid.dims);
+    let v7 = refused_if(name, Refusal::BadName, Verdict::Accepted);
+    let v6 = refused_if(many, Refusal::BadCount, v7);
     let v5 = refused_if(sizes, Refusal::BadGrid, v6);
     let v4 = refused_if(length, Refusal::Malformed, v5);
     let v3 = refused_if(dims, Refusal::BadGrid, v4);

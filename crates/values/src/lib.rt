@@ -101,7 +101,7 @@ pub fn set_kernel(c: Chain, kernel: Kernel) -> Chain
     }
 }
 
-// Document 01's number of a refusal.
+// The number of a refusal.
 pub fn number_of(n: Refusal) -> u8
     ensures { λ r. ⌜ r ≡ numberOf n ⌝ }
 {
@@ -118,6 +118,7 @@ pub fn number_of(n: Refusal) -> u8
         Refusal::ShortStore => 10,
         Refusal::BadState => 11,
         Refusal::ShortOutput => 12,
+        Refusal::BadName => 13,
     }
 }
 

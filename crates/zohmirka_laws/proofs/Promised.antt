@@ -48,6 +48,7 @@ numbered refusal.TooLarge e = omega arith
 numbered refusal.ShortStore e = omega arith
 numbered refusal.BadState e = omega arith
 numbered refusal.ShortOutput e = omega arith
+numbered refusal.BadName e = omega arith
 
 pub unnumbered : (v : Verdict) → verdictNumber v ≡ 0 → v ≡ verdict.Accepted
 unfolding verdictNumber

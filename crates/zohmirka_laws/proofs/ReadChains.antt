@@ -1,7 +1,7 @@
 -- What a chain read from a sheet holds: arrays of their lengths, entries of 16 bits, factors that binary32 holds.
 use Prim.Native.Nat.{ℕ, zero, suc, _<_}
-use mathlib.Core.Bool.{Bool}
-use mathlib.Core.List.{List, [], _∷_}
+use mathlib.Core.Bool.{Bool, true}
+use mathlib.Core.List.{List, [], _∷_, map}
 use mathlib.Core.Path.{_≡_, refl, _∙_}
 use native.Mathlib.Omega.{arith}
 use lib.Dec.{eqb, ltb}
@@ -15,16 +15,22 @@ use borrow.Author.Tests.{ltb-true, ltb-false}
 use Rattle.model.specs.Answers.{byVerdict}
 use Rattle.model.specs.Frames.{Seen, seenOf}
 use Rattle.model.specs.Lines.{Line, linesOf}
+use Rattle.model.specs.Lists.{all}
+use Rattle.model.specs.NamedWindows.{windows, namedOf, entriesOf, withReferences, windowNamed}
 use Rattle.model.specs.Numbers.{signed, wordAt}
-use Rattle.model.specs.Reading.{withGrid, withOffset, withCapacity, withKernel, kernelIn, entriesIn, sizesIn, taken, stepOf, start, readLines, lineVerdict}
+use Rattle.model.specs.Reading.{withGrid, withOffset, withName, withCapacity, withKernel, kernelIn, entriesIn, sizesIn, taken, stepOf, start, readLines, lineVerdict}
 use Rattle.model.specs.declared.Chain.{Chain}
 use Rattle.model.specs.declared.LineStep.{LineStep}
 use Rattle.model.specs.declared.Reading.{Reading}
 use Rattle.model.specs.declared.Verdict.{Verdict}
 use Rattle.model.specs.declared.Verdict.the-variants as verdict
-use Rattle.sheet_laws.proofs.Cases.{by-bool}
+use Rattle.model.specs.declared.Window.{Window}
+use Rattle.model.specs.Values.{blankWindow, withReference}
+use Rattle.model.proofs.NameLaws.{by-name}
+use Rattle.sheet_laws.proofs.Cases.{by-bool, and-true}
 use Rattle.sheet_trips.specs.RoundTrips.{FactorsFit}
 use Rattle.sheet_trips.proofs.ReadBack.{blank-at}
+use Rattle.sheet_trips.proofs.LineGoes.{smallEntries, small-fits}
 
 abbrev Each : List ℤ → Type 0
 Each l = (i : ℕ) → mag (getD l i (pos 0)) < 32768
@@ -63,6 +69,26 @@ each-entry x (suc (suc zero)) = signed-small _
 each-entry x (suc (suc (suc zero))) = signed-small _
 each-entry x (suc (suc (suc (suc i)))) = omega arith
 
+-- The window of a name.
+each-reference : (es : List (List ℤ)) (w : Window) → all smallEntries es ≡ true → (length (w .offsets) ≡ 128) × Each (w .offsets)
+    → (length (withReferences w es .offsets) ≡ 128) × Each (withReferences w es .offsets)
+unfolding all withReferences
+each-reference [] w h k = k
+each-reference (e ∷ es) w h k =
+    let b = and-true (smallEntries e) (all smallEntries es) h in
+    each-reference es (withReference w e) (b .1) (length-sets e _ _ ∙ k .0, each-sets e _ _ (small-fits e (b .0)) (k .1))
+
+abbrev SmallNamed : ℕ → Type 0
+SmallNamed name = all smallEntries (map entriesOf (namedOf name .triples)) ≡ true
+
+small-named : (name : ℕ) → SmallNamed name
+unfolding namedOf windows all smallEntries
+small-named = by-name SmallNamed refl refl refl refl refl refl (λ n. refl)
+
+named-held : (name : ℕ) → (length (windowNamed name .offsets) ≡ 128) × Each (windowNamed name .offsets)
+unfolding windowNamed
+named-held name = each-reference (map entriesOf (namedOf name .triples)) blankWindow (small-named name) (refl, λ i. rw (blank-at 128 i (pos 0)) (omega arith))
+
 kernel-fits : (x : List ℕ) → FactorsFit (kernelIn x)
 unfolding kernelIn FactorsFit
 kernel-fits x =
@@ -74,7 +100,7 @@ kernel-fits x =
 
 module _ (r : Reading) (x : List ℕ) (h : Held (r .chain)) where
   held-taken : Held (taken r x .chain)
-  unfolding taken withGrid withOffset withCapacity withKernel sizesIn
+  unfolding taken withGrid withOffset withName withCapacity withKernel sizesIn
   held-taken =
       by-bool (eqb (getD x 0 0) 1)
       (λ e. rw e (record { sizes = refl; offsets = h .offsets; entries = h .entries; capacities = h .capacities; factors = h .factors }))
@@ -92,8 +118,12 @@ module _ (r : Reading) (x : List ℕ) (h : Held (r .chain)) where
       by-bool (eqb (getD x 0 0) 3)
       (λ f. rw (e, d, f)
       (record { sizes = h .sizes; offsets = h .offsets; entries = h .entries; capacities = length-set (r .chain .capacities) (r .given) (wordAt x 1) ∙ h .capacities; factors = h .factors }))
-      (λ f. rw (e, d, f)
-      (record { sizes = h .sizes; offsets = h .offsets; entries = h .entries; capacities = h .capacities; factors = kernel-fits x }))))
+      (λ f.
+      by-bool (eqb (getD x 0 0) 7)
+      (λ g. let n = named-held (getD x 1 0) in
+      rw (e, d, f, g) (record { sizes = h .sizes; offsets = n .0; entries = n .1; capacities = h .capacities; factors = h .factors }))
+      (λ g. rw (e, d, f, g)
+      (record { sizes = h .sizes; offsets = h .offsets; entries = h .entries; capacities = h .capacities; factors = kernel-fits x })))))
 
 held-step : (chainSheet : Bool) (r : Reading) (l : Seen) → Held (r .chain) → Held (stepOf chainSheet r l .reading .chain)
 unfolding stepOf

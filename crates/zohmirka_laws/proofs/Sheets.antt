@@ -5,7 +5,7 @@ use mathlib.Core.List.{List}
 use mathlib.Core.Path.{_≡_, refl, sym, _∙_, ap}
 use lib.ListN.{length}
 use borrow.Author.Tests.{le-ltb}
-use Rattle.model.specs.Answers.{verdictNumber, firstOf}
+use Rattle.model.specs.Answers.{numberOf, verdictNumber, firstOf, byVerdict}
 use Rattle.model.specs.Values.{trimmed, chainOf, requestOf}
 use Rattle.model.specs.Judging.{judgeChain}
 use Rattle.model.specs.Lines.{linesOf}
@@ -14,14 +14,17 @@ use Rattle.model.specs.Reading.{start, readLines, readRequest, readChain}
 use Rattle.model.specs.Writing.{Written, writeOf}
 use Rattle.model.specs.declared.Chain.{Chain}
 use Rattle.model.specs.declared.ReadChain.{ReadChain}
+use Rattle.model.specs.declared.ReadRequest.{ReadRequest}
+use Rattle.model.specs.declared.Refusal.{Refusal}
 use Rattle.model.specs.declared.Verdict.{Verdict}
 use Rattle.model.specs.declared.Verdict.the-variants as verdict
 use Rattle.sheet_trips.specs.RoundTrips.{InRange}
 use Rattle.sheet_trips.proofs.AcceptedSheets.{accepted-request}
 use Rattle.sheet_trips.proofs.Calls.{read-judged, write-read-calls, read-write-calls}
+use Rattle.sheet_trips.proofs.Names.{by-its-name}
 use Rattle.zohmirka_words.specs.Words.{chainSize, chainIn}
 use Rattle.zohmirka.specs.Calls.{Sheets, written, planCall, readVerdict, readCall, writeCall}
-use Rattle.zohmirka_laws.specs.Sheets.{bytesOf, PlanJudged, ReadJudged, ReadWritten, WrittenRead}
+use Rattle.zohmirka_laws.specs.Sheets.{bytesOf, PlanJudged, PlannedByName, ReadJudged, ReadWritten, WrittenRead}
 use Rattle.zohmirka_laws.proofs.Promised.{numbered, unnumbered, sheet-fine, words-read}
 use Rattle.zohmirka_laws.proofs.ReadChains.{held-read}
 use Rattle.zohmirka_laws.proofs.Ranges.{words-range, planned-range}
@@ -56,6 +59,13 @@ plan-judged request sheet h = go (readRequest request .verdict) refl
     go : (v : Verdict) → readRequest request .verdict ≡ v → verdictNumber (readChain (bytesOf (planCall request sheet)) .verdict) ≡ 0
     go (verdict.Refused x) e = absurd (numbered x (rw e at h))
     go verdict.Accepted e = rw e (judged-again (planOf (readRequest request .request) .chain) (plan-range request e) sheet (rw e at h))
+
+pub planned-by-name : PlannedByName
+unfolding planCall
+planned-by-name name sizes rest sheet h n =
+    ap (λ (r : ReadRequest). let refused : Refusal → Sheets = λ x. record { answer = record { refusal = numberOf x; bytes = 0 }; sheet = sheet } in
+    byVerdict (r .verdict) (written (planOf (r .request) .chain) sheet) refused)
+    (by-its-name name sizes rest h n .read)
 
 -- ---- Chains as words
 

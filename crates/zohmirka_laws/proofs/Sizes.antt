@@ -58,52 +58,60 @@ long-sheet-of-chain chain sheet e h = rw (room-enough (chainIn chain) (length sh
 
 -- ---- 16,384 words of store
 
-abbrev Below : List Check → Type 0
-Below [] = Unit {0}
-Below (c ∷ cs) = (numberOf (c .refusal) ≤ 9) × Below cs
+-- Any number but 10.
+abbrev Other : ℕ → Type 0
+Other n = n ≡ 10 → ⊥
 
-first-below : (cs : List Check) → Below cs → verdictNumber (firstOf cs) ≤ 9
+abbrev Others : List Check → Type 0
+Others [] = Unit {0}
+Others (c ∷ cs) = Other (numberOf (c .refusal)) × Others cs
+
+first-other : (cs : List Check) → Others cs → Other (verdictNumber (firstOf cs))
 unfolding firstOf verdictNumber
-first-below [] b = omega arith
-first-below (c ∷ cs) b = go (c .holds) (first-below cs (b .1))
+first-other [] b = λ e. omega arith
+first-other (c ∷ cs) b = go (c .holds) (first-other cs (b .1))
   where
-    go : (x : Bool) → verdictNumber (firstOf cs) ≤ 9 → verdictNumber (cond x (verdict.Refused (c .refusal)) (firstOf cs)) ≤ 9
+    go : (x : Bool) → Other (verdictNumber (firstOf cs)) → Other (verdictNumber (cond x (verdict.Refused (c .refusal)) (firstOf cs)))
     go true ih = b .0
     go false ih = ih
 
--- A chain is judged by 3 to 9.
-judged-below : (c : Chain) → verdictNumber (judgeChain c) ≤ 9
+-- A chain is not judged by it,
+judged-other : (c : Chain) → Other (verdictNumber (judgeChain c))
 unfolding judgeChain judged windowChecks kernelChecks capacityChecks valueChecks numberOf
-judged-below c = first-below (valueChecks (trimmed c)) (omega arith, (omega arith, (omega arith, (omega arith, (omega arith, (omega arith, (omega arith, tt)))))))
+judged-other c =
+    first-other (valueChecks (trimmed c))
+    (λ e. omega arith, (λ e. omega arith, (λ e. omega arith, (λ e. omega arith, (λ e. omega arith, (λ e. omega arith, (λ e. omega arith, tt)))))))
 
--- And a sheet by 1 to 9.
-lines-below : (ls : List Line) (r : Reading) → verdictNumber (readLines true r ls .verdict) ≤ 9
+-- nor is a sheet.
+lines-other : (ls : List Line) (r : Reading) → Other (verdictNumber (readLines true r ls .verdict))
 unfolding readLines stepOf lineVerdict lineChecks numberOf verdictNumber
-lines-below [] r = omega arith
-lines-below (l ∷ ls) r = go (s .verdict) first (lines-below ls (s .reading))
+lines-other [] r = λ e. omega arith
+lines-other (l ∷ ls) r = go (s .verdict) first (lines-other ls (s .reading))
   where
     s : LineStep
     s = stepOf true r (seenOf (l .ended) (l .chars))
 
-    first : verdictNumber (s .verdict) ≤ 9
-    first = first-below (lineChecks true r (seenOf (l .ended) (l .chars))) (omega arith, (omega arith, (omega arith, (omega arith, (omega arith, (omega arith, tt))))))
+    first : Other (verdictNumber (s .verdict))
+    first =
+        first-other (lineChecks true r (seenOf (l .ended) (l .chars)))
+        (λ e. omega arith, (λ e. omega arith, (λ e. omega arith, (λ e. omega arith, (λ e. omega arith, (λ e. omega arith, (λ e. omega arith, tt)))))))
 
-    go : (v : Verdict) → verdictNumber (s .verdict) ≤ 9 → verdictNumber (readLines true (s .reading) ls .verdict) ≤ 9
-        → verdictNumber (byVerdict v (readLines true (s .reading) ls) (λ x. s) .verdict) ≤ 9
+    go : (v : Verdict) → Other (verdictNumber (s .verdict)) → Other (verdictNumber (readLines true (s .reading) ls .verdict))
+        → Other (verdictNumber (byVerdict v (readLines true (s .reading) ls) (λ x. s) .verdict))
     go verdict.Accepted a b = b
     go (verdict.Refused x) a b = a
 
-read-below : (sheet : List ℕ) → verdictNumber (readChain sheet .verdict) ≤ 9
+read-other : (sheet : List ℕ) → Other (verdictNumber (readChain sheet .verdict))
 unfolding readChain endVerdict verdictNumber numberOf
-read-below sheet = go (s .verdict) (complete (s .reading)) (lines-below (linesOf sheet) start)
+read-other sheet = go (s .verdict) (complete (s .reading)) (lines-other (linesOf sheet) start)
   where
     s : LineStep
     s = readLines true start (linesOf sheet)
 
-    go : (v : Verdict) (b : Bool) → verdictNumber v ≤ 9
-        → verdictNumber (byVerdict v (cond b (judgeChain (s .reading .chain)) (verdict.Refused refusal.Misplaced)) verdict.Refused) ≤ 9
-    go verdict.Accepted true h = judged-below (s .reading .chain)
-    go verdict.Accepted false h = omega arith
+    go : (v : Verdict) (b : Bool) → Other (verdictNumber v)
+        → Other (verdictNumber (byVerdict v (cond b (judgeChain (s .reading .chain)) (verdict.Refused refusal.Misplaced)) verdict.Refused))
+    go verdict.Accepted true h = judged-other (s .reading .chain)
+    go verdict.Accepted false h = λ e. omega arith
     go (verdict.Refused x) b h = h
 
 module _ (state store cells out : List ℕ) (allowance : ℕ) (long : 16384 ≤ length store) where
@@ -121,9 +129,8 @@ module _ (state store cells out : List ℕ) (allowance : ℕ) (long : 16384 ≤ 
       go : (v : Verdict) → judgeChain c ≡ v → ⊥
       go verdict.Accepted e = stated e (badState (layout (trimmed c)) (countersOf (c .window .count) (stateIn state))) refl
       go (verdict.Refused x) e =
-          let n : numberOf x ≤ 9 = rw e at (judged-below c) in
-          let t = rw (← run.run-refused c (stateIn state) store cells out allowance x e) at h in
-          omega arith
+          let n : Other (numberOf x) = rw e at (judged-other c) in
+          n (rw (← run.run-refused c (stateIn state) store cells out allowance x e) at h)
 
   sheet-long : (sheet : List ℕ) → runSheet state store cells out allowance sheet .report .refusal ≡ 10 → ⊥
   unfolding runSheet reportOf answerNumber verdictNumber
@@ -132,9 +139,8 @@ module _ (state store cells out : List ℕ) (allowance : ℕ) (long : 16384 ≤ 
       go : (v : Verdict) → readChain sheet .verdict ≡ v → ⊥
       go verdict.Accepted e = value-long (readChain sheet .chain) (rw e at h)
       go (verdict.Refused x) e =
-          let n : numberOf x ≤ 9 = rw e at (read-below sheet) in
-          let t : numberOf x ≡ 10 = rw e at h in
-          omega arith
+          let n : Other (numberOf x) = rw e at (read-other sheet) in
+          n (rw e at h)
 
 pub long-store : LongStore
 long-store state store cells out allowance chain long = value-long state store cells out allowance long (chainIn chain)

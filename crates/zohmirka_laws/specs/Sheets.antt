@@ -1,9 +1,12 @@
 -- Sheets that one call wrote and another reads.
 use Prim.Native.Nat.{ℕ, _≤_, _<_}
+use mathlib.Core.Bool.{true}
 use mathlib.Core.List.{List}
 use mathlib.Core.Path.{_≡_}
 use lib.ListN.{length, take}
 use Rattle.model.specs.Values.{trimmed, chainOf}
+use Rattle.model.specs.NamedWindows.{isName}
+use Rattle.sheet_trips.specs.Names.{byName, writtenOut, BeginsWithOffset}
 use Rattle.zohmirka_words.specs.Words.{wordAt, chainSize, chainIn, laid}
 use Rattle.zohmirka.specs.Calls.{Sheets, planCall, judgeCall, readCall, judgeChainCall, writeCall}
 
@@ -14,6 +17,12 @@ bytesOf w = take (w .answer .bytes) (w .sheet)
 -- What was planned is accepted.
 abbrev pub PlanJudged : Type 0
 PlanJudged = (request sheet : List ℕ) → planCall request sheet .answer .refusal ≡ 0 → judgeCall (bytesOf (planCall request sheet)) ≡ 0
+
+-- A request whose window is given by its name is planned as the one with its offsets written out: answer and slice (document 02, request 1).
+abbrev pub PlannedByName : Type 0
+PlannedByName =
+    (name : ℕ) (sizes rest sheet : List ℕ) → isName name ≡ true → (BeginsWithOffset rest → ⊥)
+    → planCall (byName name sizes rest) sheet ≡ planCall (writtenOut name sizes rest) sheet
 
 -- A sheet that was read into words: these are accepted, and written again they are that sheet, byte by byte.
 abbrev pub ReadJudged : Type 0

@@ -27,7 +27,7 @@ fn characters(dice: &mut Dice, text: &mut Vec<u8>) {
 }
 
 fn lines(dice: &mut Dice, text: &mut Vec<u8>) {
-    const OTHERS: [&str; 24] = [
+    const OTHERS: [&str; 31] = [
         "",
         "01",
         "0100",
@@ -51,6 +51,13 @@ fn lines(dice: &mut Dice, text: &mut Vec<u8>) {
         "04047F800000",
         "04033F80000040000000",
         "0500000001",
+        "07",
+        "0700",
+        "0701",
+        "0703",
+        "0704",
+        "0706",
+        "070101",
         "1000",
     ];
     let mut lines: Vec<Vec<u8>> = text.split(|&c| c == b'\n').map(<[u8]>::to_vec).collect();

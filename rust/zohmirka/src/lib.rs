@@ -43,7 +43,7 @@ fn checked() {
     ONCE.call_once(|| require(version()));
 }
 
-/// Why input was turned back: document 01's numbers. Later ones may get names of their own.
+/// Why input was turned back: the numbers of documents 01 and 02. Later ones may get names of their own.
 #[derive(Clone, Copy, Debug, PartialEq, Eq, Hash)]
 #[non_exhaustive]
 pub enum Refusal {
@@ -59,6 +59,7 @@ pub enum Refusal {
     ShortStore,
     BadState,
     ShortOutput,
+    BadName,
     /// A number that has no name here.
     Other(u32),
 }
@@ -78,6 +79,7 @@ impl Refusal {
             Refusal::ShortStore => 10,
             Refusal::BadState => 11,
             Refusal::ShortOutput => 12,
+            Refusal::BadName => 13,
             Refusal::Other(number) => number,
         }
     }
@@ -96,6 +98,7 @@ impl Refusal {
             10 => Refusal::ShortStore,
             11 => Refusal::BadState,
             12 => Refusal::ShortOutput,
+            13 => Refusal::BadName,
             _ => Refusal::Other(number),
         }
     }
@@ -116,6 +119,7 @@ impl std::fmt::Display for Refusal {
             Refusal::ShortStore => "a store that is too short",
             Refusal::BadState => "a state whose counters do not fit the chain",
             Refusal::ShortOutput => "an output that is too short for what is to be written",
+            Refusal::BadName => "no name of a window, or one of other dimensions than the grid's",
             Refusal::Other(_) => "a number that has no name here",
         };
         write!(f, "refused by {}: {}", self.number(), text)
@@ -364,7 +368,7 @@ mod tests {
     fn every_number_of_a_refusal_is_kept() {
         for number in 1..=300 {
             let refusal = Refusal::of(number);
-            assert_eq!((refusal.number(), matches!(refusal, Refusal::Other(_))), (number, number > 12));
+            assert_eq!((refusal.number(), matches!(refusal, Refusal::Other(_))), (number, number > 13));
         }
     }
 

@@ -38,11 +38,22 @@ fn refuses_by_number_and_writes_nothing() {
         assert_eq!(refusal.number() as usize, at + 1);
     }
     assert_eq!(plan_into(REQUEST, &mut sheet[..SHEET.len() - 1]), Err(Refusal::ShortOutput));
+    assert_eq!(plan_into(b"010100000005\n0701\n0400\n", &mut sheet), Err(Refusal::BadName));
     assert_eq!(sheet, [7; 100]);
     assert_eq!(plan_into(REQUEST, &mut sheet), Ok(SHEET.len()));
     assert_eq!(&sheet[..SHEET.len()], SHEET);
     assert_eq!(sheet[SHEET.len()..], [7; 100][SHEET.len()..]);
     assert_eq!(judge(REQUEST), Err(Refusal::Misplaced));
+}
+
+#[test]
+fn plans_a_window_by_name() {
+    let name = b"01020000030000000400\n0701\n0400\n";
+    let offsets = b"01020000030000000400\n0200010000\n0200000001\n0200000000\n020000FFFF\n02FFFF0000\n0400\n";
+    let sheet = plan(name).unwrap();
+    assert_eq!(Ok(&sheet), plan(offsets).as_ref());
+    assert_eq!(Chain::read(&sheet).unwrap().capacities(), [1023, 1, 1, 1023]);
+    assert_eq!(judge(name), Err(Refusal::Misplaced));
 }
 
 #[test]

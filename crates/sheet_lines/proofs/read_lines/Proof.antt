@@ -1,15 +1,16 @@
 -- The loop's invariant: from `at` on the sheet gives, with what was read, what it gives from its start.
 use Prim.Native.Nat.{ℕ, _+_, _-_, _≤_, _<_}
-use mathlib.Core.Path.{_≡_, ap, _∙_}
+use mathlib.Core.Path.{_≡_, refl, sym, ap, _∙_}
 use native.Mathlib.Omega.{arith}
 use lib.ListN.{length, drop, length-drop}
 use borrow.Author.Needs.{needs}
 use Rattle.model.specs.Lines.{lineOf}
 use Rattle.model.specs.Frames.{emptyFrame, feeds, shown}
-use Rattle.model.specs.Reading.{stepOf, start}
+use Rattle.model.specs.Reading.{lineVerdict, taken, start}
 use Rattle.sheet_laws.proofs.LineLaws.{line-within}
 use Rattle.sheet_laws.proofs.FixedMemory.{Bounded, start-bounded, keeps-bounded}
 use Rattle.sheet_laws.proofs.ReadingLaws.{readFrom, read-to-end, last-unended, turned-back, onward}
+use Rattle.sheet_lines.proofs.StepLaws.{accepted-room, step-accepted, step-refused}
 use Rattle.sheet_lines.proofs.read_lines.Statement.{statement}
 use Rattle.sheet_lines.proofs.read_lines.Tie as tie
 
@@ -29,16 +30,6 @@ within c =
     let l = c .before .before in
     let sheet = l .before .before .before .args .sheet .now in
     omega (arith, line-within (drop (l .loop .at) sheet), length-drop (l .loop .at) sheet, ap length (c .line .ensures))
-
--- What the step was of.
-step-of : (c : tie.After-step Inv-loop μ-loop)
-    → (let l = c .before .before .before .before .before in let a = l .before .before .before .args in
-    c .step .result ≡ stepOf (a .chained) (l .loop .r) (shown (feeds emptyFrame (lineOf (drop (l .loop .at) (a .sheet .now))))))
-step-of c =
-    let f = c .before in
-    let l = f .before .before .before .before in
-    c .step .ensures
-    ∙ ap (λ g. stepOf (l .before .before .before .args .chained) (l .loop .r) (shown g)) (f .frame .ensures ∙ ap (feeds emptyFrame) (f .before .before .line .ensures))
 
 begin-requires : tie.Need-begin-requires Inv-loop μ-loop
 begin-requires c κs = search needs
@@ -61,49 +52,67 @@ returns c =
 frame-requires : tie.Need-frame-requires Inv-loop μ-loop
 frame-requires c κs = search needs
 
-step-requires : tie.Need-step-requires Inv-loop μ-loop
-step-requires c κs = search needs
+-- The verdict is that of the line.
+told : (c : tie.After-line-verdict Inv-loop μ-loop)
+    → (let l = c .before .before .before .before .before in let a = l .before .before .before .args in
+    lineVerdict (a .chained) (l .loop .r) (shown (feeds emptyFrame (lineOf (drop (l .loop .at) (a .sheet .now))))) ≡ c .line-verdict .result)
+told c =
+    let f = c .before in
+    let l = f .before .before .before .before in
+    ap (λ g. lineVerdict (l .before .before .before .args .chained) (l .loop .r) (shown g)) (sym (f .frame .ensures ∙ ap (feeds emptyFrame) (f .before .before .line .ensures)))
+    ∙ sym (c .line-verdict .ensures)
+
+line-verdict-requires : tie.Need-line-verdict-requires Inv-loop μ-loop
+line-verdict-requires c κs = search needs
 
 enum-told : tie.Need-enum-told Inv-loop μ-loop
 enum-told c = search needs
 
-enum-told-2 : tie.Need-enum-told-2 Inv-loop μ-loop
-enum-told-2 c = search needs
+enum-known-v : tie.Need-enum-known-v Inv-loop μ-loop
+enum-known-v c = search needs
 
 returns-2 : tie.Need-returns-2 Inv-loop μ-loop
 returns-2 c =
-    let t = c .before .before in
-    let e = t .before .before in
-    let b = e .before in
-    let l = b .before .before in
-    turned-back _ _ (l .loop .r) (l .loop .at) (b .before .loop-test .taken) (omega (arith, ap length (b .line .ensures), less (within b) (e .if1 .left)))
-    (l .loop .inv .1) (t .step .result) (step-of t) _ (c .enum-told2 .given .1)
-    ∙ l .loop .inv .2
-
-add-at : tie.Need-add-at Inv-loop μ-loop
-add-at c =
-    let e = c .before .before .before .before .before in
-    omega (arith, less (within (e .before)) (e .if1 .left), e .before .before .before .before .before .before .good)
-
-loop-less : tie.Need-loop-less Inv-loop μ-loop
-loop-less c =
-    let e = c .before .before .before .before .before in
-    omega (arith, less (within (e .before)) (e .if1 .left))
-
-loop-again : tie.Need-loop-again Inv-loop μ-loop
-loop-again c =
     let k = c .before in
     let t = k .before .before in
     let e = t .before .before in
     let b = e .before in
     let l = b .before .before in
+    turned-back _ _ (l .loop .r) (l .loop .at) (b .before .loop-test .taken) (omega (arith, ap length (b .line .ensures), less (within b) (e .if1 .left)))
+    (l .loop .inv .1) _ (step-refused _ _ _ _ (told t ∙ k .v .given .1)) _ refl
+    ∙ l .loop .inv .2
+
+take-line-requires : tie.Need-take-line-requires Inv-loop μ-loop
+take-line-requires c κs =
+    let k = c .before in
+    accepted-room _ _ _ (sym (k .before .before .line-verdict .ensures) ∙ k .enum-told .given .1)
+
+add-at : tie.Need-add-at Inv-loop μ-loop
+add-at c =
+    let e = c .before .before .before .before .before .before in
+    omega (arith, less (within (e .before)) (e .if1 .left), e .before .before .before .before .before .before .good)
+
+loop-less : tie.Need-loop-less Inv-loop μ-loop
+loop-less c =
+    let e = c .before .before .before .before .before .before in
+    omega (arith, less (within (e .before)) (e .if1 .left))
+
+loop-again : tie.Need-loop-again Inv-loop μ-loop
+loop-again c =
+    let k = c .before .before in
+    let t = k .before .before in
+    let f = t .before in
+    let e = f .before in
+    let b = e .before in
+    let l = b .before .before in
     let a = l .before .before .before .args in
-    let short = less (within b) (e .if1 .left) in (
+    let short = less (within b) (e .if1 .left) in
+    let first = f .frame .ensures ∙ ap (feeds emptyFrame) (b .line .ensures) in
+    let stepped = step-accepted (a .chained) (l .loop .r) _ (c .take-line .result) (told t ∙ k .enum-told .given .1) (c .take-line .ensures ∙ ap (λ g. taken (l .loop .r) (g .first)) first) in (
       omega (arith, short),
-      rw (t .step .ensures) (keeps-bounded _ (l .loop .r) _ (l .loop .inv .1)),
-      ap (λ n. readFrom (a .chained) (a .sheet .now) (t .step .result .reading) (l .loop .at + n + 1)) (ap length (b .line .ensures))
-          ∙ onward _ _ (l .loop .r) (l .loop .at) (b .before .loop-test .taken) (omega (arith, short, ap length (b .line .ensures))) (l .loop .inv .1)
-          (t .step .result) (step-of t) (k .enum-told .given .1)
+      rw (ap (λ s. s .reading) stepped) (keeps-bounded _ (l .loop .r) _ (l .loop .inv .1)),
+      ap (λ n. readFrom (a .chained) (a .sheet .now) (c .take-line .result) (l .loop .at + n + 1)) (ap length (b .line .ensures))
+          ∙ onward _ _ (l .loop .r) (l .loop .at) (b .before .loop-test .taken) (omega (arith, short, ap length (b .line .ensures))) (l .loop .inv .1) _ stepped refl
           ∙ l .loop .inv .2,
     )
 
@@ -124,10 +133,11 @@ read-lines-spec =
     add-end
     returns
     frame-requires
-    step-requires
+    line-verdict-requires
     enum-told
-    enum-told-2
+    enum-known-v
     returns-2
+    take-line-requires
     add-at
     loop-less
     loop-again

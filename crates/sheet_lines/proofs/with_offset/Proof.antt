@@ -1,38 +1,28 @@
+use native.Mathlib.Nat.{mod-eq-of-lt}
 use borrow.Author.Needs.{needs}
 use Rattle.model.specs.Reading.{withOffset}
 use Rattle.sheet_lines.proofs.with_offset.Statement.{statement}
 use Rattle.sheet_lines.proofs.with_offset.Tie as tie
 
-cast-set-entries : tie.Need-cast-set-entries
-cast-set-entries c = search needs
-
-mul-set-entries : tie.Need-mul-set-entries
-mul-set-entries c = search needs
-
 entries-in-requires : tie.Need-entries-in-requires
 entries-in-requires c κs = search needs
 
-set-entries-requires : tie.Need-set-entries-requires
-set-entries-requires c κs = search needs
+set-offset-requires : tie.Need-set-offset-requires
+set-offset-requires c κs = search needs
 
-add-t12 : tie.Need-add-t12
-add-t12 c = search needs
+add-next : tie.Need-add-next
+add-next c = search needs
 
 set-window-requires : tie.Need-set-window-requires
 set-window-requires c κs = search needs
 
 returns : tie.Need-returns
 unfolding withOffset
-returns c = rw (c .set-window .ensures, c .before .set-entries .ensures, c .before .before .entries-in .ensures)
+returns c =
+    let s = c .before in
+    rw (c .set-window .ensures, s .set-offset .ensures, s .before .entries-in .ensures, mod-eq-of-lt (s .before .before .before .before .before .pre))
 
 pub with-offset-spec : {M : Type 1} → statement M
 with-offset-spec =
     tie.close
-    (tie.spec
-    cast-set-entries
-    mul-set-entries
-    entries-in-requires
-    set-entries-requires
-    add-t12
-    set-window-requires
-    returns)
+    (tie.spec entries-in-requires set-offset-requires add-next set-window-requires returns)

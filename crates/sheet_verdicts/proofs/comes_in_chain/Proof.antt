@@ -20,6 +20,9 @@ enum-told-4 c = search needs
 enum-told-5 : tie.Need-enum-told-5
 enum-told-5 c = search needs
 
+enum-told-6 : tie.Need-enum-told-6
+enum-told-6 c = search needs
+
 returns : tie.Need-returns
 unfolding nextInChain
 returns c = rw (c .before .enum-told3 .given .1) (is-first _ 2 _ (c .if1 .taken))
@@ -30,7 +33,7 @@ returns-2 c = let e1 = c .before in rw (e1 .before .enum-told3 .given .1) (not-f
 
 returns-3 : tie.Need-returns-3
 unfolding nextInChain
-returns-3 c = rw (c .before .enum-told4 .given .1) (is-first _ 3 _ (c .if3 .taken))
+returns-3 c = rw (c .before .enum-told5 .given .1) (is-first _ 3 _ (c .if3 .taken))
 
 returns-4 : tie.Need-returns-4
 unfolding nextInChain
@@ -45,12 +48,16 @@ unfolding nextInChain
 returns-6 c = let e1 = c .before in rw (e1 .before .enum-told3 .given .1) (not-first _ 2 _ (e1 .if1 .left) (not-first _ 3 _ (c .if2 .left) (one-left _ 4)))
 
 returns-7 : tie.Need-returns-7
-unfolding nextInChain
-returns-7 c = rw (c .before .enum-told4 .given .1) (not-first _ 3 _ (c .if3 .left) (one-left _ 4))
+unfolding nextInChain among any
+returns-7 c = rw (c .enum-told4 .given .1)
 
 returns-8 : tie.Need-returns-8
+unfolding nextInChain
+returns-8 c = rw (c .before .enum-told5 .given .1) (not-first _ 3 _ (c .if3 .left) (one-left _ 4))
+
+returns-9 : tie.Need-returns-9
 unfolding nextInChain among any
-returns-8 c = rw (c .enum-told5 .given .1)
+returns-9 c = rw (c .enum-told6 .given .1)
 
 pub comes-in-chain-spec : {M : Type 1} → statement M
 comes-in-chain-spec =
@@ -62,10 +69,12 @@ comes-in-chain-spec =
     returns
     returns-2
     enum-told-4
-    returns-3
     enum-told-5
+    returns-3
+    enum-told-6
     returns-4
     returns-5
     returns-6
     returns-7
-    returns-8)
+    returns-8
+    returns-9)

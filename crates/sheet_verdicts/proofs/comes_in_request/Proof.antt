@@ -20,29 +20,40 @@ enum-told-4 c = search needs
 enum-told-5 : tie.Need-enum-told-5
 enum-told-5 c = search needs
 
+enum-told-6 : tie.Need-enum-told-6
+enum-told-6 c = search needs
+
 returns : tie.Need-returns
 unfolding nextInRequest
-returns c = rw (c .before .enum-told3 .given .1) (is-first _ 2 _ (c .if1 .taken))
+returns c = rw (c .before .enum-told2 .given .1) (is-first _ 2 _ (c .if1 .taken))
 
 returns-2 : tie.Need-returns-2
 unfolding nextInRequest
-returns-2 c = rw (c .enum-told .given .1) (one-left _ 1)
+returns-2 c = rw (c .before .enum-told3 .given .1) (is-first _ 2 _ (c .if2 .taken))
 
 returns-3 : tie.Need-returns-3
 unfolding nextInRequest
-returns-3 c = rw (c .enum-told2 .given .1) (one-left _ 2)
+returns-3 c = rw (c .enum-told .given .1) (one-left _ 1)
 
 returns-4 : tie.Need-returns-4
 unfolding nextInRequest
-returns-4 c = rw (c .before .enum-told3 .given .1) (not-first _ 2 _ (c .if1 .left) (one-left _ 4))
+returns-4 c = rw (c .before .enum-told2 .given .1) (not-first _ 2 _ (c .if1 .left) (one-left _ 7))
 
 returns-5 : tie.Need-returns-5
-unfolding nextInRequest among any
-returns-5 c = rw (c .enum-told4 .given .1)
+unfolding nextInRequest
+returns-5 c = rw (c .before .enum-told3 .given .1) (not-first _ 2 _ (c .if2 .left) (one-left _ 4))
 
 returns-6 : tie.Need-returns-6
+unfolding nextInRequest
+returns-6 c = rw (c .enum-told4 .given .1) (one-left _ 4)
+
+returns-7 : tie.Need-returns-7
 unfolding nextInRequest among any
-returns-6 c = rw (c .enum-told5 .given .1)
+returns-7 c = rw (c .enum-told5 .given .1)
+
+returns-8 : tie.Need-returns-8
+unfolding nextInRequest among any
+returns-8 c = rw (c .enum-told6 .given .1)
 
 pub comes-in-request-spec : {M : Type 1} → statement M
 comes-in-request-spec =
@@ -50,12 +61,15 @@ comes-in-request-spec =
     (tie.spec
     enum-told
     enum-told-2
-    enum-told-3
     returns
+    enum-told-3
+    returns-2
     enum-told-4
     enum-told-5
-    returns-2
+    enum-told-6
     returns-3
     returns-4
     returns-5
-    returns-6)
+    returns-6
+    returns-7
+    returns-8)

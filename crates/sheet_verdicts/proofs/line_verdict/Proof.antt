@@ -32,6 +32,9 @@ bad-grid-requires c κs = search needs
 too-many-requires : tie.Need-too-many-requires
 too-many-requires c κs = search needs
 
+bad-name-requires : tie.Need-bad-name-requires
+bad-name-requires c κs = search needs
+
 refused-if-requires : tie.Need-refused-if-requires
 refused-if-requires c κs = search needs
 
@@ -50,6 +53,9 @@ refused-if-requires-5 c κs = search needs
 refused-if-requires-6 : tie.Need-refused-if-requires-6
 refused-if-requires-6 c κs = search needs
 
+refused-if-requires-7 : tie.Need-refused-if-requires-7
+refused-if-requires-7 c κs = search needs
+
 returns : tie.Need-returns
 unfolding lineVerdict lineChecks
 returns c =
@@ -58,7 +64,9 @@ returns c =
     let v4 = v3 .before in
     let v5 = v4 .before in
     let v6 = v5 .before in
-    let t6 = v6 .before in
+    let v7 = v6 .before in
+    let t7 = v7 .before in
+    let t6 = t7 .before in
     let t5 = t6 .before in
     let t4 = t5 .before in
     let t3 = t4 .before in
@@ -70,12 +78,14 @@ returns c =
     (more _ refusal.BadGrid _ (t3 .bad-dims .ensures)
     (more _ refusal.Malformed _ (t4 .bad-length .ensures)
     (more _ refusal.BadGrid _ (t5 .bad-grid .ensures)
-    (more _ refusal.BadCount _ (t6 .too-many .ensures) none (v6 .refused-if .ensures))
-    (v5 .refused-if2 .ensures))
-    (v4 .refused-if3 .ensures))
-    (v3 .refused-if4 .ensures))
-    (v2 .refused-if5 .ensures))
-    (c .refused-if6 .ensures)
+    (more _ refusal.BadCount _ (t6 .too-many .ensures)
+    (more _ refusal.BadName _ (t7 .bad-name .ensures) none (v7 .refused-if .ensures))
+    (v6 .refused-if2 .ensures))
+    (v5 .refused-if3 .ensures))
+    (v4 .refused-if4 .ensures))
+    (v3 .refused-if5 .ensures))
+    (v2 .refused-if6 .ensures))
+    (c .refused-if7 .ensures)
 
 pub line-verdict-spec : {M : Type 1} → statement M
 line-verdict-spec =
@@ -90,10 +100,12 @@ line-verdict-spec =
     bad-length-requires
     bad-grid-requires
     too-many-requires
+    bad-name-requires
     refused-if-requires
     refused-if-requires-2
     refused-if-requires-3
     refused-if-requires-4
     refused-if-requires-5
     refused-if-requires-6
+    refused-if-requires-7
     returns)

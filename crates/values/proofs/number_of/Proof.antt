@@ -39,6 +39,9 @@ enum-told-11 c = search needs
 enum-told-12 : tie.Need-enum-told-12
 enum-told-12 c = search needs
 
+enum-told-13 : tie.Need-enum-told-13
+enum-told-13 c = search needs
+
 returns : tie.Need-returns
 unfolding numberOf
 returns c = rw (c .enum-told .given .1)
@@ -87,6 +90,10 @@ returns-12 : tie.Need-returns-12
 unfolding numberOf
 returns-12 c = rw (c .enum-told12 .given .1)
 
+returns-13 : tie.Need-returns-13
+unfolding numberOf
+returns-13 c = rw (c .enum-told13 .given .1)
+
 pub number-of-spec : {M : Type 1} → statement M
 number-of-spec =
     tie.close
@@ -103,6 +110,7 @@ number-of-spec =
     enum-told-10
     enum-told-11
     enum-told-12
+    enum-told-13
     returns
     returns-2
     returns-3
@@ -114,4 +122,5 @@ number-of-spec =
     returns-9
     returns-10
     returns-11
-    returns-12)
+    returns-12
+    returns-13)

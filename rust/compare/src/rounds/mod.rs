@@ -8,8 +8,9 @@ use crate::round::{Differs, Round};
 
 type Kind = fn(&mut Round) -> Result<(), Differs>;
 
-pub const KINDS: [(&str, Kind); 4] = [
+pub const KINDS: [(&str, Kind); 5] = [
     ("a request sheet planned", sheets::plan),
+    ("a window by name beside its offsets", sheets::by_name),
     ("a chain sheet judged and read", sheets::chain),
     ("run calls on a chain", calls::calls),
     ("run calls on any words", any_chain::calls),

@@ -15,10 +15,17 @@ pub fn plan(round: &mut Round) -> Result<(), Differs> {
     let dice = &mut round.dice;
     let mut draft = Draft::random(dice);
     dice.shuffle(&mut draft.offsets);
-    let mut text = if dice.one_in(30) {
-        draft.chain_text()
-    } else {
-        draft.request_text()
+    let mut text = match dice.below(30) {
+        0 => draft.chain_text(),
+        1..=3 => {
+            let name = dice.pick(&[0, 1, 2, 3, 4, 5, 6, 255]);
+            draft.named_text(name)
+        }
+        4..=6 => {
+            let (name, draft) = Draft::named(dice);
+            draft.named_text(name)
+        }
+        _ => draft.request_text(),
     };
     spoil(dice, &mut text);
 
@@ -59,13 +66,25 @@ pub fn plan(round: &mut Round) -> Result<(), Differs> {
     Ok(())
 }
 
+/// The library alone: a sheet with a name and the one with its offsets written out are planned alike.
+pub fn by_name(round: &mut Round) -> Result<(), Differs> {
+    let (name, draft) = Draft::named(&mut round.dice);
+    let (text, out) = (draft.named_text(name), draft.request_text());
+    round.note_text("by name", &text);
+    let mut sheets = [[FILL; SHEET_BYTES]; 2];
+    let answers = [native::plan(&text, &mut sheets[0]), native::plan(&out, &mut sheets[1])];
+    round.tally.count(Function::Plan, answers[0].refusal);
+    round.same("by name: refusal and bytes", &answers[0], &answers[1])?;
+    round.same_at("by name: sheet", &sheets[0], &sheets[1])
+}
+
 pub fn chain(round: &mut Round) -> Result<(), Differs> {
     let dice = &mut round.dice;
     let draft = Draft::random(dice);
-    let mut text = if dice.one_in(30) {
-        draft.request_text()
-    } else {
-        draft.chain_text()
+    let mut text = match dice.below(30) {
+        0 => draft.request_text(),
+        1 => draft.named_text(dice.pick(&[0, 1, 4, 6])),
+        _ => draft.chain_text(),
     };
     spoil(dice, &mut text);
     let room = dice.pick(&[CHAIN_WORDS, CHAIN_WORDS, CHAIN_WORDS - 1, 0, 200, 100]);

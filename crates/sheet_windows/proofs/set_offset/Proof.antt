@@ -9,12 +9,18 @@ use mir.Facts.{toZ-ofZ}
 use mir.Syntax.{w16}
 use mir.Val.{toZ, ofZ}
 use borrow.Author.Needs.{needs}
-use Rattle.sheet_lines.proofs.StepLaws.{four-set}
-use Rattle.sheet_lines.proofs.set_entries.Statement.{statement}
-use Rattle.sheet_lines.proofs.set_entries.Tie as tie
+use Rattle.sheet_windows.proofs.NamedLaws.{four-set}
+use Rattle.sheet_windows.proofs.set_offset.Statement.{statement}
+use Rattle.sheet_windows.proofs.set_offset.Tie as tie
 
 entry-at : (xs : List ℤ) (i : ℕ) → mag (getD xs i (pos 0)) < 32768 → toZ w16 (ofZ w16 (getD xs i (pos 0))) ≡ getD xs i (pos 0)
 entry-at xs i h = toZ-ofZ (record { sfits = h })
+
+cast-at : tie.Need-cast-at
+cast-at c = search needs
+
+mul-at : tie.Need-mul-at
+mul-at c = search needs
 
 array-copy-out-o : tie.Need-array-copy-out-o
 array-copy-out-o c = search needs
@@ -69,10 +75,12 @@ returns c =
     let xs = e1 .before .args .t3 in
     rw (entry-at xs 0 (e1 .o .given), entry-at xs 1 (e2 .o2 .given), entry-at xs 2 (e3 .o3 .given), entry-at xs 3 (c .o4 .given)) (four-set _ xs _ _ (omega arith))
 
-pub set-entries-spec : {M : Type 1} → statement M
-set-entries-spec =
+pub set-offset-spec : {M : Type 1} → statement M
+set-offset-spec =
     tie.close
     (tie.spec
+    cast-at
+    mul-at
     array-copy-out-o
     mul-o
     array-set-from-o

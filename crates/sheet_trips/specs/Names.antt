@@ -1,0 +1,38 @@
+-- Windows by name (document 02, request 1): "A sheet with the name plans exactly as one with the offsets written out in that order".
+use Prim.Native.Nat.{ℕ}
+use mathlib.Core.Bool.{true}
+use mathlib.Core.List.{List, [], _∷_, _++_, map, flatMap}
+use mathlib.Core.Path.{_≡_}
+use lib.ListN.{take}
+use Rattle.model.specs.Planning.{planOf}
+use Rattle.model.specs.Frames.{digitsOf, framed}
+use Rattle.model.specs.NamedWindows.{isName, namedOf, offsetsNamed}
+use Rattle.model.specs.Reading.{readRequest}
+use Rattle.model.specs.Writing.{offsetLine}
+use Rattle.model.specs.Programs.{planText}
+
+module _ (name : ℕ) (sizes rest : List ℕ) where
+  -- A sheet: an `01` line with as many dimensions as the name's window has and any bytes behind that count, the lines of the window, and any characters.
+  abbrev sheetWith : (window : List ℕ) → List ℕ
+  sheetWith window = framed (1 ∷ namedOf name .dims ∷ sizes) ++ (window ++ rest)
+
+  -- The window by its name, and by its offsets in the order of the list.
+  abbrev pub byName : List ℕ
+  byName = sheetWith (framed (7 ∷ name ∷ []))
+
+  abbrev pub writtenOut : List ℕ
+  writtenOut = sheetWith (flatMap framed (map offsetLine (offsetsNamed name)))
+
+-- What reading two sheets gives, verdict and request; the plan of that request, verdict and chain; and what `plan` writes, byte for byte.
+pub record PlannedAlike (one other : List ℕ) : Type 0 where
+  pub read : readRequest one ≡ readRequest other
+  pub plan : planOf (readRequest one .request) ≡ planOf (readRequest other .request)
+  pub text : planText one ≡ planText other
+
+-- The characters begin with an `02` line, which would be one of the window's: "may stand for all `02` lines".
+abbrev pub BeginsWithOffset : List ℕ → Type 0
+BeginsWithOffset rest = take 2 rest ≡ digitsOf (2 ∷ [])
+
+-- Of every name of the list, whatever stands on the grid's line and behind the window.
+abbrev pub ByName : Type 0
+ByName = (name : ℕ) (sizes rest : List ℕ) → isName name ≡ true → (BeginsWithOffset rest → ⊥) → PlannedAlike (byName name sizes rest) (writtenOut name sizes rest)
