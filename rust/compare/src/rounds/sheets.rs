@@ -72,7 +72,10 @@ pub fn by_name(round: &mut Round) -> Result<(), Differs> {
     let (text, out) = (draft.named_text(name), draft.request_text());
     round.note_text("by name", &text);
     let mut sheets = [[FILL; SHEET_BYTES]; 2];
-    let answers = [native::plan(&text, &mut sheets[0]), native::plan(&out, &mut sheets[1])];
+    let answers = [
+        native::plan(&text, &mut sheets[0]),
+        native::plan(&out, &mut sheets[1]),
+    ];
     round.tally.count(Function::Plan, answers[0].refusal);
     round.same("by name: refusal and bytes", &answers[0], &answers[1])?;
     round.same_at("by name: sheet", &sheets[0], &sheets[1])
