@@ -1,6 +1,6 @@
-/* Tries what the header says beside what each function answers: slices of 0 elements whose pointer is NULL, windows by name, calls in several threads at the same time,
- * a store of any content, too few output places, and the stack that a call needs (with EDGES_STACK set it prints how much). Prints what does not hold, and last `c/edges: ok` or
- * `c/edges: failed`. */
+/* Tries what the header says beside what each function answers: slices of 0 elements whose pointer is NULL, windows by name, terms in the author's order, calls in several
+ * threads at the same time, a store of any content, too few output places, and the stack that a call needs (with EDGES_STACK set it prints how much). Prints what does not
+ * hold, and last `c/edges: ok` or `c/edges: failed`. */
 #define _POSIX_C_SOURCE 200809L
 #include "zohmirka.h"
 
@@ -84,6 +84,45 @@ static void names(void) {
     expect(zohmirka_judge(bytes(name), strlen(name)) == 2, "judge: a name in a chain sheet");
 }
 
+/* The one word that a chain of three references writes of three cells: 1, 1 and 2 to the 24th. */
+static uint32_t sum_of(const uint32_t *chain) {
+    static const uint32_t cells[3] = {0x3F800000, 0x3F800000, 0x4B800000};
+    uint32_t state[ZOHMIRKA_STATE_WORDS] = {0}, store[2] = {0}, out[1] = {0};
+    expect(is(zohmirka_run_chain(chain, ZOHMIRKA_CHAIN_WORDS, state, ZOHMIRKA_STATE_WORDS, store, 2, cells, 3, out, 1, 9), 0, ZOHMIRKA_DONE, 3, 1, 3), "orders: run");
+    return out[0];
+}
+
+/* The request's order in a planned chain, the same chain without it, and 14. */
+static void orders(void) {
+    const char *request = "010100000003\n020000\n020001\n020002\n04023F800000\n";
+    const char *sheet = "010100000003\n020002\n020001\n020000\n0300000001\n0300000001\n06020100\n04023F800000\n";
+    const char *without = "010100000003\n020002\n020001\n020000\n0300000001\n0300000001\n04023F800000\n";
+    uint8_t wrote[ZOHMIRKA_SHEET_BYTES];
+    uint32_t chain[ZOHMIRKA_CHAIN_WORDS];
+    struct zohmirka_sheet answer = zohmirka_plan(bytes(request), strlen(request), wrote, sizeof wrote);
+    expect(answer.refusal == 0 && answer.bytes == strlen(sheet) && memcmp(wrote, sheet, answer.bytes) == 0, "plan: the order");
+    expect(zohmirka_read_chain(wrote, answer.bytes, chain, ZOHMIRKA_CHAIN_WORDS) == 0, "read: the order");
+    const uint32_t *order = chain + ZOHMIRKA_CHAIN_ORDER;
+    expect(chain[ZOHMIRKA_CHAIN_ORDER_STOOD] == 1 && order[0] == 2 && order[1] == 1 && order[2] == 0 && order[3] == 0, "read: words of the order");
+    expect(sum_of(chain) == 0x4B800001, "a sum in the author's order");
+
+    chain[ZOHMIRKA_CHAIN_ORDER + 2] = 256;
+    expect(zohmirka_judge_chain(chain, ZOHMIRKA_CHAIN_WORDS) == 14, "judge_chain: no order");
+    expect(is(zohmirka_run_chain(chain, ZOHMIRKA_CHAIN_WORDS, NULL, 0, NULL, 0, NULL, 0, NULL, 0, 9), 14, ZOHMIRKA_REFUSED, 0, 0, 0), "run_chain: no order");
+    answer = zohmirka_write_chain(chain, ZOHMIRKA_CHAIN_WORDS, NULL, 0);
+    expect(answer.refusal == 14 && answer.bytes == 0, "write_chain: no order");
+    chain[ZOHMIRKA_CHAIN_ORDER_STOOD] = 0;
+    expect(sum_of(chain) == 0x4B800000, "a sum in chain order");
+    answer = zohmirka_write_chain(chain, ZOHMIRKA_CHAIN_WORDS, wrote, sizeof wrote);
+    expect(answer.refusal == 0 && answer.bytes == strlen(without) && memcmp(wrote, without, answer.bytes) == 0, "write_chain: an order that did not stand");
+    expect(zohmirka_read_chain(bytes(without), strlen(without), chain, ZOHMIRKA_CHAIN_WORDS) == 0, "read: without an order");
+    for (int i = ZOHMIRKA_CHAIN_ORDER_STOOD; i < ZOHMIRKA_CHAIN_WORDS; i++) expect(chain[i] == 0, "read: words of no order");
+    /* The sheet of a chain of one reference, and no request. */
+    const char *alone = "010100000003\n020000\n0600\n0400\n";
+    answer = zohmirka_plan(bytes(alone), strlen(alone), wrote, sizeof wrote);
+    expect(answer.refusal == 2 && zohmirka_judge(bytes(alone), strlen(alone)) == 0, "an order in a request sheet");
+}
+
 /* Raw of two references needs two places. */
 static void few_places(void) {
     uint32_t state[ZOHMIRKA_STATE_WORDS] = {0}, store[3] = {0xA5A5A5A5, 0x7FC00001, 0xFFFFFFFF}, out[4] = {9, 9, 9, 9};
@@ -148,7 +187,7 @@ static void *runs(void *lent) {
         struct zohmirka_report r = job->piece % 2 ? zohmirka_run(sheet, planned.bytes, state, ZOHMIRKA_STATE_WORDS, store, ZOHMIRKA_STORE_WORDS, cells + at, count, out, 4096, 4000)
                                                   : zohmirka_run_chain(chain, ZOHMIRKA_CHAIN_WORDS, state, ZOHMIRKA_STATE_WORDS, store, ZOHMIRKA_STORE_WORDS, cells + at, count,
                                                                        out, 4096, 4000);
-        for (uint32_t i = 0; i < r.firings * (job->kernel == 0 ? chain[5] : 1); i++) sum = sum * 31 + out[i];
+        for (uint32_t i = 0; i < r.firings * (job->kernel == 0 ? chain[ZOHMIRKA_CHAIN_REFERENCES] : 1); i++) sum = sum * 31 + out[i];
         at += r.cells;
         firings += r.firings;
         job->wrong |= r.refusal != 0 || r.outcome == ZOHMIRKA_STALLED;
@@ -209,6 +248,7 @@ int main(void) {
     expect(zohmirka_version() == ZOHMIRKA_VERSION, "version");
     null_slices();
     names();
+    orders();
     few_places();
     threads();
     stack();

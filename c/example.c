@@ -27,7 +27,7 @@ int main(void) {
         return 1;
     }
     /* Raw writes a word for each reference. */
-    const uint32_t words = chain[5];
+    const uint32_t words = chain[ZOHMIRKA_CHAIN_REFERENCES];
 
     uint32_t state[ZOHMIRKA_STATE_WORDS] = {0};
     uint32_t store[ZOHMIRKA_STORE_WORDS];

@@ -14,7 +14,7 @@
  * Numbers: 1 a malformed line, 2 a line out of its order or missing, 3 dimension count, sizes or number of cells, 4 number of references, 5 two equal offsets,
  * 6 no iteration, 7 difference or blend without a centre, 8 a factor that is infinite or not a number, 9 capacities summing above 16,384, 10 a store that is too
  * short, 11 a state that is too short or whose counters do not fit the chain, 12 what is to be written is longer than the slice lent for it, 13 (request sheets) a
- * byte that names no window, or one whose dimensions are not the grid's.
+ * byte that names no window, or one whose dimensions are not the grid's, 14 (chains) an order that stood and does not hold each filter number once.
  */
 #ifndef ZOHMIRKA_H
 #define ZOHMIRKA_H
@@ -27,13 +27,13 @@ extern "C" {
 #endif
 
 /* The version of this interface. */
-#define ZOHMIRKA_VERSION 1
+#define ZOHMIRKA_VERSION 2
 
 /* No call needs more bytes of stack, what it calls included. Measured, not proved. */
 #define ZOHMIRKA_STACK_BYTES 16384
 
 /* No chain sheet has more bytes. */
-#define ZOHMIRKA_SHEET_BYTES 1007
+#define ZOHMIRKA_SHEET_BYTES 1074
 /* No chain that is accepted needs more words of store. */
 #define ZOHMIRKA_STORE_WORDS 16384
 /* No firing writes more words. Raw writes as many as there are references, the other kernels write one. */
@@ -42,7 +42,7 @@ extern "C" {
 /* A state is 33 words: the input counters of filters 0 to 31, then the firings made. All are 0 when fresh. */
 #define ZOHMIRKA_STATE_WORDS 33
 
-/* A chain is 168 words:
+/* A chain is 201 words:
  *   0           the dimension count
  *   1 to 4      the sizes, slowest dimension first
  *   5           the number of references, n
@@ -50,8 +50,23 @@ extern "C" {
  *   134 to 164  the capacities, FIFO 0 first
  *   165         the kernel: 0 raw, 1 difference, 2 scaled, 3 blend
  *   166, 167    scaled: the factor's bits, and 0; blend: the bits of a and of b; else 0 and 0
- * Words past the counts are 0. */
-#define ZOHMIRKA_CHAIN_WORDS 168
+ *   168         1 if the author's order stood, else 0
+ *   169 to 200  the author's order: the filter number of each term in turn
+ * Words past the counts are 0, and so are those of an order that did not stand: then terms are added in chain order. */
+#define ZOHMIRKA_CHAIN_WORDS 201
+
+/* Where the parts of a chain begin. */
+enum {
+    ZOHMIRKA_CHAIN_DIMENSIONS = 0,
+    ZOHMIRKA_CHAIN_SIZES = 1,
+    ZOHMIRKA_CHAIN_REFERENCES = 5,
+    ZOHMIRKA_CHAIN_OFFSETS = 6,
+    ZOHMIRKA_CHAIN_CAPACITIES = 134,
+    ZOHMIRKA_CHAIN_KERNEL = 165,
+    ZOHMIRKA_CHAIN_FACTORS = 166,
+    ZOHMIRKA_CHAIN_ORDER_STOOD = 168,
+    ZOHMIRKA_CHAIN_ORDER = 169
+};
 
 /* How a call ends. */
 enum {
@@ -79,14 +94,14 @@ struct zohmirka_report {
 /* ZOHMIRKA_VERSION of the library. */
 uint32_t zohmirka_version(void);
 
-/* Plans: the chain sheet of a request sheet goes to the first places of `sheet`, later places stay. Refusals: 1 to 9 and 13 of the request, then 12 if the chain
- * sheet has more bytes than `sheet`. */
+/* Plans: the chain sheet of a request sheet goes to the first places of `sheet`, later places stay. The order of the references in the request goes with it, and
+ * the kernel adds its terms in it. Refusals: 1 to 9 and 13 of the request, then 12 if the chain sheet has more bytes than `sheet`. */
 struct zohmirka_sheet zohmirka_plan(const uint8_t *request, size_t request_len, uint8_t *sheet, size_t sheet_len);
 
-/* Judges a chain sheet, which ends with its `04` line: 1 to 9, or 0 if it is accepted. */
+/* Judges a chain sheet, which ends with its `04` line: 1 to 9 or 14, or 0 if it is accepted. */
 uint32_t zohmirka_judge(const uint8_t *sheet, size_t sheet_len);
 
-/* A run call on the chain of a sheet. Refusals: 1 to 9 of the sheet, then 10, then 11.
+/* A run call on the chain of a sheet. Refusals: 1 to 9 of the sheet, then 14, then 10, then 11.
  *   state      33 words or more: all 0 before the first call, then as the last call left them; later words play no part and stay
  *   store      as many words as the capacities' sum or more: of any content before the first call, then as the last call left them; later words play no part and stay
  *   cells      cells of the stream, the first one at the position that word 0 of the state says
@@ -96,20 +111,22 @@ uint32_t zohmirka_judge(const uint8_t *sheet, size_t sheet_len);
 struct zohmirka_report zohmirka_run(const uint8_t *sheet, size_t sheet_len, uint32_t *state, size_t state_len, uint32_t *store, size_t store_len,
                                     const uint32_t *cells, size_t cells_len, uint32_t *out, size_t out_len, uint32_t allowance);
 
-/* Reads a chain sheet: its chain goes to the first 168 places of `chain`, later places stay. Refusals: 1 to 9 of the sheet, then 12 if `chain` has fewer places. */
+/* Reads a chain sheet: its chain goes to the first 201 places of `chain`, later places stay. Refusals: 1 to 9 of the sheet, then 14, then 12 if `chain` has fewer
+ * places. */
 uint32_t zohmirka_read_chain(const uint8_t *sheet, size_t sheet_len, uint32_t *chain, size_t chain_len);
 
 /* A run call on a chain given as words, for many short calls: no sheet is read. On what zohmirka_read_chain wrote of a sheet it does what zohmirka_run does on that
- * sheet. Any other words are a chain too. Refusals: 3 to 9 of the chain, then 10, then 11. Fewer than 168 words are refused by 3; later words play no part; counts
- * above 255 count as 255; of an entry the low 16 bits count; a kernel above 3 is refused by 8. */
+ * sheet. Any other words are a chain too. Refusals: 3 to 9 of the chain, then 14, then 10, then 11. Fewer than 201 words are refused by 3; later words play no part;
+ * counts and filter numbers above 255 count as 255; of an entry the low 16 bits count; a kernel above 3 is refused by 8; an order stood if word 168 is not 0, else its
+ * words play no part. */
 struct zohmirka_report zohmirka_run_chain(const uint32_t *chain, size_t chain_len, uint32_t *state, size_t state_len, uint32_t *store, size_t store_len,
                                           const uint32_t *cells, size_t cells_len, uint32_t *out, size_t out_len, uint32_t allowance);
 
-/* Judges a chain given as words, as zohmirka_run_chain takes them: 3 to 9, or 0 if it is accepted. */
+/* Judges a chain given as words, as zohmirka_run_chain takes them: 3 to 9 or 14, or 0 if it is accepted. */
 uint32_t zohmirka_judge_chain(const uint32_t *chain, size_t chain_len);
 
 /* Writes the sheet of a chain given as words, as zohmirka_run_chain takes them: it goes to the first places of `sheet`, later places stay. Of what zohmirka_read_chain
- * wrote of a sheet it is that sheet. Refusals: 3 to 9 of the chain, then 12 if the chain sheet has more bytes than `sheet`. */
+ * wrote of a sheet it is that sheet. Refusals: 3 to 9 of the chain, then 14, then 12 if the chain sheet has more bytes than `sheet`. */
 struct zohmirka_sheet zohmirka_write_chain(const uint32_t *chain, size_t chain_len, uint8_t *sheet, size_t sheet_len);
 
 #ifdef __cplusplus

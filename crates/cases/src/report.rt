@@ -149,9 +149,16 @@ fn name(kernel: Kernel) {
     }
 }
 
-// Lent whole, and lent in pieces.
-fn with_kernel(l: Loops, kernel: Kernel, window: &[u8], cells: &[u32], out: &mut [u32]) {
-    let p = planner::plan(request(l, window, kernel));
+// Lent whole, and lent in pieces. `author`: the window as its author wrote it; `window`: in the order in which the nested loop goes.
+fn with_kernel(
+    l: Loops,
+    kernel: Kernel,
+    author: &[u8],
+    window: &[u8],
+    cells: &[u32],
+    out: &mut [u32],
+) {
+    let p = planner::plan(request(l, author, kernel));
     let verdict = p.verdict;
     let chain = p.chain;
     name(kernel);
@@ -164,31 +171,48 @@ fn with_kernel(l: Loops, kernel: Kernel, window: &[u8], cells: &[u32], out: &mut
     }
 }
 
-fn with_kernels(l: Loops, window: &[u8], cells: &[u32], out: &mut [u32]) {
+// Kernels add in the author's order; raw keeps chain order, in which offsets fall.
+fn with_kernels(l: Loops, author: &[u8], falling: &[u8], cells: &[u32], out: &mut [u32]) {
     let f = Factors { a: 0.6, b: 0.1 };
-    with_kernel(l, Kernel::Raw, window, cells, out);
-    with_kernel(l, Kernel::Difference, window, cells, out);
-    with_kernel(l, Kernel::Scaled(0.2), window, cells, out);
-    with_kernel(l, Kernel::Blend(f), window, cells, out);
+    with_kernel(l, Kernel::Raw, author, falling, cells, out);
+    with_kernel(l, Kernel::Difference, author, author, cells, out);
+    with_kernel(l, Kernel::Scaled(0.2), author, author, cells, out);
+    with_kernel(l, Kernel::Blend(f), author, author, cells, out);
 }
 
-fn case(name: &[u8], l: Loops, window: &[u8], cells: &[u32], out: &mut [u32]) {
-    let p = planner::plan(request(l, window, Kernel::Raw));
+fn case(name: &[u8], l: Loops, author: &[u8], falling: &[u8], cells: &[u32], out: &mut [u32]) {
+    let p = planner::plan(request(l, author, Kernel::Raw));
     let chain = p.chain;
     text(name);
     fifos(chain);
     first_firing(chain, cells);
-    with_kernels(l, window, cells, out);
+    with_kernels(l, author, falling, cells, out);
 }
 
+// Case 1 is Listing 1 of document 003: centre, left, right, up, down.
 fn flat_cases(cells: &[u32], out: &mut [u32]) {
-    let l = flat(2);
-    case(b"case 1, DENOISE\n", l, b"0+0 00+ 000 00- 0-0", cells, out);
+    let l = flat(0);
+    case(
+        b"case 1, DENOISE\n",
+        l,
+        b"000 00- 00+ 0-0 0+0",
+        b"0+0 00+ 000 00- 0-0",
+        cells,
+        out,
+    );
     let l = flat(4);
-    case(b"case 2, RICIAN\n", l, b"0+0 00+ 00- 0-0", cells, out);
+    case(
+        b"case 2, RICIAN\n",
+        l,
+        b"00- 00+ 0-0 0+0",
+        b"0+0 00+ 00- 0-0",
+        cells,
+        out,
+    );
     case(
         b"case 3, SOBEL\n",
         l,
+        b"0-- 0-0 0-+ 00- 000 00+ 0+- 0+0 0++",
         b"0++ 0+0 0+- 00+ 000 00- 0-+ 0-0 0--",
         cells,
         out,
@@ -196,17 +220,24 @@ fn flat_cases(cells: &[u32], out: &mut [u32]) {
 }
 
 fn solid_cases(cells: &[u32], out: &mut [u32]) {
-    let l = solid(3);
+    let l = solid(6);
     case(
         b"case 4, DENOISE_3D\n",
         l,
+        b"00- 00+ 0-0 0+0 -00 +00 000",
         b"+00 0+0 00+ 000 00- 0-0 -00",
         cells,
         out,
     );
-    let l = solid(9);
-    let nineteen = b"++0 +0+ +00 +0- +-0 0++ 0+0 0+- 00+ 000 00- 0-+ 0-0 0-- -+0 -0+ -00 -0- --0";
-    case(b"case 5, SEGMENTATION\n", l, nineteen, cells, out);
+    let l = solid(0);
+    case(
+        b"case 5, SEGMENTATION\n",
+        l,
+        b"000 00- 00+ 0-0 0+0 -00 +00 0-- 0-+ 0+- 0++ -0- -0+ +0- +0+ --0 -+0 +-0 ++0",
+        b"++0 +0+ +00 +0- +-0 0++ 0+0 0+- 00+ 000 00- 0-+ 0-0 0-- -+0 -0+ -00 -0- --0",
+        cells,
+        out,
+    );
 }
 
 // The smaller grid takes the first `count` cells.

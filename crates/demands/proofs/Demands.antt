@@ -3,6 +3,7 @@ use Rattle.demands.specs.Iterations.{Geometry}
 use Rattle.demands.specs.Demand3.{ListOfCalls, Demand3}
 use Rattle.demands.specs.Demand2.{Demand2}
 use Rattle.demands.specs.Plan.{PlanDemand}
+use Rattle.demands.specs.AuthorsOrder.{AuthorsOrder}
 use Rattle.demands.specs.Promises.{Promises}
 use Rattle.demands.specs.AnyState.{AnyStates}
 use Rattle.demands.proofs.Iterations.{geometry}
@@ -11,6 +12,7 @@ use Rattle.demands.proofs.HandedOn.{hands-on}
 use Rattle.demands.proofs.Timing.{indexed, on-time, not-earlier}
 use Rattle.demands.proofs.Words.{demand-2}
 use Rattle.demands.proofs.Plans.{plan-demand}
+use Rattle.demands.proofs.AuthorsOrder.{authors-order}
 use Rattle.demands.proofs.Again.{makes-clock, called-again}
 use Rattle.demands.proofs.Pieces.{small-pieces}
 use Rattle.demands.proofs.AnyState.{any-states}
@@ -24,6 +26,9 @@ demand-2-plans = plan-demand
 
 pub demand-2-runs : (q : ListOfCalls) → Demand2 q
 demand-2-runs = demand-2
+
+pub demand-2-in-order : AuthorsOrder
+demand-2-in-order = authors-order
 
 pub demand-3 : Demand3
 demand-3 = record { finishes = finishes; stalls = stalls; numbered = numbered; hands-on = hands-on; indexed = indexed; on-time = on-time; not-earlier = not-earlier }

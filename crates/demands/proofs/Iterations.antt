@@ -13,7 +13,7 @@ use Rattle.model.specs.Values.{Trimmed, trimmed}
 use Rattle.model.specs.Sized.{Proper}
 use Rattle.model.specs.Iterations.{cellsOf, isCellOf, positionOf, isIterationOf, iterationsOf, iterationOf, readsOf}
 use Rattle.model.specs.Answers.{numberOf, verdictNumber, firstOf}
-use Rattle.model.specs.Judging.{badGrid, badCount, repeats, noIteration, centred, lacksCentre, badFactor, tooLarge, windowChecks, kernelChecks, capacityChecks, valueChecks, judged}
+use Rattle.model.specs.Judging.{badGrid, badCount, repeats, noIteration, centred, lacksCentre, badFactor, tooLarge, badOrder, windowChecks, kernelChecks, chainChecks, valueChecks, judged}
 use Rattle.model.specs.Planning.{trimmedRequest}
 use Rattle.model.specs.declared.Refusal.the-variants as refusal
 use Rattle.model.specs.declared.Verdict.{Verdict}
@@ -69,30 +69,35 @@ module _ (t : Trimmed) where
         go empty (yes h) = absurd (true≢false (sym (window.listed (t .sizes) (t .offsets) (proper .entries) 0 h) ∙ empty _))
         go empty (no h) = eq-eqb count 0 (omega arith)
 
--- 6 is answered exactly if its condition holds, whatever holds of 7, 8 and 9.
-from-6 : Bool → Bool → Bool → Bool → Verdict
-from-6 a b c d =
+-- 6 is answered exactly if its condition holds, whatever holds of 7, 8, 9 and 14.
+from-6 : Bool → Bool → Bool → Bool → Bool → Verdict
+from-6 a b c d e =
     cond a (verdict.Refused refusal.NoIteration)
-    (cond b (verdict.Refused refusal.NoCentre) (cond c (verdict.Refused refusal.BadFactor) (cond d (verdict.Refused refusal.TooLarge) verdict.Accepted)))
+    (cond b (verdict.Refused refusal.NoCentre)
+    (cond c (verdict.Refused refusal.BadFactor) (cond d (verdict.Refused refusal.TooLarge) (cond e (verdict.Refused refusal.BadOrder) verdict.Accepted))))
 
-answers-6 : (a b c d : Bool) → verdictNumber (from-6 a b c d) ≡ 6 ↔ a ≡ true
+answers-6 : (a b c d e : Bool) → verdictNumber (from-6 a b c d e) ≡ 6 ↔ a ≡ true
 unfolding from-6 verdictNumber numberOf
-answers-6 true b c d = (λ _. refl, λ _. refl)
-answers-6 false true c d = (λ e. absurd (omega arith), λ e. absurd (true≢false (sym e)))
-answers-6 false false true d = (λ e. absurd (omega arith), λ e. absurd (true≢false (sym e)))
-answers-6 false false false true = (λ e. absurd (omega arith), λ e. absurd (true≢false (sym e)))
-answers-6 false false false false = (λ e. absurd (omega arith), λ e. absurd (true≢false (sym e)))
+answers-6 true b c d e = (λ _. refl, λ _. refl)
+answers-6 false true c d e = (λ q. absurd (omega arith), λ q. absurd (true≢false (sym q)))
+answers-6 false false true d e = (λ q. absurd (omega arith), λ q. absurd (true≢false (sym q)))
+answers-6 false false false true e = (λ q. absurd (omega arith), λ q. absurd (true≢false (sym q)))
+answers-6 false false false false true = (λ q. absurd (omega arith), λ q. absurd (true≢false (sym q)))
+answers-6 false false false false false = (λ q. absurd (omega arith), λ q. absurd (true≢false (sym q)))
 
-judged-from-6 : (t : Trimmed) → badGrid (t .dims) (t .sizes) ≡ false → badCount (t .count) ≡ false → repeats (t .offsets) ≡ false
-    → judged t ≡ from-6 (noIteration (t .sizes) (t .offsets)) (lacksCentre (t .kernel) (centred (t .offsets))) (badFactor (t .kernel)) (tooLarge (t .capacities))
-unfolding judged valueChecks windowChecks kernelChecks capacityChecks firstOf from-6
-judged-from-6 t g n d = rw (g, n, d)
+module _ (t : Trimmed) where
+  abbrev behind : Bool → Verdict
+  behind a = from-6 a (lacksCentre (t .kernel) (centred (t .offsets))) (badFactor (t .kernel)) (tooLarge (t .capacities)) (badOrder (t .count) (t .order))
+
+  judged-from-6 : badGrid (t .dims) (t .sizes) ≡ false → badCount (t .count) ≡ false → repeats (t .offsets) ≡ false → judged t ≡ behind (noIteration (t .sizes) (t .offsets))
+  unfolding judged valueChecks windowChecks kernelChecks chainChecks firstOf from-6
+  judged-from-6 g n d = rw (g, n, d)
 
 number-6 : (t : Trimmed) → Proper t → Number6 t
 number-6 t proper = record {
   condition = none-listed t proper;
   answer = λ g n d.
-      let six = answers-6 (noIteration (t .sizes) (t .offsets)) (lacksCentre (t .kernel) (centred (t .offsets))) (badFactor (t .kernel)) (tooLarge (t .capacities)) in
+      let six = answers-6 (noIteration (t .sizes) (t .offsets)) _ _ _ _ in
       let none = none-listed t proper n in
       rw (judged-from-6 t g n d) (λ e. none .0 (six .0 e), λ e. six .1 (none .1 e));
 }

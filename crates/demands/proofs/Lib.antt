@@ -10,5 +10,6 @@ pub mod Pieces
 pub mod Plans
 pub mod AnyState
 pub mod Promised
+pub mod AuthorsOrder
 pub mod PastCounts
 pub mod Demands

@@ -1,27 +1,29 @@
 -- What stands past the counts plays no part.
 use Prim.Native.Nat.{ℕ, zero, suc, _-_, _<_}
+use mathlib.Core.Bool.{Bool, true, false, cond, true≢false}
 use mathlib.Core.List.{List, [], _∷_, _++_, map, flatMap}
 use mathlib.Core.Path.{_≡_, refl, sym, _∙_, ap, ap₂}
 use native.Mathlib.Omega.{arith}
 use lib.Dec.{ltb}
-use lib.ListN.{length, drop}
+use lib.ListN.{length, getD, drop}
 use Rattle.model.specs.Lists.{tabulate}
-use Rattle.model.specs.Values.{Trimmed, sizesOf, offsetOf, offsetsOf, capacitiesOf, trimmedOf, trimmed, chainOf, blankChain, Same}
+use Rattle.model.specs.Values.{Trimmed, sizesOf, offsetOf, offsetsOf, capacitiesOf, orderOf, trimmedOf, trimmed, chainOf, blankChain, Same}
 use Rattle.model.specs.Answers.{check, firstOf, byVerdict}
 use Rattle.model.specs.Judging.{judged, judgeChain}
 use Rattle.model.specs.Planning.{sorted, distances, trimmedRequest, judgeRequest, plannedChain, planOf}
 use Rattle.model.specs.Frames.{framed}
 use Rattle.model.specs.Numbers.{wordBytes}
-use Rattle.model.specs.Writing.{gridLine, offsetLine, capacityLine, kernelLine, chainLines, sheetOf, writeVerdict, Written, writeOf}
+use Rattle.model.specs.Writing.{gridLine, offsetLine, capacityLine, orderLines, kernelLine, chainLines, sheetOf, writeVerdict, Written, writeOf}
 use Rattle.model.specs.declared.Grid.{Grid}
 use Rattle.model.specs.declared.Window.{Window}
 use Rattle.model.specs.declared.Kernel.{Kernel}
+use Rattle.model.specs.declared.Order.{Order}
 use Rattle.model.specs.declared.Request.{Request}
 use Rattle.model.specs.declared.Chain.{Chain}
 use Rattle.model.specs.declared.Planned.{Planned}
 use Rattle.model.specs.declared.Refusal.the-variants as refusal
 use Rattle.model.specs.declared.Verdict.the-variants as verdict
-use Rattle.demands.specs.PastCounts.{GridsAgree, WindowsAgree, ChainsAgree, RequestsAgree, SameRequest, PastCounts}
+use Rattle.demands.specs.PastCounts.{GridsAgree, WindowsAgree, OrdersAgree, ChainsAgree, RequestsAgree, SameRequest, PastCounts}
 
 -- Lists of equally many entries, the same at each place.
 module _ {A : Type 0} where
@@ -41,33 +43,51 @@ offsets-alike : (n m : ℕ) (v w : Window) → n ≡ m → WindowsAgree n v w �
 unfolding offsetsOf offsetOf
 offsets-alike n m v w e a = alike (v .count) (w .count) _ _ (a .count) (λ k b. alike n m _ _ e (λ d c. a .entries k d b c))
 
-trimmed-alike : (g h : Grid) (v w : Window) (xs ys : List ℕ) (k l : Kernel) → GridsAgree g h → WindowsAgree (g .dims) v w → xs ≡ ys → k ≡ l
-    → trimmedOf g v xs k ≡ trimmedOf h w ys l
-trimmed-alike g h v w xs ys k l a b capacities kernel = λ i. record {
+trimmed-alike : (g h : Grid) (v w : Window) (xs ys : List ℕ) (s t : Bool) (os ps : List ℕ) (k l : Kernel) → GridsAgree g h → WindowsAgree (g .dims) v w → xs ≡ ys → s ≡ t → os ≡ ps → k ≡ l
+    → trimmedOf g v xs s os k ≡ trimmedOf h w ys t ps l
+trimmed-alike g h v w xs ys s t os ps k l a b capacities stood order kernel = λ i. record {
   dims = a .dims i;
   sizes = sizes-alike g h a i;
   count = b .count i;
   offsets = offsets-alike (g .dims) (h .dims) v w (a .dims) b i;
   capacities = capacities i;
+  ordered = stood i;
+  order = order i;
   kernel = kernel i;
 }
+
+orders-alike : (n m : ℕ) (o p : Order) → n ≡ m → OrdersAgree n o p → orderOf n o ≡ orderOf m p
+unfolding orderOf
+orders-alike n m o p e a = go (o .stood) (p .stood) refl (a .stood)
+  where
+    go : (s t : Bool) → o .stood ≡ s → s ≡ t → cond s (tabulate n (λ i. getD (o .filters) i 0)) [] ≡ cond t (tabulate m (λ i. getD (p .filters) i 0)) []
+    go true true h d = alike n m _ _ e (a .filters h)
+    go false false h d = refl
+    go true false h d = absurd (true≢false d)
+    go false true h d = absurd (true≢false (sym d))
 
 same-chains : (c d : Chain) → ChainsAgree c d → Same c d
 unfolding trimmed capacitiesOf
 same-chains c d a =
-    trimmed-alike (c .grid) (d .grid) (c .window) (d .window) (capacitiesOf c) (capacitiesOf d) (c .kernel) (d .kernel) (a .grid) (a .window)
-    (alike (c .window .count - 1) (d .window .count - 1) _ _ (ap (λ (n : ℕ). n - 1) (a .window .count)) (a .capacities)) (a .kernel)
+    trimmed-alike (c .grid) (d .grid) (c .window) (d .window) (capacitiesOf c) (capacitiesOf d) (c .order .stood) (d .order .stood)
+    (orderOf (c .window .count) (c .order)) (orderOf (d .window .count) (d .order)) (c .kernel) (d .kernel) (a .grid) (a .window)
+    (alike (c .window .count - 1) (d .window .count - 1) _ _ (ap (λ (n : ℕ). n - 1) (a .window .count)) (a .capacities))
+    (a .order .stood) (orders-alike (c .window .count) (d .window .count) (c .order) (d .order) (a .window .count) (a .order)) (a .kernel)
+
+apart : (c d : Chain) → c .order .stood ≡ true → d .order .stood ≡ false → Same c d → ⊥
+unfolding trimmed
+apart c d s n e = true≢false (sym s ∙ ap (λ (t : Trimmed). t .ordered) e ∙ n)
 
 same-requests : (r q : Request) → RequestsAgree r q → SameRequest r q
 unfolding trimmedRequest
 same-requests r q a = both _ _ (ap (λ (t : Trimmed). distances (sorted t)) (both [] [] refl))
   where
-    both : (xs ys : List ℕ) → xs ≡ ys → trimmedOf (r .grid) (r .window) xs (r .kernel) ≡ trimmedOf (q .grid) (q .window) ys (q .kernel)
-    both xs ys e = trimmed-alike (r .grid) (q .grid) (r .window) (q .window) xs ys (r .kernel) (q .kernel) (a .grid) (a .window) e (a .kernel)
+    both : (xs ys : List ℕ) → xs ≡ ys → trimmedOf (r .grid) (r .window) xs false [] (r .kernel) ≡ trimmedOf (q .grid) (q .window) ys false [] (q .kernel)
+    both xs ys e = trimmed-alike (r .grid) (q .grid) (r .window) (q .window) xs ys false false [] [] (r .kernel) (q .kernel) (a .grid) (a .window) e refl refl (a .kernel)
 
 -- What is written of a chain, from what plays a part.
 linesFrom : Trimmed → List (List ℕ)
-linesFrom t = (1 ∷ t .dims ∷ flatMap wordBytes (t .sizes)) ∷ (map offsetLine (t .offsets) ++ (map capacityLine (t .capacities) ++ (kernelLine (t .kernel) ∷ [])))
+linesFrom t = (1 ∷ t .dims ∷ flatMap wordBytes (t .sizes)) ∷ (map offsetLine (t .offsets) ++ (map capacityLine (t .capacities) ++ (cond (t .ordered) ((6 ∷ t .order) ∷ []) [] ++ (kernelLine (t .kernel) ∷ []))))
 
 writtenFrom : Trimmed → List ℕ → Written
 writtenFrom t output =
@@ -78,7 +98,7 @@ writtenFrom t output =
     (λ x. record { answer = record { verdict = verdict.Refused x; bytes = 0 }; output = output })
 
 written-from : (c : Chain) (output : List ℕ) → writeOf c output ≡ writtenFrom (trimmed c) output
-unfolding writeOf writeVerdict sheetOf chainLines gridLine judgeChain trimmed linesFrom writtenFrom
+unfolding writeOf writeVerdict sheetOf chainLines gridLine orderLines judgeChain trimmed linesFrom writtenFrom
 written-from c output = refl
 
 written-alike : (c d : Chain) → Same c d → (output : List ℕ) → writeOf c output ≡ writeOf d output
@@ -101,4 +121,4 @@ unfolding judgeRequest
 judged-alike r q e = ap judged e
 
 pub past-counts : PastCounts
-past-counts = record { same-chains = same-chains; same-requests = same-requests; written = written-alike; judged = judged-alike; planned = planned-alike }
+past-counts = record { same-chains = same-chains; same-requests = same-requests; apart = apart; written = written-alike; judged = judged-alike; planned = planned-alike }

@@ -1,7 +1,7 @@
 -- Demand 2, of a plan: what planning gives.
 use Prim.Native.Nat.{ℕ, suc, _+_, _-_, _<_}
 use mathlib.Core.List.{List, [], _∷_}
-use mathlib.Core.Path.{_≡_, refl}
+use mathlib.Core.Path.{_≡_, refl, _∙_}
 use native.Mathlib.Omega.{arith}
 use lib.ListN.{length, getD}
 use Rattle.model.specs.Lists.{sum}
@@ -15,6 +15,7 @@ use Rattle.model.specs.declared.Verdict.the-variants as verdict
 use Rattle.model.proofs.ListLaws.{getD-tabulate}
 use Rattle.model.proofs.SameWindows.{fewest-places}
 use Rattle.model.proofs.SortLaws.{length-falling, falling-each, falling-no-other, falling-falls}
+use Rattle.model.proofs.TermLaws.{length-authors, authors-below, authors-hold}
 use Rattle.model.specs.Sized.{Proper}
 use Rattle.run_laws.specs.Accepted.{Accepted}
 use Rattle.model.specs.Right.{Planned}
@@ -67,6 +68,9 @@ module _ (r : Request) (ok : judgeRequest r ≡ verdict.Accepted) where
         count = refl;
         each = falling-each os;
         no-other = falling-no-other os;
+        ordered = refl;
+        terms = length-authors os ∙ request-proper r .references;
+        holds = λ i h. let b : i < length os = omega (arith, request-proper r .references) in (omega (arith, authors-below os i b, request-proper r .references), authors-hold os i b);
         planned = planned-pairs;
         every = every-iteration t proper good planned-pairs;
         total = total-distance t proper good planned-pairs;

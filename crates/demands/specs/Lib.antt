@@ -4,4 +4,5 @@ pub mod Demand3
 pub mod Demand2
 pub mod Promises
 pub mod AnyState
+pub mod AuthorsOrder
 pub mod PastCounts

@@ -1,6 +1,7 @@
 -- "entries past its counts play no part, and chains that differ only there are the same" (document 01, "Turned back on account of the input"). That such chains are judged and run alike
--- stands in `Promises`.
+-- stands in `Promises`. "A part of the record whose line is absent plays no part" (document 02, request 2).
 use Prim.Native.Nat.{ℕ, _-_, _<_}
+use mathlib.Core.Bool.{true, false}
 use mathlib.Core.List.{List}
 use mathlib.Core.Path.{_≡_}
 use lib.ListN.{getD}
@@ -9,10 +10,11 @@ use Rattle.model.specs.Planning.{trimmedRequest, judgeRequest, planOf}
 use Rattle.model.specs.Writing.{writeOf}
 use Rattle.model.specs.declared.Grid.{Grid}
 use Rattle.model.specs.declared.Window.{Window}
+use Rattle.model.specs.declared.Order.{Order}
 use Rattle.model.specs.declared.Request.{Request}
 use Rattle.model.specs.declared.Chain.{Chain}
 
--- Two grids, two windows on a grid of some dimensions, two chains and two requests that differ only past their counts.
+-- Two grids, two windows on a grid of some dimensions, two orders of n terms, two chains and two requests that differ only past their counts or in an absent part.
 pub record GridsAgree (g h : Grid) : Type 0 where
   pub dims : g .dims ≡ h .dims
   pub sizes : (d : ℕ) → d < g .dims → getD (g .sizes) d 0 ≡ getD (h .sizes) d 0
@@ -21,10 +23,15 @@ pub record WindowsAgree (dims : ℕ) (v w : Window) : Type 0 where
   pub count : v .count ≡ w .count
   pub entries : (k d : ℕ) → k < v .count → d < dims → entryOf v k d ≡ entryOf w k d
 
+pub record OrdersAgree (n : ℕ) (o p : Order) : Type 0 where
+  pub stood : o .stood ≡ p .stood
+  pub filters : o .stood ≡ true → (i : ℕ) → i < n → getD (o .filters) i 0 ≡ getD (p .filters) i 0
+
 pub record ChainsAgree (c d : Chain) : Type 0 where
   pub grid : GridsAgree (c .grid) (d .grid)
   pub window : WindowsAgree (c .grid .dims) (c .window) (d .window)
   pub capacities : (k : ℕ) → k < c .window .count - 1 → capacityOf c k ≡ capacityOf d k
+  pub order : OrdersAgree (c .window .count) (c .order) (d .order)
   pub kernel : c .kernel ≡ d .kernel
 
 pub record RequestsAgree (r q : Request) : Type 0 where
@@ -40,6 +47,8 @@ pub record PastCounts : Type 0 where
   -- "chains that differ only there are the same", and so are requests.
   pub same-chains : (c d : Chain) → ChainsAgree c d → Same c d
   pub same-requests : (r q : Request) → RequestsAgree r q → SameRequest r q
+  -- A written order, the chain order too, is not the same as none.
+  pub apart : (c d : Chain) → c .order .stood ≡ true → d .order .stood ≡ false → Same c d → ⊥
   -- The same chain is written alike,
   pub written : (c d : Chain) → Same c d → (output : List ℕ) → writeOf c output ≡ writeOf d output
   -- the same request judged and planned alike.

@@ -1,7 +1,9 @@
--- Demand 2, of a plan: the sorted window and the reuse distances.
+-- Demand 2, of a plan: the sorted window and the reuse distances, and the author's order.
 use Prim.Native.Nat.{ℕ, suc, _+_, _-_, _≤_, _<_}
+use mathlib.Core.Bool.{true}
+use mathlib.Core.List.{[]}
 use mathlib.Core.Path.{_≡_}
-use lib.ListN.{getD}
+use lib.ListN.{length, getD}
 use Rattle.model.specs.Lists.{sum}
 use Rattle.model.specs.Windows.{Members}
 use Rattle.model.specs.Values.{Trimmed, sizesOf, offsetsOf, trimmed}
@@ -13,7 +15,7 @@ use Rattle.model.specs.declared.Request.{Request}
 use Rattle.model.specs.declared.Verdict.the-variants as verdict
 use Rattle.model.specs.Right.{Right, Planned}
 
--- Values of the same grid and window: the same sizes, and the same offsets in any order; capacities and kernels as they like.
+-- Values of the same grid and window: the same sizes, and the same offsets in any order; capacities, orders and kernels as they like.
 pub record SameWindow (t u : Trimmed) : Type 0 where
   pub sizes : t .sizes ≡ u .sizes
   pub each : Members (t .offsets) (u .offsets)
@@ -29,6 +31,11 @@ pub record PlanRight (r : Request) (t : Trimmed) : Type 0 where
   pub count : t .count ≡ r .window .count
   pub each : Members (offsetsOf (r .grid .dims) (r .window)) (t .offsets)
   pub no-other : Members (t .offsets) (offsetsOf (r .grid .dims) (r .window))
+  -- The author's order stands, a byte for each reference, and byte i names the filter that holds the author's reference i.
+  pub ordered : t .ordered ≡ true
+  pub terms : length (t .order) ≡ r .window .count
+  pub holds : (i : ℕ) → i < r .window .count
+      → (getD (t .order) i 0 < t .count) × (getD (t .offsets) (getD (t .order) i 0) [] ≡ getD (offsetsOf (r .grid .dims) (r .window)) i [])
   -- They fall, and the capacities are the reuse distances of neighbours,
   pub planned : Planned t
   -- in every iteration;

@@ -9,9 +9,9 @@ use borrow.Author.Tests.{eqb-false}
 use Rattle.model.specs.Lists.{tabulate}
 use Rattle.model.specs.Geometry.{iterationCount}
 use Rattle.model.specs.Kernels.{centreOf}
-use Rattle.model.specs.Values.{Trimmed, sizesOf, offsetOf, offsetsOf, capacitiesOf, trimmed}
+use Rattle.model.specs.Values.{Trimmed, sizesOf, offsetOf, offsetsOf, capacitiesOf, orderOf, trimmed}
 use Rattle.model.specs.Answers.{firstOf, byVerdict}
-use Rattle.model.specs.Judging.{badGrid, badCount, noIteration, tooLarge, centred, windowChecks, kernelChecks, capacityChecks, valueChecks, judged, judgeChain}
+use Rattle.model.specs.Judging.{badGrid, badCount, repeats, noIteration, tooLarge, centred, badOrder, windowChecks, kernelChecks, chainChecks, valueChecks, judged, judgeChain}
 use Rattle.model.specs.declared.Grid.{Grid}
 use Rattle.model.specs.declared.Window.{Window}
 use Rattle.model.specs.declared.Kernel.{Kernel}
@@ -30,34 +30,35 @@ use Rattle.geometry.proofs.OffsetLaws.{below-count}
 use Rattle.shape.proofs.Answers.{centre-is, shape-is}
 use Rattle.judging.specs.Checks.{judgedKernel, judgedWindow, tooLargeIn, judgedRest, examinedOf}
 
--- 9 is looked at where 3 to 8 pass.
+-- 9 and 14 are looked at where 3 to 8 pass.
 module _ (t : Trimmed) where
   by-capacities : judged t
-      ≡ byVerdict (firstOf (windowChecks t ++ kernelChecks (t .kernel) (centred (t .offsets)))) (firstOf (capacityChecks (t .capacities))) verdict.Refused
+      ≡ byVerdict (firstOf (windowChecks t ++ kernelChecks (t .kernel) (centred (t .offsets)))) (firstOf (chainChecks (t .capacities) (t .count) (t .order))) verdict.Refused
   unfolding judged valueChecks
   by-capacities =
-      ap firstOf (sym (append-assoc (windowChecks t) (kernelChecks (t .kernel) (centred (t .offsets))) (capacityChecks (t .capacities))))
-      ∙ then-checks (windowChecks t ++ kernelChecks (t .kernel) (centred (t .offsets))) (capacityChecks (t .capacities))
+      ap firstOf (sym (append-assoc (windowChecks t) (kernelChecks (t .kernel) (centred (t .offsets))) (chainChecks (t .capacities) (t .count) (t .order))))
+      ∙ then-checks (windowChecks t ++ kernelChecks (t .kernel) (centred (t .offsets))) (chainChecks (t .capacities) (t .count) (t .order))
 
   pub judged-refused : (x : Refusal) → firstOf (windowChecks t ++ kernelChecks (t .kernel) (centred (t .offsets))) ≡ verdict.Refused x → verdict.Refused x ≡ judged t
   judged-refused x e = sym (rw e at by-capacities)
 
   pub judged-capacities : firstOf (windowChecks t ++ kernelChecks (t .kernel) (centred (t .offsets))) ≡ verdict.Accepted
-      → firstOf (capacityChecks (t .capacities)) ≡ judged t
+      → firstOf (chainChecks (t .capacities) (t .count) (t .order)) ≡ judged t
   judged-capacities e = sym (rw e at by-capacities)
 
--- 9 is looked at where 7 and 8 pass.
-module _ (k : Kernel) (b : Bool) (capacities : List ℕ) where
-  by-kernel-first : judgedRest k b capacities ≡ byVerdict (judgedKernel k b) (cond (tooLarge capacities) (verdict.Refused refusal.TooLarge) verdict.Accepted) verdict.Refused
-  unfolding judgedRest judgedKernel capacityChecks firstOf
-  by-kernel-first = then-checks (kernelChecks k b) (capacityChecks capacities)
+-- 9 is looked at where 7 and 8 pass, then 14.
+module _ (k : Kernel) (b : Bool) (capacities : List ℕ) (n : ℕ) (order : List ℕ) where
+  by-kernel-first : judgedRest k b capacities n order
+      ≡ byVerdict (judgedKernel k b) (cond (tooLarge capacities) (verdict.Refused refusal.TooLarge) (cond (badOrder n order) (verdict.Refused refusal.BadOrder) verdict.Accepted)) verdict.Refused
+  unfolding judgedRest judgedKernel chainChecks firstOf
+  by-kernel-first = then-checks (kernelChecks k b) (chainChecks capacities n order)
 
-  pub rest-refused : (x : Refusal) → judgedKernel k b ≡ verdict.Refused x → verdict.Refused x ≡ judgedRest k b capacities
+  pub rest-refused : (x : Refusal) → judgedKernel k b ≡ verdict.Refused x → verdict.Refused x ≡ judgedRest k b capacities n order
   rest-refused x e = sym (rw e at by-kernel-first)
 
-  pub rest-capacities : (large : Bool) → judgedKernel k b ≡ verdict.Accepted → tooLarge capacities ≡ large
-      → cond large (verdict.Refused refusal.TooLarge) verdict.Accepted ≡ judgedRest k b capacities
-  rest-capacities large e f = sym (rw (e, f) at by-kernel-first)
+  pub rest-chain : (large bad : Bool) → judgedKernel k b ≡ verdict.Accepted → tooLarge capacities ≡ large → badOrder n order ≡ bad
+      → cond large (verdict.Refused refusal.TooLarge) (cond bad (verdict.Refused refusal.BadOrder) verdict.Accepted) ≡ judgedRest k b capacities n order
+  rest-chain large bad e f g = sym (rw (e, f, g) at by-kernel-first)
 
 -- 9 of an array, where 4 lets the count pass.
 pub too-large-is : (count : ℕ) (capacities : List ℕ) → badCount count ≡ false → tooLargeIn count capacities ≡ tooLarge (tabulate (count - 1) (numberAt capacities))
@@ -111,6 +112,9 @@ module _ (g : Grid) (w : Window) (k : Kernel) (e : judgedWindow g w k ≡ verdic
   pub accepted-count : badCount (w .count) ≡ false
   accepted-count = parts .count
 
+  pub accepted-distinct : repeats (offsetsOf (g .dims) w) ≡ false
+  accepted-distinct = parts .distinct
+
   pub accepted-iterations : 0 < iterationCount (sizesOf g) (offsetsOf (g .dims) w)
   unfolding noIteration
   accepted-iterations = omega (arith, eqb-false (iterationCount (sizesOf g) (offsetsOf (g .dims) w)) 0 (parts .iterates))
@@ -118,7 +122,7 @@ module _ (g : Grid) (w : Window) (k : Kernel) (e : judgedWindow g w k ≡ verdic
 -- A chain: its window is judged, then the rest.
 module _ (c : Chain) where
   by-rest : judgeChain c
-      ≡ byVerdict (surveyOf (c .grid) (c .window) .verdict) (judgedRest (c .kernel) (centred (offsetsOf (c .grid .dims) (c .window))) (capacitiesOf c)) verdict.Refused
+      ≡ byVerdict (surveyOf (c .grid) (c .window) .verdict) (judgedRest (c .kernel) (centred (offsetsOf (c .grid .dims) (c .window))) (capacitiesOf c) (c .window .count) (orderOf (c .window .count) (c .order))) verdict.Refused
   unfolding judgeChain judged valueChecks windowChecks trimmed judgedRest
   by-rest = rw (survey-verdict (c .grid) (c .window)) (then-checks (windowChecks (trimmed c)) _)
 
@@ -131,16 +135,28 @@ module _ (c : Chain) where
     surveyed : (v : Verdict) → s .verdict ≡ v → surveyOf (c .grid) (c .window) .verdict ≡ v
     surveyed v e = ap (λ (t : Survey). t .verdict) (sym d) ∙ e
 
-    pub examined-refused : (x : Refusal) → s .verdict ≡ verdict.Refused x → record { verdict = verdict.Refused x; centre = s .centre; shape = s .shape } ≡ examinedOf c
+    examined-refused : (x : Refusal) → s .verdict ≡ verdict.Refused x → record { verdict = verdict.Refused x; centre = s .centre; shape = s .shape } ≡ examinedOf c
     examined-refused x e = found (verdict.Refused x) (sym (rw (surveyed (verdict.Refused x) e) at by-rest))
 
-    pub examined-rest : (v : Verdict) → s .verdict ≡ verdict.Accepted → v ≡ judgedRest (c .kernel) (ltb (s .centre) (c .window .count)) (capacitiesOf c)
+    examined-rest : (v : Verdict) → s .verdict ≡ verdict.Accepted → v ≡ judgedRest (c .kernel) (ltb (s .centre) (c .window .count)) (capacitiesOf c) (c .window .count) (orderOf (c .window .count) (c .order))
         → record { verdict = v; centre = s .centre; shape = s .shape } ≡ examinedOf c
     examined-rest v e q =
         let a = surveyed verdict.Accepted e in
         found v
-        (q ∙ ap (λ (t : Survey). judgedRest (c .kernel) (ltb (t .centre) (c .window .count)) (capacitiesOf c)) d
-        ∙ ap (λ (b : Bool). judgedRest (c .kernel) b (capacitiesOf c)) (survey-centred (c .grid) (c .window) a) ∙ sym (rw a at by-rest))
+        (q ∙ ap (λ (t : Survey). judgedRest (c .kernel) (ltb (t .centre) (c .window .count)) (capacitiesOf c) (c .window .count) (orderOf (c .window .count) (c .order))) d
+        ∙ ap (λ (b : Bool). judgedRest (c .kernel) b (capacitiesOf c) (c .window .count) (orderOf (c .window .count) (c .order))) (survey-centred (c .grid) (c .window) a) ∙ sym (rw a at by-rest))
+
+    -- The verdict goes by what the survey found.
+    pub examined-behind : (v : Verdict)
+        → v ≡ byVerdict (s .verdict) (judgedRest (c .kernel) (ltb (s .centre) (c .window .count)) (capacitiesOf c) (c .window .count) (orderOf (c .window .count) (c .order))) verdict.Refused
+        → record { verdict = v; centre = s .centre; shape = s .shape } ≡ examinedOf c
+    examined-behind v q = go (s .verdict) refl q
+      where
+        go : (w : Verdict) → s .verdict ≡ w
+            → v ≡ byVerdict w (judgedRest (c .kernel) (ltb (s .centre) (c .window .count)) (capacitiesOf c) (c .window .count) (orderOf (c .window .count) (c .order))) verdict.Refused
+            → record { verdict = v; centre = s .centre; shape = s .shape } ≡ examinedOf c
+        go verdict.Accepted e q = examined-rest v e q
+        go (verdict.Refused x) e q = ap (λ (v : Verdict). record { verdict = v; centre = s .centre; shape = s .shape }) q ∙ examined-refused x e
 
   pub examined-verdict : examinedOf c .verdict ≡ judgeChain c
   unfolding examinedOf

@@ -5,7 +5,7 @@ use mathlib.Core.List.{List, _++_}
 use Rattle.model.specs.Lists.{tabulate}
 use Rattle.model.specs.Values.{offsetsOf}
 use Rattle.model.specs.Answers.{firstOf}
-use Rattle.model.specs.Judging.{badCount, tooLarge, centred, windowChecks, kernelChecks, capacityChecks, judgeChain}
+use Rattle.model.specs.Judging.{badCount, tooLarge, centred, windowChecks, kernelChecks, chainChecks, judgeChain}
 use Rattle.model.specs.declared.Chain.{Chain}
 use Rattle.model.specs.declared.Grid.{Grid}
 use Rattle.model.specs.declared.Window.{Window}
@@ -27,9 +27,9 @@ judgedWindow g w k = firstOf (windowChecks (onGrid g w) ++ kernelChecks k (centr
 unfoldable pub tooLargeIn : (count : ℕ) (capacities : List ℕ) → Bool
 tooLargeIn count capacities = not (badCount count) && tooLarge (tabulate (count - 1) (numberAt capacities))
 
--- The first of 7 to 9.
-unfoldable pub judgedRest : Kernel → (centred : Bool) → (capacities : List ℕ) → Verdict
-judgedRest k centred capacities = firstOf (kernelChecks k centred ++ capacityChecks capacities)
+-- The first of 7 to 9 and 14.
+unfoldable pub judgedRest : Kernel → (centred : Bool) → (capacities : List ℕ) (n : ℕ) (order : List ℕ) → Verdict
+judgedRest k centred capacities n order = firstOf (kernelChecks k centred ++ chainChecks capacities n order)
 
 -- What judging a chain finds.
 unfoldable pub examinedOf : Chain → Examined

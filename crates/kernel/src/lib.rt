@@ -1,14 +1,18 @@
 // f32 words and the four kernels (document 01, "Kernels").
 use model::Factors;
 use model::Kernel;
+use model::Order;
+use values::lesser;
+ghost use mathlib.Core.Bool.{cond};
 ghost use mathlib.Core.Path.{_≡_};
-ghost use Prim.Native.Nat.{_+_, _≤_, min};
+ghost use Prim.Native.Nat.{ℕ, _+_, _≤_, _<_, min};
+ghost use lib.Dec.{eqb};
 ghost use lib.ListN.{length, getD};
 ghost use lib.Seq.{sets};
-ghost use Rattle.model.specs.Lists.{upTo, without};
+ghost use Rattle.model.specs.Lists.{tabulate, without};
 ghost use Rattle.model.specs.Judging.{notFinite, badFactor, needsCentre};
 ghost use Rattle.model.specs.Kernels.{float, word, width as widthOf, wordsAt, terms as termsOf, squared as squaredOf, difference as differenceOf, scaled as scaledOf, blend as blendOf};
-ghost use Rattle.kernel.specs.Tables.{tableOf};
+ghost use Rattle.kernel.specs.Tables.{tableOf, termOf, filtersFor};
 ghost use Rattle.kernel.specs.Sums.{sumOfTerms, sumOfSquares};
 ghost use Rattle.kernel.specs.Applied.{applied};
 
@@ -93,40 +97,63 @@ pub struct Terms {
     pub count: usize,
 }
 
-// Filters 0 .. n - 1 but the centre, where n is at most 32.
-fn all_but(centre: usize, n: usize) -> Terms
-    ensures { λ r. ⌜ r ≡ tableOf (without centre (upTo (min n 32))) ⌝ }
+// The filter of term t: the author's, or, where the line did not stand, that of chain order.
+fn term_at(stood: bool, filters: &[u8; 32], t: usize) -> u8
+    requires { ⌜ t < 32 ⌝ }
+    ensures { λ r. ⌜ r ≡ cond stood (getD (now (filters .entry)) t 0) t ⌝ }
+{
+    let written = filters[t];
+    let unwritten = t as u8;
+    if stood {
+        return written;
+    }
+    unwritten
+}
+
+// Whether filter k is the centre; no filter's number is above 255.
+fn is_centre(k: u8, centre: usize) -> bool
+    ensures { λ r. ⌜ (r ≡ eqb k centre) × (k < 256) ⌝ }
+{
+    k as usize == centre
+}
+
+// The filters of the first n terms but the centre; a centre of 256 is none of them.
+fn all_but(centre: usize, n: usize, stood: bool, from: &[u8; 32]) -> Terms
+    requires { ⌜ n ≤ 32 ⌝ }
+    ensures { λ r. ⌜ (r ≡ tableOf (without centre (tabulate n (termOf stood (now (from .entry))))))
+        × ((i : ℕ) → i < n → termOf stood (now (from .entry)) i < 256) ⌝ }
 {
     let mut filters = [0u8; 32];
     let mut count = 0;
-    let mut k = 0;
-    while k < 32 {
-        if n <= k {
-            return Terms { filters, count };
-        }
-        if k == centre {
-            k += 1;
+    let mut t = 0;
+    while t < n {
+        let k = term_at(stood, from, t);
+        if is_centre(k, centre) {
+            t += 1;
             continue;
         }
-        filters[count] = k as u8;
+        filters[count] = k;
         count += 1;
-        k += 1;
+        t += 1;
     }
     Terms { filters, count }
 }
 
-// The filters whose words the kernel adds, of filters 0 .. n - 1; n counts no further than 32.
-pub fn terms_of(k: Kernel, centre: u8, n: usize) -> Terms
-    ensures { λ r. ⌜ r ≡ tableOf (termsOf k centre (upTo (min n 32))) ⌝ }
+// The filters whose words the kernel adds, in the author's order; there are n filters, counted no further than 32.
+pub fn terms_of(k: Kernel, centre: u8, n: usize, order: Order) -> Terms
+    ensures { λ r. ⌜ r ≡ tableOf (termsOf k centre (filtersFor (min n 32) order)) ⌝ }
 {
+    let stood = order.stood;
+    let from = order.filters;
+    let m = lesser(n, 32);
     match k {
         Kernel::Raw => Terms {
             filters: [0; 32],
             count: 0,
         },
-        Kernel::Difference => all_but(centre as usize, n),
-        Kernel::Scaled(_) => all_but(32, n),
-        Kernel::Blend(_) => all_but(centre as usize, n),
+        Kernel::Difference => all_but(centre as usize, m, stood, &from),
+        Kernel::Scaled(_) => all_but(256, m, stood, &from),
+        Kernel::Blend(_) => all_but(centre as usize, m, stood, &from),
     }
 }
 
@@ -147,7 +174,7 @@ fn listed(filters: &[u8], words: &[u32; 256], i: usize) -> u32
     0
 }
 
-// "terms added in chain order starting from the first term; a sum of no terms is +0"
+// "terms added .. starting from the first term; a sum of no terms is +0"
 fn sum_of_terms(terms: &[u8], words: &[u32; 256]) -> f32
     ensures { λ r. ⌜ r ≡ sumOfTerms (now (terms .entry)) (now (words .entry)) ⌝ }
 {

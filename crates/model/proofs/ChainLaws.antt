@@ -1,14 +1,17 @@
 -- A chain that is made of what plays a part has that part.
 use Prim.Native.Nat.{ℕ, _+_, _-_, _*_, _/_, _%_, _≤_, _<_}
+use mathlib.Core.Bool.{Bool, true, false, cond}
 use mathlib.Core.List.{[]}
-use mathlib.Core.Path.{_≡_, sym, _∙_, ap₂}
+use mathlib.Core.Path.{_≡_, refl, sym, _∙_, ap₂}
 use native.Mathlib.Nat.{mul-add-div, mul-add-mod-self-left, div-eq-of-lt, mod-eq-of-lt}
 use native.Mathlib.Omega.{arith}
 use lib.ListN.{length, getD}
 use lib.IntN.{pos}
+use Rattle.model.specs.Lists.{tabulate}
 use Rattle.model.specs.Sized.{Sized}
-use Rattle.model.specs.Values.{Trimmed, sizesOf, entryOf, offsetOf, offsetsOf, capacitiesOf, trimmed, Same, chainOf}
+use Rattle.model.specs.Values.{Trimmed, sizesOf, entryOf, offsetOf, offsetsOf, capacitiesOf, orderOf, trimmed, Same, chainOf}
 use Rattle.model.specs.declared.Chain.{Chain}
+use Rattle.model.specs.declared.Order.{Order}
 use Rattle.model.proofs.ListLaws.{length-tabulate, getD-tabulate, tabulate-back}
 
 -- Entry d of reference k's offset stands at 4 k + d.
@@ -38,18 +41,37 @@ module _ (t : Trimmed) where
   unfolding capacitiesOf chainOf
   chain-capacities fifos most = tabulate-back 0 (t .capacities) (t .count - 1) _ fifos (λ k h. getD-tabulate 31 _ k 0 (omega arith))
 
+  chain-order : length (t .order) ≡ cond (t .ordered) (t .count) 0 → t .count ≤ 32 → orderOf (t .count) (chainOf t .order) ≡ t .order
+  unfolding orderOf chainOf tabulate
+  chain-order terms most = go (t .ordered) terms
+    where
+      go : (b : Bool) → length (t .order) ≡ cond b (t .count) 0 → cond b (tabulate (t .count) (λ i. getD (tabulate 32 (λ i. getD (t .order) i 0)) i 0)) [] ≡ t .order
+      go true e = tabulate-back 0 (t .order) (t .count) (λ i. getD (tabulate 32 (λ i. getD (t .order) i 0)) i 0) e (λ k h. getD-tabulate 32 (λ i. getD (t .order) i 0) k 0 (omega arith))
+      go false e = tabulate-back 0 (t .order) 0 (λ k. k) e (λ k h. absurd (omega arith))
+
   -- Of the chain that is made of it the value plays a part again, where its lists are of the lengths that the counts say and no longer than a chain's.
   pub trimmed-chain : length (t .sizes) ≡ t .dims → length (t .offsets) ≡ t .count → Sized (t .sizes) (t .offsets) → length (t .capacities) ≡ t .count - 1
-      → t .dims ≤ 4 → t .count ≤ 32 → trimmed (chainOf t) ≡ t
+      → length (t .order) ≡ cond (t .ordered) (t .count) 0 → t .dims ≤ 4 → t .count ≤ 32 → trimmed (chainOf t) ≡ t
   unfolding trimmed chainOf
-  trimmed-chain dims count sized fifos few most = λ i. record {
+  trimmed-chain dims count sized fifos terms few most = λ i. record {
     dims = t .dims;
     sizes = chain-sizes dims few i;
     count = t .count;
     offsets = chain-offsets dims count sized few most i;
     capacities = chain-capacities fifos most i;
+    ordered = t .ordered;
+    order = chain-order terms most i;
     kernel = t .kernel;
   }
+
+-- An order has a filter for each term where it stood, and none where it did not.
+pub length-order : (n : ℕ) (o : Order) → length (orderOf n o) ≡ cond (o .stood) n 0
+unfolding orderOf
+length-order n o = go (o .stood)
+  where
+    go : (b : Bool) → length (cond b (tabulate n (λ t. getD (o .filters) t 0)) []) ≡ cond b n 0
+    go true = length-tabulate n _
+    go false = refl
 
 -- A chain's normal form is the same chain.
 pub same-normal : (c : Chain) → c .grid .dims ≤ 4 → c .window .count ≤ 32 → Same (chainOf (trimmed c)) c
@@ -59,4 +81,4 @@ same-normal c few most =
     (λ k h.
     let b = rw length-tabulate at h in
     rw (getD-tabulate (c .window .count) (offsetOf (c .grid .dims) (c .window)) k [] b) (length-tabulate (c .grid .dims) _ ∙ sym (length-tabulate (c .grid .dims) _)))
-    (length-tabulate (c .window .count - 1) _) few most
+    (length-tabulate (c .window .count - 1) _) (length-order (c .window .count) (c .order)) few most

@@ -6,7 +6,7 @@ use mathlib.Core.Path.{_≡_, refl, sym, _∙_}
 use native.Mathlib.Omega.{arith}
 use Rattle.model.specs.Values.{Trimmed}
 use Rattle.model.specs.Answers.{Check, check, firstOf, byVerdict}
-use Rattle.model.specs.Judging.{badGrid, badCount, repeats, noIteration, centred, lacksCentre, badFactor, tooLarge, windowChecks, kernelChecks, capacityChecks, valueChecks}
+use Rattle.model.specs.Judging.{badGrid, badCount, repeats, noIteration, centred, lacksCentre, badFactor, tooLarge, badOrder, windowChecks, kernelChecks, chainChecks, valueChecks}
 use Rattle.model.specs.declared.Kernel.{Kernel}
 use Rattle.model.specs.declared.Refusal.{Refusal}
 use Rattle.model.specs.declared.Verdict.{Verdict}
@@ -63,18 +63,22 @@ kernel-passes k centred e =
     let p8 = passes _ _ _ (p7 .1) in
     record { centre = p7 .0; factors = p8 .0 }
 
-pub record CapacitiesPass (capacities : List ℕ) : Type 0 where
+pub record ChainPasses (capacities : List ℕ) (n : ℕ) (order : List ℕ) : Type 0 where
   pub places : tooLarge capacities ≡ false
+  pub once : badOrder n order ≡ false
 
-pub capacities-pass : (capacities : List ℕ) → firstOf (capacityChecks capacities) ≡ verdict.Accepted → CapacitiesPass capacities
-unfolding capacityChecks
-capacities-pass capacities e = record { places = passes _ _ _ e .0 }
+pub chain-passes : (capacities : List ℕ) (n : ℕ) (order : List ℕ) → firstOf (chainChecks capacities n order) ≡ verdict.Accepted → ChainPasses capacities n order
+unfolding chainChecks
+chain-passes capacities n order e =
+    let p9 = passes _ _ _ e in
+    let p14 = passes _ _ _ (p9 .1) in
+    record { places = p9 .0; once = p14 .0 }
 
 -- A value that no number turns back passes every group.
 pub record Passes (t : Trimmed) : Type 0 where
   pub window : WindowPasses t
   pub kernel : KernelPasses (t .kernel) (centred (t .offsets))
-  pub capacities : CapacitiesPass (t .capacities)
+  pub chain : ChainPasses (t .capacities) (t .count) (t .order)
 
 pub value-passes : (t : Trimmed) → firstOf (valueChecks t) ≡ verdict.Accepted → Passes t
 unfolding valueChecks
@@ -84,5 +88,5 @@ value-passes t e =
     record {
       window = window-passes t (w .0);
       kernel = kernel-passes (t .kernel) (centred (t .offsets)) (k .0);
-      capacities = capacities-pass (t .capacities) (k .1);
+      chain = chain-passes (t .capacities) (t .count) (t .order) (k .1);
     }

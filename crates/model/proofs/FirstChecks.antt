@@ -9,7 +9,7 @@ use lib.Dec.{eqb, ltb}
 use lib.ListN.{length, getD}
 use Rattle.model.specs.Values.{Trimmed, trimmed}
 use Rattle.model.specs.Answers.{numberOf, verdictNumber, Check, check, firstOf}
-use Rattle.model.specs.Judging.{windowChecks, kernelChecks, capacityChecks, valueChecks, judged, judgeChain}
+use Rattle.model.specs.Judging.{windowChecks, kernelChecks, chainChecks, valueChecks, judged, judgeChain}
 use Rattle.model.specs.Planning.{trimmedRequest, judgeRequest}
 use Rattle.model.specs.Running.{layout, countersOf, shortStore, badState, judgeRun}
 use Rattle.model.specs.Frames.{Seen}
@@ -65,16 +65,16 @@ checks cs = record { if-first = if-first cs; only-first = only-first cs; if-none
 
 -- The checks of a value, and others behind them.
 value : (t : Trimmed) → AnswersFirst valueNumbers (valueConditions t) (firstOf (valueChecks t))
-unfolding numbersOf conditionsOf numberOf valueConditions valueChecks windowChecks kernelChecks capacityChecks
+unfolding numbersOf conditionsOf numberOf valueConditions valueChecks windowChecks kernelChecks chainChecks
 value t = checks (valueChecks t)
 
 run : (t : Trimmed) (s : State) (store : List ℕ)
     → AnswersFirst (valueNumbers ++ (10 ∷ 11 ∷ [])) (valueConditions t ++ (shortStore t store ∷ badState (layout t) (countersOf (t .count) s) ∷ [])) (judgeRun t s store)
-unfolding numbersOf conditionsOf numberOf valueConditions valueChecks windowChecks kernelChecks capacityChecks judgeRun
+unfolding numbersOf conditionsOf numberOf valueConditions valueChecks windowChecks kernelChecks chainChecks judgeRun
 run t s store = checks _
 
 write : (c : Chain) (room : ℕ) → AnswersFirst (valueNumbers ++ (12 ∷ [])) (valueConditions (trimmed c) ++ (ltb room (length (sheetOf c)) ∷ [])) (writeVerdict c room)
-unfolding numbersOf conditionsOf numberOf valueConditions valueChecks windowChecks kernelChecks capacityChecks writeVerdict judgeChain judged
+unfolding numbersOf conditionsOf numberOf valueConditions valueChecks windowChecks kernelChecks chainChecks writeVerdict judgeChain judged
 write c room =
     let last = check (ltb room (length (sheetOf c))) refusal.ShortOutput ∷ [] in
     subst (AnswersFirst (valueNumbers ++ (12 ∷ [])) (valueConditions (trimmed c) ++ (ltb room (length (sheetOf c)) ∷ []))) (then-checks (valueChecks (trimmed c)) last)

@@ -11,6 +11,7 @@ pub mod SameWindows
 pub mod WordLaws
 pub mod OrderLaws
 pub mod SortLaws
+pub mod TermLaws
 pub mod ChainLaws
 pub mod CheckLaws
 pub mod KernelLaws

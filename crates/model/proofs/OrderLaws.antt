@@ -1,8 +1,8 @@
 -- Laws of vectors: which are equal, and which comes first.
 use Prim.Native.Nat.{ℕ}
-use mathlib.Core.Bool.{Bool, true, false, cond, _&&_, true≢false}
+use mathlib.Core.Bool.{Bool, true, false, cond, _&&_, true≢false, and-eq-true-iff}
 use mathlib.Core.List.{List, [], _∷_}
-use mathlib.Core.Path.{_≡_, refl, sym, _∙_, ap₂}
+use mathlib.Core.Path.{_≡_, refl, sym, _∙_, ap, ap₂}
 use native.Mathlib.Nat.{suc-inj}
 use native.Mathlib.Decide.{ℕ-discrete}
 use native.Mathlib.Omega.{arith}
@@ -10,8 +10,8 @@ use lib.Dec.{eqb}
 use lib.ListN.{length}
 use lib.IntN.{ℤ, pos, negsuc}
 use lib.Signed.{ltZ}
-use borrow.Author.Tests.{ltb-false, eqb-false, lt-ltb, eq-eqb, ne-eqb}
-use Rattle.model.specs.Vectors.{same, equal, before}
+use borrow.Author.Tests.{ltb-false, eqb-true, eqb-false, lt-ltb, eq-eqb, ne-eqb}
+use Rattle.model.specs.Vectors.{same, equal, before, isZero}
 
 eqb-symmetric : (a b : ℕ) → eqb a b ≡ eqb b a
 eqb-symmetric a b = go (ℕ-discrete a b)
@@ -33,6 +33,44 @@ equal-symmetric [] [] = refl
 equal-symmetric [] (y ∷ ys) = refl
 equal-symmetric (x ∷ xs) [] = refl
 equal-symmetric (x ∷ xs) (y ∷ ys) = ap₂ _&&_ (same-symmetric x y) (equal-symmetric xs ys)
+
+-- Equal vectors are one, and each vector is equal to itself.
+same-is : (x y : ℤ) → same x y ≡ true → x ≡ y
+unfolding same
+same-is (pos a) (pos b) e = ap pos (eqb-true a b e)
+same-is (pos a) (negsuc b) e = absurd (true≢false (sym e))
+same-is (negsuc a) (pos b) e = absurd (true≢false (sym e))
+same-is (negsuc a) (negsuc b) e = ap negsuc (eqb-true a b e)
+
+pub equal-is : (xs ys : List ℤ) → equal xs ys ≡ true → xs ≡ ys
+unfolding equal
+equal-is [] [] e = refl
+equal-is [] (y ∷ ys) e = absurd (true≢false (sym e))
+equal-is (x ∷ xs) [] e = absurd (true≢false (sym e))
+equal-is (x ∷ xs) (y ∷ ys) e =
+    let both = and-eq-true-iff (same x y) (equal xs ys) .0 e in
+    ap₂ _∷_ (same-is x y (both .0)) (equal-is xs ys (both .1))
+
+same-itself : (x : ℤ) → same x x ≡ true
+unfolding same
+same-itself (pos a) = eq-eqb a a refl
+same-itself (negsuc a) = eq-eqb a a refl
+
+pub equal-itself : (xs : List ℤ) → equal xs xs ≡ true
+unfolding equal
+equal-itself [] = refl
+equal-itself (x ∷ xs) = rw (same-itself x) (equal-itself xs)
+
+-- There is one zero offset of a length.
+pub one-zero : (xs ys : List ℤ) → length xs ≡ length ys → isZero xs ≡ true → isZero ys ≡ true → xs ≡ ys
+unfolding isZero
+one-zero [] [] n e d = refl
+one-zero [] (y ∷ ys) n e d = absurd (omega arith)
+one-zero (x ∷ xs) [] n e d = absurd (omega arith)
+one-zero (x ∷ xs) (y ∷ ys) n e d =
+    let a = and-eq-true-iff (same x (pos 0)) (isZero xs) .0 e in
+    let b = and-eq-true-iff (same y (pos 0)) (isZero ys) .0 d in
+    ap₂ _∷_ (same-is x (pos 0) (a .0) ∙ sym (same-is y (pos 0) (b .0))) (one-zero xs ys (suc-inj n) (a .1) (b .1))
 
 -- Of two whole numbers that differ, one is below the other.
 other-below : (x y : ℤ) → ltZ x y ≡ false → same x y ≡ false → ltZ y x ≡ true

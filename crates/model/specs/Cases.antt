@@ -1,6 +1,6 @@
 -- Document 01, "Grids to try", 6 to 13, and its printed example: one table, computed.
 use Prim.Native.Nat.{ℕ, suc, _*_}
-use mathlib.Core.Bool.{Bool, cond}
+use mathlib.Core.Bool.{Bool, false, cond}
 use mathlib.Core.List.{List, [], _∷_, map}
 use mathlib.Core.Path.{_≡_, refl}
 use lib.IntN.{ℤ, pos}
@@ -8,15 +8,15 @@ use lib.ListN.{length, take, replicate}
 use Rattle.model.specs.Lists.{tabulate, upTo, sum, product, greatest, any}
 use Rattle.model.specs.Vectors.{−1, same, above, plus, equal, before, isZero}
 use Rattle.model.specs.Geometry.{cellCount, place, natural, position, firstEntry, otherEntries, leastFrom, least, lows, extent, extents, iterationCount, indices, fromLows, iteration, reads, distance}
-use Rattle.model.specs.Values.{sizesOf, offsetOf, offsetsOf, capacitiesOf, trimmed, chainOf, requestOf}
+use Rattle.model.specs.Values.{sizesOf, offsetOf, offsetsOf, capacitiesOf, orderOf, trimmed, chainOf, requestOf}
 use Rattle.model.specs.Iterations.{cellsOf, iterationsOf, readsOf, distanceOf}
 use Rattle.model.specs.Answers.{numberOf, verdictNumber, outcomeCase, outcomeCounts, answerCounts, answerNumber, firstOf}
-use Rattle.model.specs.Judging.{badDims, badSizes, badGrid, badCount, repeats, noIteration, needsCentre, lacksCentre, notFinite, badFactor, tooLarge, windowChecks, kernelChecks, capacityChecks, valueChecks, judged}
-use Rattle.model.specs.Planning.{insert, falling, distances, trimmedRequest, judgeRequest, sorted, plannedChain, planOf}
+use Rattle.model.specs.Judging.{badDims, badSizes, badGrid, badCount, repeats, noIteration, needsCentre, lacksCentre, notFinite, badFactor, tooLarge, twice, badOrder, windowChecks, kernelChecks, chainChecks, valueChecks, judged}
+use Rattle.model.specs.Planning.{insert, falling, whichOf, authorsOrder, distances, trimmedRequest, judgeRequest, sorted, plannedChain, planOf}
 use Rattle.model.specs.Kernels.{wordsAt, terms, written, width, centreOf}
 use Rattle.model.specs.Clock.{turn, limit, turns, ready, fires, next, moves}
 use Rattle.model.specs.Store.{firstPlace, placeIn, presented, stored}
-use Rattle.model.specs.Running.{layout, countersOf, withCounters, outcomeOf, words, clocked, look, call, events, shortStore, notPast, badCounter, badFifo, badFilters, badState, judgeRun, begun, termsOf, writesOf, writtenBy, widthOf, ended, runTrimmed, eventsTrimmed}
+use Rattle.model.specs.Running.{layout, countersOf, withCounters, outcomeOf, words, clocked, look, call, events, shortStore, notPast, badCounter, badFifo, badFilters, badState, judgeRun, begun, filtersOf, termsOf, writesOf, writtenBy, widthOf, ended, runTrimmed, eventsTrimmed}
 use Rattle.model.specs.declared.Chain.{Chain}
 use Rattle.model.specs.declared.State.{State}
 use Rattle.model.specs.declared.Answer.{Answer}
@@ -25,8 +25,8 @@ use Rattle.model.specs.declared.Kernel.the-variants as kernel
 
 -- A row of the table, with raw kernel.
 pub data Case : Type 0 where
-  -- Planned: the sizes and the offsets; the number, 0 for none, the offsets in the plan's order and the capacities.
-  plans : List ℕ → List (List ℤ) → (number : ℕ) → List (List ℤ) → List ℕ → Case
+  -- Planned: the sizes and the offsets; the number, 0 for none, the offsets in the plan's order, the capacities and the author's order.
+  plans : List ℕ → List (List ℤ) → (number : ℕ) → List (List ℤ) → List ℕ → List ℕ → Case
   -- Run from a fresh state, lent all cells: the sizes, the offsets and the capacities as they stand; the outcome's place in the list of five, the cells taken, the
   -- clocks made, the clocks that fire, and the words written, where a cell's word is its position.
   runs : List ℕ → List (List ℤ) → List ℕ → (outcome cells clocks : ℕ) → List ℕ → List ℕ → Case
@@ -36,6 +36,7 @@ pub record Result : Type 0 where
   pub number : ℕ
   pub offsets : List (List ℤ)
   pub capacities : List ℕ
+  pub order : List ℕ
   pub outcome : ℕ
   pub cells : ℕ
   pub clocks : ℕ
@@ -50,16 +51,16 @@ unfoldable pub endOf : Answer → ℕ
 endOf (answer.Ended o) = outcomeCase o
 endOf (answer.Refused r) = 5
 
--- The raw chain of these sizes, offsets and capacities.
+-- The raw chain of these sizes, offsets and capacities, without an order.
 abbrev rawChain : List ℕ → List (List ℤ) → List ℕ → Chain
 rawChain sizes offsets capacities =
-    chainOf (record { dims = length sizes; sizes = sizes; count = length offsets; offsets = offsets; capacities = capacities; kernel = kernel.Raw })
+    chainOf (record { dims = length sizes; sizes = sizes; count = length offsets; offsets = offsets; capacities = capacities; ordered = false; order = []; kernel = kernel.Raw })
 
 unfoldable pub planned : List ℕ → List (List ℤ) → Result
 planned sizes offsets =
     let p = planOf (requestOf (rawChain sizes offsets [])) in
     let t = trimmed (p .chain) in
-    record { number = verdictNumber (p .verdict); offsets = t .offsets; capacities = t .capacities; outcome = 0; cells = 0; clocks = 0; firing = []; words = [] }
+    record { number = verdictNumber (p .verdict); offsets = t .offsets; capacities = t .capacities; order = t .order; outcome = 0; cells = 0; clocks = 0; firing = []; words = [] }
 
 unfoldable pub start : State
 start = record { passed = replicate 32 (record { 0 = 0 }); fired = record { 0 = 0 } }
@@ -79,6 +80,7 @@ ran sizes offsets capacities =
       number = answerNumber (r .answer);
       offsets = offsets;
       capacities = capacities;
+      order = [];
       outcome = endOf (r .answer);
       cells = done .cells;
       clocks = done .clocks;
@@ -87,14 +89,14 @@ ran sizes offsets capacities =
     }
 
 unfoldable pub answered : Case → Result
-answered (plans sizes offsets number order capacities) = planned sizes offsets
+answered (plans sizes offsets number arranged capacities order) = planned sizes offsets
 answered (runs sizes offsets capacities outcome cells clocks firing words) = ran sizes offsets capacities
 
 unfoldable pub expected : Case → Result
-expected (plans sizes offsets number order capacities) =
-    record { number = number; offsets = order; capacities = capacities; outcome = 0; cells = 0; clocks = 0; firing = []; words = [] }
+expected (plans sizes offsets number arranged capacities order) =
+    record { number = number; offsets = arranged; capacities = capacities; order = order; outcome = 0; cells = 0; clocks = 0; firing = []; words = [] }
 expected (runs sizes offsets capacities outcome cells clocks firing words) =
-    record { number = 0; offsets = offsets; capacities = capacities; outcome = outcome; cells = cells; clocks = clocks; firing = firing; words = words }
+    record { number = 0; offsets = offsets; capacities = capacities; order = []; outcome = outcome; cells = cells; clocks = clocks; firing = firing; words = words }
 
 -- The five-point cross: centre and its four neighbours, in falling order.
 unfoldable pub cross : List (List ℤ)
@@ -107,7 +109,7 @@ crossByRows = (−1 ∷ pos 0 ∷ []) ∷ (pos 0 ∷ −1 ∷ []) ∷ (pos 0 ∷
 unfoldable pub cases : List Case
 cases =
     -- 6. "4 by 5, five-point cross: 4, 1, 1, 4; firings in clocks 11, 12, 13, 16, 17, 18; 19 clocks."
-    plans (4 ∷ 5 ∷ []) crossByRows 0 cross (4 ∷ 1 ∷ 1 ∷ 4 ∷ [])
+    plans (4 ∷ 5 ∷ []) crossByRows 0 cross (4 ∷ 1 ∷ 1 ∷ 4 ∷ []) (4 ∷ 3 ∷ 2 ∷ 1 ∷ 0 ∷ [])
     ∷ runs (4 ∷ 5 ∷ []) cross (4 ∷ 1 ∷ 1 ∷ 4 ∷ []) 0 19 19 (11 ∷ 12 ∷ 13 ∷ 16 ∷ 17 ∷ 18 ∷ [])
     (11 ∷ 7 ∷ 6 ∷ 5 ∷ 1 ∷ 12 ∷ 8 ∷ 7 ∷ 6 ∷ 2 ∷ 13 ∷ 9 ∷ 8 ∷ 7 ∷ 3
     ∷ 16 ∷ 12 ∷ 11 ∷ 10 ∷ 6 ∷ 17 ∷ 13 ∷ 12 ∷ 11 ∷ 7 ∷ 18 ∷ 14 ∷ 13 ∷ 12 ∷ 8 ∷ [])
@@ -116,27 +118,32 @@ cases =
     -- 8. "Size 5, offset 0 before offset 3, capacity 16: stalled after 0 clocks."
     ∷ runs (5 ∷ []) ((pos 0 ∷ []) ∷ (pos 3 ∷ []) ∷ []) (16 ∷ []) 3 0 0 [] []
     -- 9. "Size 1, offset 0: no FIFO, one firing in clock 0."
-    ∷ plans (1 ∷ []) ((pos 0 ∷ []) ∷ []) 0 ((pos 0 ∷ []) ∷ []) []
+    ∷ plans (1 ∷ []) ((pos 0 ∷ []) ∷ []) 0 ((pos 0 ∷ []) ∷ []) [] (0 ∷ [])
     ∷ runs (1 ∷ []) ((pos 0 ∷ []) ∷ []) [] 0 1 1 (0 ∷ []) (0 ∷ [])
     -- 10. "Size 3, offsets −1 and 1: capacity 2. Size 2: refusal 6."
-    ∷ plans (3 ∷ []) ((−1 ∷ []) ∷ (pos 1 ∷ []) ∷ []) 0 ((pos 1 ∷ []) ∷ (−1 ∷ []) ∷ []) (2 ∷ [])
+    ∷ plans (3 ∷ []) ((−1 ∷ []) ∷ (pos 1 ∷ []) ∷ []) 0 ((pos 1 ∷ []) ∷ (−1 ∷ []) ∷ []) (2 ∷ []) (1 ∷ 0 ∷ [])
     ∷ runs (3 ∷ []) ((pos 1 ∷ []) ∷ (−1 ∷ []) ∷ []) (2 ∷ []) 0 3 3 (2 ∷ []) (2 ∷ 0 ∷ [])
-    ∷ plans (2 ∷ []) ((−1 ∷ []) ∷ (pos 1 ∷ []) ∷ []) 6 [] []
+    ∷ plans (2 ∷ []) ((−1 ∷ []) ∷ (pos 1 ∷ []) ∷ []) 6 [] [] []
     -- 11. "Two rows of 5, offsets (0,3) and (1,−1): (1,−1) first, capacity 1. Two rows of 4: refusal 6."
-    ∷ plans (2 ∷ 5 ∷ []) ((pos 0 ∷ pos 3 ∷ []) ∷ (pos 1 ∷ −1 ∷ []) ∷ []) 0 ((pos 1 ∷ −1 ∷ []) ∷ (pos 0 ∷ pos 3 ∷ []) ∷ []) (1 ∷ [])
+    ∷ plans (2 ∷ 5 ∷ []) ((pos 0 ∷ pos 3 ∷ []) ∷ (pos 1 ∷ −1 ∷ []) ∷ []) 0 ((pos 1 ∷ −1 ∷ []) ∷ (pos 0 ∷ pos 3 ∷ []) ∷ []) (1 ∷ []) (1 ∷ 0 ∷ [])
     ∷ runs (2 ∷ 5 ∷ []) ((pos 1 ∷ −1 ∷ []) ∷ (pos 0 ∷ pos 3 ∷ []) ∷ []) (1 ∷ []) 0 6 6 (5 ∷ []) (5 ∷ 4 ∷ [])
-    ∷ plans (2 ∷ 4 ∷ []) ((pos 0 ∷ pos 3 ∷ []) ∷ (pos 1 ∷ −1 ∷ []) ∷ []) 6 [] []
+    ∷ plans (2 ∷ 4 ∷ []) ((pos 0 ∷ pos 3 ∷ []) ∷ (pos 1 ∷ −1 ∷ []) ∷ []) 6 [] [] []
     -- 12. "Size 20,000, offsets 0 and 16,384: accepted. 0 and 16,385: refusal 9."
-    ∷ plans (20000 ∷ []) ((pos 0 ∷ []) ∷ (pos 16384 ∷ []) ∷ []) 0 ((pos 16384 ∷ []) ∷ (pos 0 ∷ []) ∷ []) (16384 ∷ [])
-    ∷ plans (20000 ∷ []) ((pos 0 ∷ []) ∷ (pos 16385 ∷ []) ∷ []) 9 [] []
+    ∷ plans (20000 ∷ []) ((pos 0 ∷ []) ∷ (pos 16384 ∷ []) ∷ []) 0 ((pos 16384 ∷ []) ∷ (pos 0 ∷ []) ∷ []) (16384 ∷ []) (1 ∷ 0 ∷ [])
+    ∷ plans (20000 ∷ []) ((pos 0 ∷ []) ∷ (pos 16385 ∷ []) ∷ []) 9 [] [] []
     -- 13. "1024 by 1024, zero offset alone: accepted. Size 1,048,577: refusal 3."
-    ∷ plans (1024 ∷ 1024 ∷ []) ((pos 0 ∷ pos 0 ∷ []) ∷ []) 0 ((pos 0 ∷ pos 0 ∷ []) ∷ []) []
-    ∷ plans (1048577 ∷ []) ((pos 0 ∷ []) ∷ []) 3 [] []
+    ∷ plans (1024 ∷ 1024 ∷ []) ((pos 0 ∷ pos 0 ∷ []) ∷ []) 0 ((pos 0 ∷ pos 0 ∷ []) ∷ []) [] (0 ∷ [])
+    ∷ plans (1048577 ∷ []) ((pos 0 ∷ []) ∷ []) 3 [] [] []
     -- The printed example: "`plan` given .. writes these lines", "`run` given that and cells 1 to 5 writes".
-    ∷ plans (5 ∷ []) ((pos 0 ∷ []) ∷ (pos 3 ∷ []) ∷ []) 0 ((pos 3 ∷ []) ∷ (pos 0 ∷ []) ∷ []) (3 ∷ [])
+    ∷ plans (5 ∷ []) ((pos 0 ∷ []) ∷ (pos 3 ∷ []) ∷ []) 0 ((pos 3 ∷ []) ∷ (pos 0 ∷ []) ∷ []) (3 ∷ []) (1 ∷ 0 ∷ [])
     ∷ runs (5 ∷ []) ((pos 3 ∷ []) ∷ (pos 0 ∷ []) ∷ []) (3 ∷ []) 0 5 5 (3 ∷ 4 ∷ []) (3 ∷ 0 ∷ 4 ∷ 1 ∷ [])
+    -- Document 02, request 2: "the filter number of each term in turn", of three references whose order is not its own inverse; and Listing 1 of document 003, centre, left,
+    -- right, up, down.
+    ∷ plans (5 ∷ []) ((pos 0 ∷ []) ∷ (pos 2 ∷ []) ∷ (pos 1 ∷ []) ∷ []) 0 ((pos 2 ∷ []) ∷ (pos 1 ∷ []) ∷ (pos 0 ∷ []) ∷ []) (1 ∷ 1 ∷ []) (2 ∷ 0 ∷ 1 ∷ [])
+    ∷ plans (4 ∷ 5 ∷ []) ((pos 0 ∷ pos 0 ∷ []) ∷ (pos 0 ∷ −1 ∷ []) ∷ (pos 0 ∷ pos 1 ∷ []) ∷ (−1 ∷ pos 0 ∷ []) ∷ (pos 1 ∷ pos 0 ∷ []) ∷ []) 0 cross (4 ∷ 1 ∷ 1 ∷ 4 ∷ [])
+    (2 ∷ 3 ∷ 1 ∷ 4 ∷ 0 ∷ [])
     ∷ []
 
 pub table : map answered cases ≡ map expected cases
-unfolding answered expected cases cross crossByRows planned ran start endOf firingClocks tabulate upTo sum product greatest any same above plus equal before isZero cellCount place natural position firstEntry otherEntries leastFrom least lows extent extents iterationCount indices fromLows iteration reads distance cellsOf iterationsOf readsOf distanceOf sizesOf offsetOf offsetsOf capacitiesOf trimmed chainOf numberOf verdictNumber outcomeCase outcomeCounts answerCounts answerNumber firstOf badDims badSizes badGrid badCount repeats noIteration needsCentre lacksCentre notFinite badFactor tooLarge windowChecks kernelChecks capacityChecks valueChecks judged insert falling distances trimmedRequest judgeRequest sorted plannedChain planOf wordsAt terms written width centreOf turn limit turns ready fires next moves firstPlace placeIn presented stored layout countersOf withCounters outcomeOf words clocked look call events shortStore notPast badCounter badFifo badFilters badState judgeRun begun termsOf writesOf writtenBy widthOf ended runTrimmed eventsTrimmed
+unfolding answered expected cases cross crossByRows planned ran start endOf firingClocks tabulate upTo sum product greatest any same above plus equal before isZero cellCount place natural position firstEntry otherEntries leastFrom least lows extent extents iterationCount indices fromLows iteration reads distance cellsOf iterationsOf readsOf distanceOf sizesOf offsetOf offsetsOf capacitiesOf orderOf trimmed chainOf numberOf verdictNumber outcomeCase outcomeCounts answerCounts answerNumber firstOf badDims badSizes badGrid badCount repeats noIteration needsCentre lacksCentre notFinite badFactor tooLarge twice badOrder windowChecks kernelChecks chainChecks valueChecks judged insert falling whichOf authorsOrder distances trimmedRequest judgeRequest sorted plannedChain planOf wordsAt terms written width centreOf turn limit turns ready fires next moves firstPlace placeIn presented stored layout countersOf withCounters outcomeOf words clocked look call events shortStore notPast badCounter badFifo badFilters badState judgeRun begun filtersOf termsOf writesOf writtenBy widthOf ended runTrimmed eventsTrimmed
 table = refl

@@ -1,8 +1,8 @@
--- Judging a request or a chain as a value (document 01, "Turned back on account of the input", 3 to 9).
+-- Judging a request or a chain as a value (document 01, "Turned back on account of the input", 3 to 9; document 02, request 2, 14).
 use Prim.Native.Nat.{ℕ}
 use mathlib.Core.Bool.{Bool, true, false, not, _&&_, _||_}
 use mathlib.Core.List.{List, [], _∷_, _++_}
-use lib.Dec.{eqb, ltb}
+use lib.Dec.{eqb, leb, ltb}
 use lib.IntN.{ℤ}
 use lib.Ieee.{Float, nan, inf, fin}
 use Rattle.model.specs.Lists.{sum, any}
@@ -75,6 +75,14 @@ badFactor (kernel.Blend g) = notFinite (g .a) || notFinite (g .b)
 unfoldable pub tooLarge : List ℕ → Bool
 tooLarge capacities = ltb mostPlaces (sum capacities)
 
+-- 14: "the bytes of `06` are not each filter number once": one of them is n or above, or stands twice.
+unfoldable pub twice : List ℕ → Bool
+twice [] = false
+twice (k ∷ ks) = any (λ l. eqb k l) ks || twice ks
+
+unfoldable pub badOrder : (n : ℕ) (order : List ℕ) → Bool
+badOrder n order = any (λ k. leb n k) order || twice order
+
 -- The checks of a value, in groups: 3 to 6, of a window on a grid,
 unfoldable pub windowChecks : Trimmed → List Check
 windowChecks t =
@@ -88,15 +96,15 @@ windowChecks t =
 unfoldable pub kernelChecks : Kernel → (centred : Bool) → List Check
 kernelChecks k centred = check (lacksCentre k centred) refusal.NoCentre ∷ check (badFactor k) refusal.BadFactor ∷ []
 
--- and 9, of capacities;
-unfoldable pub capacityChecks : List ℕ → List Check
-capacityChecks capacities = check (tooLarge capacities) refusal.TooLarge ∷ []
+-- 9, of capacities, and "14 .. after 9", of the author's order;
+unfoldable pub chainChecks : (capacities : List ℕ) (n : ℕ) (order : List ℕ) → List Check
+chainChecks capacities n order = check (tooLarge capacities) refusal.TooLarge ∷ check (badOrder n order) refusal.BadOrder ∷ []
 
 -- all of them, in their order.
 unfoldable pub valueChecks : Trimmed → List Check
-valueChecks t = windowChecks t ++ (kernelChecks (t .kernel) (centred (t .offsets)) ++ capacityChecks (t .capacities))
+valueChecks t = windowChecks t ++ (kernelChecks (t .kernel) (centred (t .offsets)) ++ chainChecks (t .capacities) (t .count) (t .order))
 
--- The first of 3 to 9 whose condition holds.
+-- The first of 3 to 9 and 14 whose condition holds.
 unfoldable pub judged : Trimmed → Verdict
 judged t = firstOf (valueChecks t)
 

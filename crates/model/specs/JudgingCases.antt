@@ -1,5 +1,6 @@
--- Chains and requests handed over as values, judged (document 01, "Turned back on account of the input", 3 to 9): one table, computed.
+-- Chains and requests handed over as values, judged (document 01, "Turned back on account of the input", 3 to 9; document 02, request 2, 14): one table, computed.
 use Prim.Native.Nat.{ℕ}
+use mathlib.Core.Bool.{Bool, true, false}
 use mathlib.Core.List.{List, [], _∷_, map, flatMap}
 use mathlib.Core.Path.{_≡_, refl}
 use lib.IntN.{ℤ, pos, negsuc}
@@ -7,11 +8,11 @@ use lib.Ieee.{ofBits}
 use Rattle.model.specs.Lists.{tabulate, sum, product, greatest, any}
 use Rattle.model.specs.Vectors.{same, above, plus, equal, before, isZero}
 use Rattle.model.specs.Geometry.{cellCount, place, natural, position, firstEntry, otherEntries, leastFrom, least, lows, extent, extents, iterationCount, indices, fromLows, iteration, reads, distance}
-use Rattle.model.specs.Values.{sizesOf, offsetOf, offsetsOf, capacitiesOf, trimmed, requestOf}
+use Rattle.model.specs.Values.{sizesOf, offsetOf, offsetsOf, capacitiesOf, orderOf, trimmed, requestOf}
 use Rattle.model.specs.Iterations.{distanceOf}
 use Rattle.model.specs.Answers.{numberOf, verdictNumber, firstOf}
-use Rattle.model.specs.Judging.{badDims, badSizes, badGrid, badCount, repeats, noIteration, needsCentre, lacksCentre, notFinite, badFactor, tooLarge, windowChecks, kernelChecks, capacityChecks, valueChecks, judged, judgeChain}
-use Rattle.model.specs.Planning.{insert, falling, sorted, distances, trimmedRequest, judgeRequest}
+use Rattle.model.specs.Judging.{badDims, badSizes, badGrid, badCount, repeats, noIteration, needsCentre, lacksCentre, notFinite, badFactor, tooLarge, twice, badOrder, windowChecks, kernelChecks, chainChecks, valueChecks, judged, judgeChain}
+use Rattle.model.specs.Planning.{insert, falling, whichOf, authorsOrder, sorted, distances, trimmedRequest, judgeRequest}
 use Rattle.model.specs.Kernels.{float}
 use Rattle.model.specs.declared.Chain.{Chain}
 use Rattle.model.specs.declared.Grid.{Grid}
@@ -33,16 +34,21 @@ answered c = record { chain = verdictNumber (judgeChain (c .value)); request = v
 unfoldable pub expected : Case → Numbers
 expected c = c .numbers
 
-abbrev case : Grid → (count : ℕ) (offsets : List ℤ) (capacities : List ℕ) → Kernel → (chain request : ℕ) → Case
-case g count offsets capacities k chain request = record {
+-- With an order, whose line stood or did not; and without one.
+abbrev ordered : (stood : Bool) → Grid → (count : ℕ) (offsets : List ℤ) (capacities filters : List ℕ) → Kernel → (chain request : ℕ) → Case
+ordered stood g count offsets capacities filters k chain request = record {
   value = record {
     grid = g;
     window = record { count = count; offsets = flatMap (λ (x : ℤ). let offset : List ℤ = x ∷ pos 0 ∷ pos 0 ∷ pos 0 ∷ [] in offset) offsets };
     capacities = capacities;
+    order = record { stood = stood; filters = filters };
     kernel = k;
   };
   numbers = record { chain = chain; request = request };
 }
+
+abbrev case : Grid → (count : ℕ) (offsets : List ℤ) (capacities : List ℕ) → Kernel → (chain request : ℕ) → Case
+case g count offsets capacities k chain request = ordered false g count offsets capacities [] k chain request
 
 -- A grid in one dimension, with sizes 0 past it, and others.
 abbrev line : ℕ → Grid
@@ -100,12 +106,26 @@ cases =
     ∷ case (line 5) 3 (pos 2 ∷ pos 1 ∷ pos 0 ∷ []) (16384 ∷ 1 ∷ []) kernel.Raw 9 0
     -- summed as whole numbers: 80000000 twice
     ∷ case (line 5) 3 (pos 2 ∷ pos 1 ∷ pos 0 ∷ []) (0x80000000 ∷ 0x80000000 ∷ []) kernel.Raw 9 0
+    -- 14: "not each filter number once": n, a byte twice; what stands past n plays no part
+    ∷ ordered true (line 5) 3 (pos 2 ∷ pos 1 ∷ pos 0 ∷ []) (1 ∷ 1 ∷ []) (2 ∷ 0 ∷ 1 ∷ []) kernel.Raw 0 0
+    ∷ ordered true (line 5) 3 (pos 2 ∷ pos 1 ∷ pos 0 ∷ []) (1 ∷ 1 ∷ []) (2 ∷ 0 ∷ 1 ∷ 1 ∷ 99 ∷ []) kernel.Raw 0 0
+    ∷ ordered true (line 5) 3 (pos 2 ∷ pos 1 ∷ pos 0 ∷ []) (1 ∷ 1 ∷ []) (0 ∷ 3 ∷ 1 ∷ []) kernel.Raw 14 0
+    ∷ ordered true (line 5) 3 (pos 2 ∷ pos 1 ∷ pos 0 ∷ []) (1 ∷ 1 ∷ []) (0 ∷ 1 ∷ 255 ∷ []) kernel.Raw 14 0
+    ∷ ordered true (line 5) 3 (pos 2 ∷ pos 1 ∷ pos 0 ∷ []) (1 ∷ 1 ∷ []) (2 ∷ 0 ∷ 2 ∷ []) kernel.Raw 14 0
+    ∷ ordered true (line 5) 1 (pos 0 ∷ []) [] (0 ∷ []) kernel.Raw 0 0
+    ∷ ordered true (line 5) 1 (pos 0 ∷ []) [] (1 ∷ []) kernel.Raw 14 0
+    -- of an absent line never: "A part of the record whose line is absent plays no part"
+    ∷ ordered false (line 5) 3 (pos 2 ∷ pos 1 ∷ pos 0 ∷ []) (1 ∷ 1 ∷ []) (9 ∷ 9 ∷ 9 ∷ []) kernel.Raw 0 0
+    -- "after 9", and so after 7 and 8
+    ∷ ordered true (line 5) 3 (pos 2 ∷ pos 1 ∷ pos 0 ∷ []) (16384 ∷ 1 ∷ []) (0 ∷ 0 ∷ 0 ∷ []) kernel.Raw 9 0
+    ∷ ordered true (line 5) 2 (pos 2 ∷ pos 1 ∷ []) (1 ∷ []) (0 ∷ 0 ∷ []) kernel.Difference 7 7
+    ∷ ordered true (line 5) 1 (pos 0 ∷ []) [] (1 ∷ []) (scaledBy 0x7F800000) 8 8
     ∷ []
 
 pub table : map answered cases ≡ map expected cases
 unfolding answered expected cases flatMap ofBits tabulate sum product greatest any same above plus equal before isZero
     cellCount place natural position firstEntry otherEntries leastFrom least lows extent extents iterationCount indices fromLows iteration reads distance distanceOf
-    sizesOf offsetOf offsetsOf capacitiesOf trimmed numberOf verdictNumber firstOf
-    badDims badSizes badGrid badCount repeats noIteration needsCentre lacksCentre notFinite badFactor tooLarge windowChecks kernelChecks capacityChecks valueChecks judged judgeChain
-    insert falling sorted distances trimmedRequest judgeRequest
+    sizesOf offsetOf offsetsOf capacitiesOf orderOf trimmed numberOf verdictNumber firstOf
+    badDims badSizes badGrid badCount repeats noIteration needsCentre lacksCentre notFinite badFactor tooLarge twice badOrder windowChecks kernelChecks chainChecks valueChecks judged judgeChain
+    insert falling whichOf authorsOrder sorted distances trimmedRequest judgeRequest
 table = refl

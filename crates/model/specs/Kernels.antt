@@ -18,7 +18,7 @@ float w = ofBits binary32 w
 abbrev pub word : Float → ℕ
 word x = toBits binary32 x
 
--- "terms added in chain order starting from the first term; a sum of no terms is +0"
+-- "terms added .. starting from the first term; a sum of no terms is +0"
 unfoldable pub sumFrom : Float → List Float → Float
 sumFrom x [] = x
 sumFrom x (y ∷ ys) = sumFrom (add binary32 x y) ys

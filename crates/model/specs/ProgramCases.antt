@@ -11,23 +11,23 @@ use Rattle.model.specs.Lists.{tabulate, upTo, without, sum, product, gre
 use Rattle.model.specs.Vectors.{same, above, plus, equal, before, isZero}
 use Rattle.model.specs.Geometry.{cellCount, place, natural, position, firstEntry, otherEntries, leastFrom, least, lows, extent, extents, iterationCount}
 use Rattle.model.specs.Geometry.{indices, fromLows, iteration, reads, distance}
-use Rattle.model.specs.Values.{sizesOf, offsetOf, offsetsOf, capacitiesOf, trimmed, chainOf}
+use Rattle.model.specs.Values.{sizesOf, offsetOf, offsetsOf, capacitiesOf, orderOf, trimmed, chainOf}
 use Rattle.model.specs.Iterations.{cellsOf, iterationsOf, readsOf, distanceOf}
 use Rattle.model.specs.Answers.{numberOf, verdictNumber, firstOf}
-use Rattle.model.specs.Judging.{badDims, badSizes, badGrid, badCount, repeats, noIteration, needsCentre, lacksCentre, notFinite, badFactor, tooLarge, windowChecks, kernelChecks, capacityChecks, valueChecks, judged, judgeChain}
-use Rattle.model.specs.Planning.{insert, falling, distances, trimmedRequest, judgeRequest, sorted, plannedChain}
+use Rattle.model.specs.Judging.{badDims, badSizes, badGrid, badCount, repeats, noIteration, needsCentre, lacksCentre, notFinite, badFactor, tooLarge, twice, badOrder, windowChecks, kernelChecks, chainChecks, valueChecks, judged, judgeChain}
+use Rattle.model.specs.Planning.{insert, falling, whichOf, authorsOrder, distances, trimmedRequest, judgeRequest, sorted, plannedChain}
 use Rattle.model.specs.Kernels.{sumFrom, sumOf, centreOf, wordsAt, terms, squared, difference, scaled, blend, written, width}
 use Rattle.model.specs.Clock.{fresh, ready, fires, turn, limit, turns, next, moves}
 use Rattle.model.specs.Store.{firstPlace, placeIn, presented, stored}
-use Rattle.model.specs.Running.{layout, words, clocked, look, call, termsOf, writesOf, writtenBy, widthOf}
+use Rattle.model.specs.Running.{layout, words, clocked, look, call, filtersOf, termsOf, writesOf, writtenBy, widthOf}
 use Rattle.model.specs.Lines.{linesOf}
 use Rattle.model.specs.Frames.{isDigit, valueOf, digitOf, whole, bytesOf, digitsOf, framed, padded, seenOf}
 use Rattle.model.specs.Numbers.{halfAt, wordAt, halfBytes, wordBytes, signed, pattern}
 use Rattle.model.specs.Reading.{badKernel, badForm, malformed, nextInRequest, nextInChain, miscounted, among, misplaced, badLength, sizesIn, lineChecks, lineVerdict}
 use Rattle.model.specs.NamedWindows.{windows, isName, namedOf, badName, withReferences, windowNamed}
-use Rattle.model.specs.Reading.{withGrid, entriesIn, withOffset, withName, withCapacity, kernelIn, withKernel, taken, stepOf, closes, complete, readLines, endVerdict}
+use Rattle.model.specs.Reading.{withGrid, entriesIn, withOffset, withName, withCapacity, filtersIn, withOrder, kernelIn, withKernel, taken, stepOf, closes, complete, readLines, endVerdict}
 use Rattle.model.specs.Reading.{readRequest, cellVerdict}
-use Rattle.model.specs.Writing.{gridLine, offsetLine, capacityLine, kernelLine, chainLines, sheetOf}
+use Rattle.model.specs.Writing.{gridLine, offsetLine, capacityLine, orderLines, kernelLine, chainLines, sheetOf}
 use Rattle.model.specs.Programs.{firingLine, endLine, refusalLine, firingsText, planText, sheetAndBehind, cellsIn, behindCells, wholeRun, runText}
 use Rattle.model.specs.SheetCases.{bytesIn, five, plane, printed, sameBytes}
 
@@ -41,13 +41,16 @@ listing input output = record { input = input; output = output }
 
 unfoldable pub plans : List Listing
 plans =
-    listing (five ++ "020000\n020003\n0400\n") printed
+    -- document 01's listing, which "gains `060100`"; one reference; three, whose order is not its own inverse
+    listing (five ++ "020000\n020003\n0400\n") (five ++ "020003\n020000\n0300000003\n060100\n0400\n")
+    ∷ listing (five ++ "020000\n0400\n") (five ++ "020000\n0600\n0400\n")
+    ∷ listing (five ++ "020000\n020002\n020001\n0400\n") (five ++ "020002\n020001\n020000\n0300000001\n0300000001\n06020001\n0400\n")
     ∷ listing "" "1F02\n"
     ∷ listing (five ++ "020000\n020000\n0400\n") "1F05\n"
     ∷ listing (five ++ "020000\n020000\n0400\n05\n") "1F01\n"
     -- case 6, its window by name; a name of other dimensions
     ∷ listing (plane ++ "0701\n0400\n")
-    (plane ++ "0200010000\n0200000001\n0200000000\n020000FFFF\n02FFFF0000\n0300000004\n0300000001\n0300000001\n0300000004\n0400\n")
+    (plane ++ "0200010000\n0200000001\n0200000000\n020000FFFF\n02FFFF0000\n0300000004\n0300000001\n0300000001\n0300000004\n060001020304\n0400\n")
     ∷ listing (plane ++ "0704\n0400\n") "1F0D\n"
     ∷ []
 
@@ -72,6 +75,13 @@ short = "01020000000400000005\n0200010000\n0200000001\n0200000000\n020000FFFF\n0
 abbrev pub ten : String
 ten = four ++ four ++ "0500000009\n0500000009\n"
 
+-- Four references in a row, up to what stands behind its `03` lines, and the cells 0, 4,096, 1 and 1.
+abbrev pub squares : String
+squares = "010100000004\n020003\n020002\n020001\n020000\n0300000001\n0300000001\n0300000001\n"
+
+abbrev pub apart : String
+apart = "0500000000\n0545800000\n053F800000\n053F800000\n"
+
 unfoldable pub runs : List Listing
 runs =
     -- document 01's; a line after the last firing is not looked at
@@ -92,6 +102,14 @@ runs =
     ∷ listing "" "1F02\n"
     ∷ listing (five ++ "020000\n020003\n0400\n") "1F02\n"
     ∷ listing (five ++ "020000\n020000\n0300000001\n0400\nx") "1F05\n"
+    -- difference: the squares 1, 1 and 2^24 in chain order; 2^24, 1 and 1 in the author's, with the centre first; 1, 1 and 2^24 with the centre last
+    ∷ listing (squares ++ "0401\n" ++ apart) "10000000004B800001\n110000000004\n"
+    ∷ listing (squares ++ "0603020001\n0401\n" ++ apart) "10000000004B800000\n110000000004\n"
+    ∷ listing (squares ++ "0601000203\n0401\n" ++ apart) "10000000004B800001\n110000000004\n"
+    -- raw keeps chain order; 14, before a cell is looked at
+    ∷ listing (squares ++ "0603000102\n0400\n" ++ apart) "10000000003F8000003F8000004580000000000000\n110000000004\n"
+    ∷ listing (squares ++ "0603000103\n0400\nx") "1F0E\n"
+    ∷ listing (printed ++ "0600\n") "1F02\n"
     -- a sum of no terms
     ∷ listing "010100000001\n020000\n0401\n05FFFFFFFF\n" "100000000000000000\n110000000001\n"
     ∷ []
@@ -106,15 +124,15 @@ pub table : (all planRight plans && all runRight runs) ≡ true
 unfolding bytesIn plans runs sameBytes planRight runRight flatMap ofBits toBits add sub mul
     tabulate upTo without sum product greatest all any same above plus equal before isZero
     cellCount place natural position firstEntry otherEntries leastFrom least lows extent extents iterationCount indices fromLows iteration reads distance cellsOf iterationsOf readsOf distanceOf
-    sizesOf offsetOf offsetsOf capacitiesOf chainOf numberOf verdictNumber firstOf
-    badDims badSizes badGrid badCount repeats noIteration needsCentre lacksCentre notFinite badFactor tooLarge windowChecks kernelChecks capacityChecks valueChecks judged judgeChain
-    insert falling distances trimmedRequest judgeRequest sorted trimmed plannedChain
+    sizesOf offsetOf offsetsOf capacitiesOf orderOf chainOf numberOf verdictNumber firstOf
+    badDims badSizes badGrid badCount repeats noIteration needsCentre lacksCentre notFinite badFactor tooLarge twice badOrder windowChecks kernelChecks chainChecks valueChecks judged judgeChain
+    insert falling whichOf authorsOrder distances trimmedRequest judgeRequest sorted trimmed plannedChain
     sumFrom sumOf centreOf wordsAt terms squared difference scaled blend written width
     fresh ready fires turn limit turns next moves firstPlace placeIn presented stored
-    layout words clocked look call termsOf writesOf writtenBy widthOf
+    layout words clocked look call filtersOf termsOf writesOf writtenBy widthOf
     linesOf isDigit valueOf digitOf whole bytesOf digitsOf framed padded halfAt wordAt halfBytes wordBytes signed pattern
     badKernel badForm malformed nextInRequest nextInChain miscounted among misplaced badLength sizesIn lineChecks lineVerdict
-    windows isName namedOf badName withReferences windowNamed withGrid entriesIn withOffset withName withCapacity kernelIn withKernel taken stepOf closes complete readLines endVerdict readRequest cellVerdict
-    gridLine offsetLine capacityLine kernelLine chainLines sheetOf
+    windows isName namedOf badName withReferences windowNamed withGrid entriesIn withOffset withName withCapacity filtersIn withOrder kernelIn withKernel taken stepOf closes complete readLines endVerdict readRequest cellVerdict
+    gridLine offsetLine capacityLine orderLines kernelLine chainLines sheetOf
     firingLine endLine refusalLine firingsText planText sheetAndBehind cellsIn behindCells wholeRun runText
 table = refl

@@ -1,4 +1,4 @@
--- Reading a sheet line by line (document 01, "Lines of the sheet", "Turned back on account of the input"; document 02, request 1).
+-- Reading a sheet line by line (document 01, "Lines of the sheet", "Turned back on account of the input"; document 02, requests 1 and 2).
 use Prim.Native.Nat.{ℕ, _+_, _*_}
 use mathlib.Core.Bool.{Bool, true, false, cond, not, _&&_}
 use mathlib.Core.List.{List, [], _∷_}
@@ -17,8 +17,8 @@ use Rattle.model.specs.declared.Reading.{Reading}
 use Rattle.model.specs.declared.LineStep.{LineStep}
 use Rattle.model.specs.declared.ReadChain.{ReadChain}
 use Rattle.model.specs.declared.ReadRequest.{ReadRequest}
-use Rattle.model.specs.Lists.{any}
-use Rattle.model.specs.Values.{withReference, blankChain, requestOf, setGrid, setWindow, setCapacities, setKernel}
+use Rattle.model.specs.Lists.{tabulate, any}
+use Rattle.model.specs.Values.{withReference, blankChain, requestOf, setGrid, setWindow, setCapacities, setOrder, setKernel}
 use Rattle.model.specs.Answers.{Check, check, firstOf, byVerdict}
 use Rattle.model.specs.Judging.{badDims, badSizes, judgeChain}
 use Rattle.model.specs.Planning.{judgeRequest}
@@ -50,8 +50,9 @@ badForm len kind second =
     (cond (eqb kind 3) (not (eqb len 5))
     (cond (eqb kind 4) (badKernel len second)
     (cond (eqb kind 5) (not (eqb len 5))
+    (cond (eqb kind 6) false
     (cond (eqb kind 7) (not (eqb len 2))
-    true)))))
+    true))))))
 
 -- 1, before the order of lines: no sound frame, an empty line, or a bad form.
 unfoldable pub malformed : (sound : Bool) (len kind second : ℕ) → Bool
@@ -64,15 +65,17 @@ nextInRequest stood.Grid = 2 ∷ 7 ∷ []
 nextInRequest stood.Offset = 2 ∷ 4 ∷ []
 nextInRequest stood.Name = 4 ∷ []
 nextInRequest stood.Capacity = []
+nextInRequest stood.Order = []
 nextInRequest stood.Kernel = []
 
--- "A chain sheet has n−1 `03` lines before the `04`": by what stood last,
+-- "A chain sheet has n−1 `03` lines before the `04`", and may carry "a line `06` just before `04`": by what stood last,
 unfoldable pub nextInChain : Last → List ℕ
 nextInChain stood.Nothing = 1 ∷ []
 nextInChain stood.Grid = 2 ∷ []
-nextInChain stood.Offset = 2 ∷ 3 ∷ 4 ∷ []
+nextInChain stood.Offset = 2 ∷ 3 ∷ 6 ∷ 4 ∷ []
 nextInChain stood.Name = []
-nextInChain stood.Capacity = 3 ∷ 4 ∷ []
+nextInChain stood.Capacity = 3 ∷ 6 ∷ 4 ∷ []
+nextInChain stood.Order = 4 ∷ []
 nextInChain stood.Kernel = []
 
 -- and by their number, where `count` of the `02` lines and `given` of the `03` lines were read.
@@ -80,7 +83,8 @@ unfoldable pub miscounted : (given count kind : ℕ) → Bool
 miscounted given count kind =
     cond (eqb kind 3) (leb count (given + 1))
     (cond (eqb kind 4) (not (eqb count (given + 1)))
-    false)
+    (cond (eqb kind 6) (not (eqb count (given + 1)))
+    false))
 
 unfoldable pub among : ℕ → List ℕ → Bool
 among kind kinds = any (λ k. eqb kind k) kinds
@@ -92,12 +96,13 @@ misplaced chainSheet last given count kind =
     (cond (among kind (nextInChain last)) (miscounted given count kind) true)
     (not (among kind (nextInRequest last)))
 
--- 1: a length other than the one that the dimension count sets, for an `02` line that of the `01` line read before.
-unfoldable pub badLength : (len kind second dims : ℕ) → Bool
-badLength len kind second dims =
+-- 1: a length other than the one that the dimension count sets, for an `02` line that of the `01` line read before; or, for an `06` line, the `02` lines read before.
+unfoldable pub badLength : (len kind second dims count : ℕ) → Bool
+badLength len kind second dims count =
     cond (eqb kind 1) (not (eqb len (2 + 4 * second)))
     (cond (eqb kind 2) (not (eqb len (1 + 2 * dims)))
-    false)
+    (cond (eqb kind 6) (not (eqb len (1 + count)))
+    false))
 
 -- The sizes on an `01` line with the bytes x, 0 past its end.
 unfoldable pub sizesIn : List ℕ → List ℕ
@@ -114,7 +119,7 @@ lineChecks chainSheet r l =
     check (malformed (l .sound) (l .len) kind second) refusal.Malformed
     ∷ check (misplaced chainSheet (r .last) (r .given) count kind) refusal.Misplaced
     ∷ check (eqb kind 1 && badDims second) refusal.BadGrid
-    ∷ check (badLength (l .len) kind second (r .chain .grid .dims)) refusal.Malformed
+    ∷ check (badLength (l .len) kind second (r .chain .grid .dims) count) refusal.Malformed
     ∷ check (eqb kind 1 && badSizes (take second (sizesIn (l .first)))) refusal.BadGrid
     ∷ check (eqb kind 2 && leb 32 count) refusal.BadCount
     ∷ check (eqb kind 7 && badName second (r .chain .grid .dims)) refusal.BadName
@@ -148,6 +153,15 @@ withCapacity r x =
     let c = r .chain in
     record { last = stood.Capacity; given = r .given + 1; chain = setCapacities (set (c .capacities) (r .given) (wordAt x 1)) c }
 
+-- The filter numbers of n terms on an `06` line, 0 past the last.
+unfoldable pub filtersIn : (n : ℕ) → List ℕ → List ℕ
+filtersIn n x = tabulate 32 (λ t. cond (ltb t n) (byteAt x (1 + t)) 0)
+
+-- An `06` line: the author's order.
+unfoldable pub withOrder : Reading → List ℕ → Reading
+withOrder r x =
+    record { last = stood.Order; given = r .given; chain = setOrder (record { stood = true; filters = filtersIn (r .chain .window .count) x }) (r .chain) }
+
 unfoldable pub kernelIn : List ℕ → Kernel
 kernelIn x =
     let which = byteAt x 1 in
@@ -168,8 +182,9 @@ taken r x =
     cond (eqb kind 1) (withGrid r x)
     (cond (eqb kind 2) (withOffset r x)
     (cond (eqb kind 3) (withCapacity r x)
+    (cond (eqb kind 6) (withOrder r x)
     (cond (eqb kind 7) (withName r x)
-    (withKernel r x))))
+    (withKernel r x)))))
 
 -- One line, read.
 unfoldable pub stepOf : (chainSheet : Bool) → Reading → Seen → LineStep
@@ -188,6 +203,7 @@ closes stood.Grid = false
 closes stood.Offset = false
 closes stood.Name = false
 closes stood.Capacity = false
+closes stood.Order = false
 closes stood.Kernel = true
 
 unfoldable pub complete : Reading → Bool
@@ -201,7 +217,7 @@ readLines chainSheet r (l ∷ ls) =
     let rest = readLines chainSheet (s .reading) ls in
     byVerdict (s .verdict) rest (λ x. s)
 
--- After the last line: 2 where one is "missing at the end"; then 5 to 9, by judging the value that was read, of which 3 and 4 hold no more.
+-- After the last line: 2 where one is "missing at the end"; then 5 to 9 and 14, by judging the value that was read, of which 3 and 4 hold no more.
 unfoldable pub endVerdict : LineStep → (judged : Verdict) → Verdict
 endVerdict s judged =
     let atEnd = cond (complete (s .reading)) judged (verdict.Refused refusal.Misplaced) in

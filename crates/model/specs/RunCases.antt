@@ -1,5 +1,6 @@
 -- Run calls in full (document 01, "Running" and "Turned back on account of the state"): one table, computed.
 use Prim.Native.Nat.{ℕ}
+use mathlib.Core.Bool.{false}
 use mathlib.Core.List.{List, [], _∷_, _++_, map, flatMap}
 use mathlib.Core.Path.{_≡_, refl}
 use lib.IntN.{ℤ, pos}
@@ -7,14 +8,14 @@ use lib.ListN.{length}
 use Rattle.model.specs.Lists.{tabulate, upTo, sum, product, greatest, any}
 use Rattle.model.specs.Vectors.{same, above, plus, equal, isZero}
 use Rattle.model.specs.Geometry.{cellCount, place, natural, position, firstEntry, otherEntries, leastFrom, least, lows, extent, extents, iterationCount, indices, fromLows, iteration, reads}
-use Rattle.model.specs.Values.{sizesOf, offsetOf, offsetsOf, capacitiesOf, trimmed}
+use Rattle.model.specs.Values.{sizesOf, offsetOf, offsetsOf, capacitiesOf, orderOf, trimmed}
 use Rattle.model.specs.Iterations.{cellsOf, iterationsOf, readsOf}
 use Rattle.model.specs.Answers.{firstOf}
-use Rattle.model.specs.Judging.{badDims, badSizes, badGrid, badCount, repeats, noIteration, needsCentre, lacksCentre, badFactor, tooLarge, windowChecks, kernelChecks, capacityChecks, valueChecks}
+use Rattle.model.specs.Judging.{badDims, badSizes, badGrid, badCount, repeats, noIteration, needsCentre, lacksCentre, badFactor, tooLarge, twice, badOrder, windowChecks, kernelChecks, chainChecks, valueChecks}
 use Rattle.model.specs.Kernels.{wordsAt, terms, written, width, centreOf}
 use Rattle.model.specs.Clock.{turn, limit, turns, ready, fires, next, moves}
 use Rattle.model.specs.Store.{firstPlace, placeIn, presented, stored}
-use Rattle.model.specs.Running.{layout, countersOf, withCounters, outcomeOf, words, clocked, look, call, shortStore, notPast, badCounter, badFifo, badFilters, badState, judgeRun, begun, termsOf, writesOf, writtenBy, widthOf, ended, runTrimmed, Run, runOf}
+use Rattle.model.specs.Running.{layout, countersOf, withCounters, outcomeOf, words, clocked, look, call, shortStore, notPast, badCounter, badFifo, badFilters, badState, judgeRun, begun, filtersOf, termsOf, writesOf, writtenBy, widthOf, ended, runTrimmed, Run, runOf}
 use Rattle.model.specs.declared.CellsPassed.{CellsPassed}
 use Rattle.model.specs.declared.Chain.{Chain}
 use Rattle.model.specs.declared.State.{State}
@@ -42,12 +43,14 @@ answered c = runOf (c .chain) (c .state) (c .store) (c .lent) (c .output) (c .al
 unfoldable pub expected : Case → Run
 expected c = c .leaves
 
--- A raw chain in one dimension: its size, offsets and capacities. What stands past the counts would be turned back by 3 or 9 if it played a part.
+-- A raw chain in one dimension: its size, offsets and capacities. What stands past the counts would be turned back by 3 or 9 if it played a part, and its order, whose line is
+-- absent, by 14.
 abbrev chain : ℕ → List ℤ → List ℕ → Chain
 chain size offsets capacities = record {
   grid = record { dims = 1; sizes = size ∷ 0 ∷ 0 ∷ 0 ∷ [] };
   window = record { count = length offsets; offsets = flatMap (λ (x : ℤ). let offset : List ℤ = x ∷ x ∷ x ∷ x ∷ [] in offset) offsets };
   capacities = capacities ++ (99999 ∷ []);
+  order = record { stood = false; filters = 99 ∷ 99 ∷ [] };
   kernel = kernel.Raw;
 }
 
@@ -171,8 +174,8 @@ pub table : AsExpected places × AsExpected looks × AsExpected refusals
 unfolding answered expected places looks refusals flatMap
     tabulate upTo sum product greatest any same above plus equal isZero
     cellCount place natural position firstEntry otherEntries leastFrom least lows extent extents iterationCount indices fromLows iteration reads cellsOf iterationsOf readsOf
-    sizesOf offsetOf offsetsOf capacitiesOf trimmed firstOf
-    badDims badSizes badGrid badCount repeats noIteration needsCentre lacksCentre badFactor tooLarge windowChecks kernelChecks capacityChecks valueChecks
+    sizesOf offsetOf offsetsOf capacitiesOf orderOf trimmed firstOf
+    badDims badSizes badGrid badCount repeats noIteration needsCentre lacksCentre badFactor tooLarge twice badOrder windowChecks kernelChecks chainChecks valueChecks
     wordsAt terms written width centreOf turn limit turns ready fires next moves firstPlace placeIn presented stored
-    layout countersOf withCounters outcomeOf words clocked look call shortStore notPast badCounter badFifo badFilters badState judgeRun begun termsOf writesOf writtenBy widthOf ended runTrimmed runOf
+    layout countersOf withCounters outcomeOf words clocked look call shortStore notPast badCounter badFifo badFilters badState judgeRun begun filtersOf termsOf writesOf writtenBy widthOf ended runTrimmed runOf
 table = (refl, refl, refl)

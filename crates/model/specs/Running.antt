@@ -172,9 +172,13 @@ pub record Run : Type 0 where
 unfoldable pub begun : Trimmed → State → (store output : List ℕ) → Standing
 begun t s store output = record { counters = countersOf (t .count) s; store = store; output = output; done = record { cells = 0; firings = 0; clocks = 0 } }
 
--- The filters whose words the kernel adds, and those whose words raw writes: all of them "in chain order".
+-- The filters in the author's order; "Without the line, terms go in chain order as before."
+unfoldable pub filtersOf : Trimmed → List ℕ
+filtersOf t = cond (t .ordered) (t .order) (upTo (t .count))
+
+-- The filters whose words the kernel adds, in this order, and those whose words raw writes: "raw outputs keep chain order".
 unfoldable pub termsOf : Trimmed → List ℕ
-termsOf t = terms (t .kernel) (centreOf (t .offsets)) (upTo (t .count))
+termsOf t = terms (t .kernel) (centreOf (t .offsets)) (filtersOf t)
 
 unfoldable pub writesOf : Trimmed → List ℕ
 writesOf t = upTo (t .count)

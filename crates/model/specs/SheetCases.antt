@@ -14,19 +14,19 @@ use Rattle.model.specs.Lists.{tabulate, sum, product, greatest, all, any
 use Rattle.model.specs.Vectors.{same, above, plus, equal, before, isZero}
 use Rattle.model.specs.Geometry.{cellCount, place, natural, position, firstEntry, otherEntries, leastFrom, least, lows, extent, extents, iterationCount}
 use Rattle.model.specs.Geometry.{indices, fromLows, iteration, reads, distance}
-use Rattle.model.specs.Values.{sizesOf, offsetOf, offsetsOf, capacitiesOf, trimmed, blankChain}
+use Rattle.model.specs.Values.{sizesOf, offsetOf, offsetsOf, capacitiesOf, orderOf, trimmed, blankChain}
 use Rattle.model.specs.Iterations.{distanceOf}
 use Rattle.model.specs.Answers.{numberOf, verdictNumber, firstOf, byVerdict}
-use Rattle.model.specs.Judging.{badDims, badSizes, badGrid, badCount, repeats, noIteration, needsCentre, lacksCentre, notFinite, badFactor, tooLarge, windowChecks, kernelChecks, capacityChecks, valueChecks, judged, judgeChain}
-use Rattle.model.specs.Planning.{insert, falling, sorted, distances, trimmedRequest, judgeRequest}
+use Rattle.model.specs.Judging.{badDims, badSizes, badGrid, badCount, repeats, noIteration, needsCentre, lacksCentre, notFinite, badFactor, tooLarge, twice, badOrder, windowChecks, kernelChecks, chainChecks, valueChecks, judged, judgeChain}
+use Rattle.model.specs.Planning.{insert, falling, whichOf, authorsOrder, sorted, distances, trimmedRequest, judgeRequest}
 use Rattle.model.specs.Lines.{linesOf}
 use Rattle.model.specs.Frames.{isDigit, valueOf, digitOf, whole, bytesOf, digitsOf, framed, padded, seenOf}
 use Rattle.model.specs.Numbers.{halfAt, wordAt, halfBytes, wordBytes, signed, pattern}
 use Rattle.model.specs.Reading.{badKernel, badForm, malformed, nextInRequest, nextInChain, miscounted, among, misplaced, badLength, sizesIn, lineChecks, lineVerdict}
 use Rattle.model.specs.NamedWindows.{windows, isName, namedOf, badName, withReferences, windowNamed}
-use Rattle.model.specs.Reading.{withGrid, entriesIn, withOffset, withName, withCapacity, kernelIn, withKernel, taken, stepOf, closes, complete, readLines, endVerdict}
+use Rattle.model.specs.Reading.{withGrid, entriesIn, withOffset, withName, withCapacity, filtersIn, withOrder, kernelIn, withKernel, taken, stepOf, closes, complete, readLines, endVerdict}
 use Rattle.model.specs.Reading.{readChain, readRequest, cellVerdict}
-use Rattle.model.specs.Writing.{gridLine, offsetLine, capacityLine, kernelLine, chainLines, sheetOf, writeVerdict, writeOf}
+use Rattle.model.specs.Writing.{gridLine, offsetLine, capacityLine, orderLines, kernelLine, chainLines, sheetOf, writeVerdict, writeOf}
 
 -- A text's characters, as bytes.
 unfoldable pub bytesIn : String → List ℕ
@@ -55,6 +55,15 @@ plane = "01020000000400000005\n"
 
 abbrev pub solid : String
 solid = "0103000000030000000400000003\n"
+
+-- A chain of 32 references in a row, one apart, up to its `06` line; and the bytes of 31 to 0.
+abbrev pub ruler : String
+ruler =
+    "010100000040\n02001F\n02001E\n02001D\n02001C\n02001B\n02001A\n020019\n020018\n020017\n020016\n020015\n020014\n020013\n020012\n020011\n020010\n02000F\n02000E\n02000D\n02000C\n02000B\n02000A\n020009\n020008\n020007\n020006\n020005\n020004\n020003\n020002\n020001\n020000\n"
+    ++ times 31 "0300000001\n"
+
+abbrev pub all32 : String
+all32 = "1F1E1D1C1B1A191817161514131211100F0E0D0C0B0A09080706050403020100"
 
 -- Document 01's chain sheet.
 abbrev pub printed : String
@@ -165,6 +174,12 @@ requests =
     ∷ case "01020000000200000005\n0701\n0400\n" 6
     ∷ case (plane ++ "0702\n0401\n") 7
     ∷ case "01030000000300000003000186A0\n0704\n0400\n" 9
+    -- an `06` line, which has no place here, at any length, but the frame first
+    ∷ case (five ++ "020000\n0600\n0400\n") 2
+    ∷ case (five ++ "020000\n06\n") 2
+    ∷ case (five ++ "020000\n0400\n0600\n") 2
+    ∷ case ("06" ++ (times 60 "00" ++ "\n")) 2
+    ∷ case "060\n" 1
     ∷ []
 
 unfoldable pub chains : List Case
@@ -198,6 +213,37 @@ chains =
     ∷ case (plane ++ "0700\n") 2
     ∷ case (five ++ "020000\n0701\n") 2
     ∷ case (plane ++ "07\n") 1
+    -- an `06` line: the listing's; of one reference; of three, whose order is not its own inverse; chain order, which is not none
+    ∷ case (five ++ "020003\n020000\n0300000003\n060100\n0400\n") 0
+    ∷ case (five ++ "020000\n0600\n0400\n") 0
+    ∷ case (five ++ "020002\n020001\n020000\n0300000001\n0300000001\n06020001\n0401\n") 0
+    ∷ case (five ++ "020003\n020000\n0300000003\n060001\n0400\n") 0
+    -- of 32, with as many as there are, and one too many
+    ∷ case (ruler ++ ("06" ++ (all32 ++ "\n0400\n"))) 0
+    ∷ case (ruler ++ ("06" ++ (all32 ++ "20\n0400\n"))) 1
+    -- its place, at any length: before the last `03`, before an `02`, behind another, behind the `04`, first
+    ∷ case (five ++ "020003\n020000\n060100\n0300000003\n0400\n") 2
+    ∷ case (five ++ "020002\n020001\n020000\n0300000001\n06\n") 2
+    ∷ case (five ++ "0600\n020000\n0400\n") 2
+    ∷ case (five ++ "020000\n0600\n0600\n0400\n") 2
+    ∷ case (five ++ "020000\n0400\n06\n") 2
+    ∷ case "06\n" 2
+    -- what stands behind it
+    ∷ case (five ++ "020003\n020000\n0300000003\n060100\n0300000003\n") 2
+    ∷ case (five ++ "020000\n0600\n020001\n") 2
+    ∷ case (five ++ "020000\n0600\n") 2
+    -- then its length
+    ∷ case (five ++ "020000\n06\n0400\n") 1
+    ∷ case (five ++ "020003\n020000\n0300000003\n0601\n0400\n") 1
+    ∷ case (five ++ "020003\n020000\n0300000003\n06010002\n0400\n") 1
+    -- 14 at the end, after 5 to 9 and a fault further down: a byte that is n or above, or stands twice
+    ∷ case (five ++ "020003\n020000\n0300000003\n060102\n0400\n") 14
+    ∷ case (five ++ "020003\n020000\n0300000003\n06FF00\n0400\n") 14
+    ∷ case (five ++ "020003\n020000\n0300000003\n060000\n0400\n") 14
+    ∷ case (five ++ "020000\n0601\n0400\n") 14
+    ∷ case (five ++ "020003\n020000\n0300000003\n060000\n0404\n") 1
+    ∷ case (five ++ "020000\n020000\n0300000003\n060000\n0400\n") 5
+    ∷ case (five ++ "020003\n020000\n0300004001\n060000\n0400\n") 9
     ∷ []
 
 -- Lines where a cell is wanted.
@@ -212,6 +258,8 @@ cells =
     ∷ case "02\n" 2
     ∷ case "0700\n" 2
     ∷ case "07\n" 1
+    ∷ case "0600\n" 2
+    ∷ case "06\n" 2
     ∷ []
 
 unfoldable pub sameBytes : List ℕ → List ℕ → Bool
@@ -256,11 +304,11 @@ pub table : (all requestRight requests && (all chainRight chains && (all cellRig
 unfolding bytesIn times requests chains cells sameBytes requestRight writesBack chainRight cellRight blankRight flatMap ofBits toBits
     tabulate sum product greatest all any same above plus equal before isZero
     cellCount place natural position firstEntry otherEntries leastFrom least lows extent extents iterationCount indices fromLows iteration reads distance distanceOf
-    sizesOf offsetOf offsetsOf capacitiesOf numberOf verdictNumber firstOf
-    badDims badSizes badGrid badCount repeats noIteration needsCentre lacksCentre notFinite badFactor tooLarge windowChecks kernelChecks capacityChecks valueChecks judged judgeChain
-    insert falling sorted distances trimmedRequest judgeRequest trimmed
+    sizesOf offsetOf offsetsOf capacitiesOf orderOf numberOf verdictNumber firstOf
+    badDims badSizes badGrid badCount repeats noIteration needsCentre lacksCentre notFinite badFactor tooLarge twice badOrder windowChecks kernelChecks chainChecks valueChecks judged judgeChain
+    insert falling whichOf authorsOrder sorted distances trimmedRequest judgeRequest trimmed
     linesOf isDigit valueOf digitOf whole bytesOf digitsOf framed padded halfAt wordAt halfBytes wordBytes signed pattern
     badKernel badForm malformed nextInRequest nextInChain miscounted among misplaced badLength sizesIn lineChecks lineVerdict
-    windows isName namedOf badName withReferences windowNamed withGrid entriesIn withOffset withName withCapacity kernelIn withKernel taken stepOf closes complete readLines endVerdict readChain readRequest cellVerdict
-    gridLine offsetLine capacityLine kernelLine chainLines sheetOf writeVerdict writeOf
+    windows isName namedOf badName withReferences windowNamed withGrid entriesIn withOffset withName withCapacity filtersIn withOrder kernelIn withKernel taken stepOf closes complete readLines endVerdict readChain readRequest cellVerdict
+    gridLine offsetLine capacityLine orderLines kernelLine chainLines sheetOf writeVerdict writeOf
 table = refl

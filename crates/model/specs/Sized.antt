@@ -1,5 +1,6 @@
 -- Windows whose offsets fit a grid, and values whose lists fit their counts.
 use Prim.Native.Nat.{ℕ, _-_, _<_}
+use mathlib.Core.Bool.{cond}
 use mathlib.Core.List.{List, []}
 use mathlib.Core.Path.{_≡_}
 use lib.ListN.{length, getD}
@@ -15,3 +16,4 @@ pub record Proper (t : Trimmed) : Type 0 where
   pub references : length (t .offsets) ≡ t .count
   pub entries : Sized (t .sizes) (t .offsets)
   pub fifos : length (t .capacities) ≡ t .count - 1
+  pub terms : length (t .order) ≡ cond (t .ordered) (t .count) 0

@@ -1,5 +1,6 @@
 -- What of a grid, a window, a request and a chain handed over as a value plays a part: "entries past its counts play no part, and chains that differ only there are the same".
 use Prim.Native.Nat.{ℕ, _+_, _-_, _*_, _/_, _%_}
+use mathlib.Core.Bool.{Bool, false, cond}
 use mathlib.Core.List.{List, []}
 use mathlib.Core.Path.{_≡_}
 use lib.IntN.{ℤ, pos}
@@ -10,6 +11,7 @@ use Rattle.model.specs.declared.Grid.{Grid}
 use Rattle.model.specs.declared.Window.{Window}
 use Rattle.model.specs.declared.Kernel.{Kernel}
 use Rattle.model.specs.declared.Kernel.the-variants as kernel
+use Rattle.model.specs.declared.Order.{Order}
 use Rattle.model.specs.declared.Request.{Request}
 use Rattle.model.specs.declared.Chain.{Chain}
 
@@ -33,28 +35,36 @@ capacityOf c k = getD (c .capacities) k 0
 unfoldable pub capacitiesOf : Chain → List ℕ
 capacitiesOf c = tabulate (c .window .count - 1) (λ k. capacityOf c k)
 
--- A request or a chain without the entries past its counts: all of it that plays a part.
+-- The author's order where there are n filters: the filter of each term in turn; none where its line did not stand: "A part of the record whose line is absent plays no part."
+unfoldable pub orderOf : ℕ → Order → List ℕ
+orderOf n o = cond (o .stood) (tabulate n (λ t. getD (o .filters) t 0)) []
+
+-- A request or a chain without the entries past its counts and without an absent part: all of it that plays a part.
 pub record Trimmed : Type 0 where
   pub dims : ℕ
   pub sizes : List ℕ
   pub count : ℕ
   pub offsets : List (List ℤ)
   pub capacities : List ℕ
+  pub ordered : Bool
+  pub order : List ℕ
   pub kernel : Kernel
 
--- A grid, a window, capacities and a kernel: what of them plays a part.
-abbrev pub trimmedOf : Grid → Window → (capacities : List ℕ) → Kernel → Trimmed
-trimmedOf g w capacities k = record {
+-- A grid, a window, capacities, an order, which stood or did not, and a kernel: what of them plays a part.
+abbrev pub trimmedOf : Grid → Window → (capacities : List ℕ) → (ordered : Bool) (order : List ℕ) → Kernel → Trimmed
+trimmedOf g w capacities ordered order k = record {
   dims = g .dims;
   sizes = sizesOf g;
   count = w .count;
   offsets = offsetsOf (g .dims) w;
   capacities = capacities;
+  ordered = ordered;
+  order = order;
   kernel = k;
 }
 
 unfoldable pub trimmed : Chain → Trimmed
-trimmed c = trimmedOf (c .grid) (c .window) (capacitiesOf c) (c .kernel)
+trimmed c = trimmedOf (c .grid) (c .window) (capacitiesOf c) (c .order .stood) (orderOf (c .window .count) (c .order)) (c .kernel)
 
 -- Two chains are the same.
 abbrev pub Same : Chain → Chain → Type 0
@@ -66,6 +76,7 @@ chainOf t = record {
   grid = record { dims = t .dims; sizes = tabulate 4 (λ d. getD (t .sizes) d 0) };
   window = record { count = t .count; offsets = tabulate 128 (λ i. getD (getD (t .offsets) (i / 4) []) (i % 4) (pos 0)) };
   capacities = tabulate 31 (λ k. getD (t .capacities) k 0);
+  order = record { stood = t .ordered; filters = tabulate 32 (λ i. getD (t .order) i 0) };
   kernel = t .kernel;
 }
 
@@ -76,28 +87,36 @@ blankWindow = record { count = 0; offsets = replicate 128 (pos 0) }
 abbrev pub withReference : Window → List ℤ → Window
 withReference w entries = record { count = w .count + 1; offsets = sets (w .offsets) (4 * w .count) entries }
 
--- What a refusal hands back in place of a chain: all counts and entries 0, and raw.
+-- An order whose line did not stand.
+abbrev pub noOrder : Order
+noOrder = record { stood = false; filters = replicate 32 0 }
+
+-- What a refusal hands back in place of a chain: all counts and entries 0, no order, and raw.
 abbrev pub blankChain : Chain
 blankChain = record {
   grid = record { dims = 0; sizes = replicate 4 0 };
   window = blankWindow;
   capacities = replicate 31 0;
+  order = noOrder;
   kernel = kernel.Raw;
 }
 
--- The request that a chain without its capacities is.
+-- The request that a chain without its capacities and its order is.
 abbrev pub requestOf : Chain → Request
 requestOf c = record { grid = c .grid; window = c .window; kernel = c .kernel }
 
 -- A chain with one field set.
 abbrev pub setGrid : Grid → Chain → Chain
-setGrid g c = record { grid = g; window = c .window; capacities = c .capacities; kernel = c .kernel }
+setGrid g c = record { grid = g; window = c .window; capacities = c .capacities; order = c .order; kernel = c .kernel }
 
 abbrev pub setWindow : Window → Chain → Chain
-setWindow w c = record { grid = c .grid; window = w; capacities = c .capacities; kernel = c .kernel }
+setWindow w c = record { grid = c .grid; window = w; capacities = c .capacities; order = c .order; kernel = c .kernel }
 
 abbrev pub setCapacities : List ℕ → Chain → Chain
-setCapacities xs c = record { grid = c .grid; window = c .window; capacities = xs; kernel = c .kernel }
+setCapacities xs c = record { grid = c .grid; window = c .window; capacities = xs; order = c .order; kernel = c .kernel }
+
+abbrev pub setOrder : Order → Chain → Chain
+setOrder o c = record { grid = c .grid; window = c .window; capacities = c .capacities; order = o; kernel = c .kernel }
 
 abbrev pub setKernel : Kernel → Chain → Chain
-setKernel k c = record { grid = c .grid; window = c .window; capacities = c .capacities; kernel = k }
+setKernel k c = record { grid = c .grid; window = c .window; capacities = c .capacities; order = c .order; kernel = k }

@@ -1,5 +1,6 @@
--- Writing a chain sheet (document 01, "Lines of the sheet"; number 12).
+-- Writing a chain sheet (document 01, "Lines of the sheet"; number 12; document 02, request 2).
 use Prim.Native.Nat.{ℕ}
+use mathlib.Core.Bool.{cond}
 use mathlib.Core.List.{List, [], _∷_, _++_, map, flatMap}
 use lib.Dec.{ltb}
 use lib.IntN.{ℤ}
@@ -8,12 +9,13 @@ use lib.Ieee.{toBits, binary32}
 use Rattle.model.specs.declared.Grid.{Grid}
 use Rattle.model.specs.declared.Kernel.{Kernel}
 use Rattle.model.specs.declared.Kernel.the-variants as kernel
+use Rattle.model.specs.declared.Order.{Order}
 use Rattle.model.specs.declared.Chain.{Chain}
 use Rattle.model.specs.declared.Refusal.the-variants as refusal
 use Rattle.model.specs.declared.Verdict.{Verdict}
 use Rattle.model.specs.declared.Verdict.the-variants as verdict
 use Rattle.model.specs.declared.Wrote.{Wrote}
-use Rattle.model.specs.Values.{sizesOf, offsetsOf, capacitiesOf}
+use Rattle.model.specs.Values.{sizesOf, offsetsOf, capacitiesOf, orderOf}
 use Rattle.model.specs.Answers.{check, firstOf, byVerdict}
 use Rattle.model.specs.Judging.{judgeChain}
 use Rattle.model.specs.Frames.{framed}
@@ -31,6 +33,10 @@ offsetLine o = 2 ∷ flatMap (λ e. halfBytes (pattern e)) o
 unfoldable pub capacityLine : ℕ → List ℕ
 capacityLine places = 3 ∷ wordBytes places
 
+-- "a line `06` just before `04`: n bytes, the filter number of each term in turn"; none where it did not stand
+unfoldable pub orderLines : (n : ℕ) → Order → List (List ℕ)
+orderLines n o = cond (o .stood) ((6 ∷ orderOf n o) ∷ []) []
+
 -- "`04` kernel: byte 00 raw, 01 difference, 02 scaled and its factor's bits (4 bytes), 03 blend and a, b (4 bytes each)"
 unfoldable pub kernelLine : Kernel → List ℕ
 kernelLine kernel.Raw = 4 ∷ 0 ∷ []
@@ -42,16 +48,16 @@ kernelLine (kernel.Blend g) = 4 ∷ 3 ∷ (wordBytes (toBits binary32 (g .a)) ++
 unfoldable pub chainLines : Chain → List (List ℕ)
 chainLines c =
     gridLine (c .grid)
-    ∷ (map offsetLine (offsetsOf (c .grid .dims) (c .window)) ++ (map capacityLine (capacitiesOf c) ++ (kernelLine (c .kernel) ∷ [])))
+    ∷ (map offsetLine (offsetsOf (c .grid .dims) (c .window)) ++ (map capacityLine (capacitiesOf c) ++ (orderLines (c .window .count) (c .order) ++ (kernelLine (c .kernel) ∷ []))))
 
 unfoldable pub sheetOf : Chain → List ℕ
 sheetOf c = flatMap framed (chainLines c)
 
 -- No chain sheet has more characters.
 abbrev pub longestSheet : ℕ
-longestSheet = 1007
+longestSheet = 1074
 
--- 3 to 9 of the chain as a value, then 12: "a sheet to be written is longer than the output lent; looked at last".
+-- 3 to 9 and 14 of the chain as a value, then 12: "a sheet to be written is longer than the output lent; looked at last".
 unfoldable pub writeVerdict : Chain → (room : ℕ) → Verdict
 writeVerdict c room =
     let last = firstOf (check (ltb room (length (sheetOf c))) refusal.ShortOutput ∷ []) in

@@ -41,11 +41,18 @@ pub struct Request {
     pub kernel: Kernel,
 }
 
+// The author's order of terms: whether its line stood, and where it did, filters[t] is the filter that holds the author's reference t.
+pub struct Order {
+    pub stood: bool,
+    pub filters: [u8; 32],
+}
+
 // A chain: reference k of the window is filter k's; FIFO k, between filters k and k + 1, has capacities[k] places.
 pub struct Chain {
     pub grid: Grid,
     pub window: Window,
     pub capacities: [u32; 31],
+    pub order: Order,
     pub kernel: Kernel,
 }
 
@@ -78,7 +85,7 @@ pub const STALLED_BYTE: u8 = 1;
 
 pub const STARVED_BYTE: u8 = 2;
 
-// Why input is turned back, from number 1 to 13.
+// Why input is turned back, from number 1 to 14.
 pub enum Refusal {
     Malformed,
     Misplaced,
@@ -93,6 +100,7 @@ pub enum Refusal {
     BadState,
     ShortOutput,
     BadName,
+    BadOrder,
 }
 
 // What judging answers.
@@ -133,13 +141,14 @@ pub struct Frame {
     pub high: u8,
 }
 
-// Which of a sheet's lines stood last: none, or an `01`, `02`, `07`, `03` or `04` line.
+// Which of a sheet's lines stood last: none, or an `01`, `02`, `07`, `03`, `06` or `04` line.
 pub enum Last {
     Nothing,
     Grid,
     Offset,
     Name,
     Capacity,
+    Order,
     Kernel,
 }
 

@@ -142,19 +142,19 @@ placed dims k z y x es =
     (set (set es (4 * k) (entryOf y)) (4 * k + 1) (entryOf x))
     (set (set (set es (4 * k) (entryOf z)) (4 * k + 1) (entryOf y)) (4 * k + 2) (entryOf x)))
 
--- The entries with those of references k - 1, k - 2, .. 0, which the window has from character `at` on.
-unfoldable pub risen : (dims : ℕ) (window : List ℕ) (k at : ℕ) → List ℤ → List ℤ
-risen dims window zero at es = es
-risen dims window (suc k) at es =
-    risen dims window k (at + 4)
-    (cond (ltb (at + 2) (length window)) (placed dims k (getD window at 0) (getD window (at + 1) 0) (getD window (at + 2) 0) es) es)
+-- The entries with those of k references more, which the window has from character `at` on.
+unfoldable pub listedFrom : (dims : ℕ) (window : List ℕ) (k at : ℕ) → List ℤ → List ℤ
+listedFrom dims window zero at es = es
+listedFrom dims window (suc k) at es =
+    listedFrom dims window k (at + 4)
+    (cond (ltb (at + 2) (length window)) (placed dims (at / 4) (getD window at 0) (getD window (at + 1) 0) (getD window (at + 2) 0) es) es)
 
 abbrev pub referencesIn : (window : List ℕ) → ℕ
 referencesIn window = length window / 4 + 1
 
--- The window with its references in rising order.
-unfoldable pub rising : (dims : ℕ) (window : List ℕ) → Window
-rising dims window = record { count = referencesIn window % 256; offsets = risen dims window (referencesIn window) 0 (replicate 128 (pos 0)) }
+-- The window with its references as they are written.
+unfoldable pub listed : (dims : ℕ) (window : List ℕ) → Window
+listed dims window = record { count = referencesIn window % 256; offsets = listedFrom dims window (referencesIn window) 0 (replicate 128 (pos 0)) }
 
 unfoldable pub requestOf : Loops → (window : List ℕ) → Kernel → Request
-requestOf l window k = record { grid = gridOf l; window = rising (l .dims) window; kernel = k }
+requestOf l window k = record { grid = gridOf l; window = listed (l .dims) window; kernel = k }

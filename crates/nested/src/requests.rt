@@ -5,7 +5,7 @@ use model::Kernel;
 use model::Request;
 use model::Window;
 ghost use mathlib.Core.Path.{_≡_};
-ghost use Rattle.nested.specs.Nested.{sizeOf, gridOf, entryOf, placed, rising as risingIn, requestOf};
+ghost use Rattle.nested.specs.Nested.{sizeOf, gridOf, entryOf, placed, listed as listedIn, requestOf};
 
 fn size(x: usize) -> u32
     ensures { λ r. ⌜ r ≡ sizeOf x ⌝ }
@@ -57,9 +57,9 @@ fn place(dims: u8, k: usize, z: u8, y: u8, x: u8, entries: &mut [i16; 128])
     entries[4 * k + 2] = entry(x);
 }
 
-// The references in rising order, so that planning has to turn them round.
-fn rising(dims: u8, window: &[u8]) -> Window
-    ensures { λ r. ⌜ r ≡ risingIn dims (now (window .entry)) ⌝ }
+// The references in the order in which they are written.
+fn listed(dims: u8, window: &[u8]) -> Window
+    ensures { λ r. ⌜ r ≡ listedIn dims (now (window .entry)) ⌝ }
 {
     let mut entries = [0i16; 128];
     let mut k = crate::windows::references(window);
@@ -69,7 +69,7 @@ fn rising(dims: u8, window: &[u8]) -> Window
         if at + 2 < window.len() {
             place(
                 dims,
-                k,
+                at / 4,
                 window[at],
                 window[at + 1],
                 window[at + 2],
@@ -89,7 +89,7 @@ pub fn request(l: Loops, window: &[u8], kernel: Kernel) -> Request
 {
     Request {
         grid: grid(l),
-        window: rising(l.dims, window),
+        window: listed(l.dims, window),
         kernel,
     }
 }

@@ -58,7 +58,7 @@ pub fn solid(centre: usize) -> Loops
     }
 }
 
-// A window is written as text: its references in falling order with a space between, each by its offset's entries for z, y and x as `+`, `0` or `-`.
+// A window is written as text: its references in the author's order with a space between, each by its offset's entries for z, y and x as `+`, `0` or `-`.
 
 // How many references a window has.
 pub fn references(window: &[u8]) -> usize

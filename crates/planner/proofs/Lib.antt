@@ -2,5 +2,6 @@ pub mod FallingLaws
 pub mod OrderLaws
 pub mod InsertLaws
 pub mod ArrangeLaws
+pub mod HeldLaws
 pub mod DistanceLaws
 pub mod PlanLaws

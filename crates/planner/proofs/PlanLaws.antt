@@ -6,13 +6,13 @@ use mathlib.Core.Path.{_≡_, refl, sym, _∙_, ap, ap₂}
 use native.Mathlib.Omega.{arith}
 use lib.IntN.{ℤ, pos}
 use lib.ListN.{length, getD, List·getD-eq-default}
-use Rattle.model.specs.Lists.{tabulate}
+use Rattle.model.specs.Lists.{tabulate, any}
 use Rattle.model.specs.Geometry.{distance}
 use Rattle.model.specs.Values.{sizesOf, offsetOf, offsetsOf, trimmedOf, chainOf}
 use Rattle.model.specs.Iterations.{distanceOf}
 use Rattle.model.specs.Answers.{firstOf, byVerdict}
-use Rattle.model.specs.Judging.{tooLarge, windowChecks, capacityChecks}
-use Rattle.model.specs.Planning.{falling, distances, trimmedRequest, judgeRequest, sorted, plannedChain, planOf}
+use Rattle.model.specs.Judging.{tooLarge, twice, badOrder, windowChecks, chainChecks}
+use Rattle.model.specs.Planning.{falling, authorsOrder, distances, trimmedRequest, judgeRequest, sorted, plannedChain, planOf}
 use Rattle.model.specs.declared.Grid.{Grid}
 use Rattle.model.specs.declared.Window.{Window}
 use Rattle.model.specs.declared.Kernel.{Kernel}
@@ -31,11 +31,13 @@ use Rattle.geometry.proofs.FillLaws.{filled-all}
 use Rattle.geometry.proofs.GridLaws.{few-dimensions, few-references}
 use Rattle.shape.specs.Shapes.{onGrid}
 use Rattle.judging.specs.Checks.{judgedWindow}
-use Rattle.planner.specs.Order.{entryIn, arrangedOf, Arranged, capacityArray}
+use Rattle.planner.specs.Order.{Ordered, HeldBy, entryIn, arrangedOf, Arranged, capacityArray}
 use Rattle.planner.specs.Plans.{requestOf, refusedPlan}
 use Rattle.model.proofs.SortLaws.{length-falling, falling-each, falling-no-other}
+use Rattle.model.proofs.TermLaws.{length-authors}
 use Rattle.planner.proofs.FallingLaws.{none-before-next}
-use Rattle.judging.proofs.JudgeLaws.{judged-refused, judged-capacities, accepted-grid, accepted-count, accepted-iterations}
+use Rattle.planner.proofs.HeldLaws.{order-inverse}
+use Rattle.judging.proofs.JudgeLaws.{judged-refused, judged-capacities, accepted-grid, accepted-count, accepted-distinct, accepted-iterations}
 
 -- A list is its entries.
 entries-of : {A : Type 0} (d : A) (xs : List A) → tabulate (length xs) (λ i. getD xs i d) ≡ xs
@@ -87,7 +89,7 @@ module _ (g : Grid) (w : Window) (k : Kernel) (e : judgedWindow g w k ≡ verdic
   planning = requestOf g w k
 
   abbrev planned-distances : List ℕ
-  planned-distances = distances (sorted (trimmedOf g w [] k))
+  planned-distances = distances (sorted (trimmedOf g w [] false [] k))
 
   pub is-arranged : Arranged g (arrangedOf (g .dims) w)
   unfolding arrangedOf
@@ -119,40 +121,54 @@ module _ (g : Grid) (w : Window) (k : Kernel) (e : judgedWindow g w k ≡ verdic
         count = length-tabulate (w .count - 1) _
 
     verdict-is : (b : Bool) → tooLarge (tabulate (w .count - 1) (numberAt xs)) ≡ b → cond b (verdict.Refused refusal.TooLarge) verdict.Accepted ≡ judgeRequest planning
-    unfolding judgeRequest trimmedRequest judgedWindow windowChecks capacityChecks firstOf
+    unfolding judgeRequest trimmedRequest judgedWindow windowChecks chainChecks badOrder any twice firstOf
     verdict-is b f = ap (λ (t : Bool). cond t (verdict.Refused refusal.TooLarge) verdict.Accepted) (sym f ∙ ap tooLarge counted)
         ∙ judged-capacities (trimmedRequest planning) e
 
-    chain-is : (ys : List ℕ) → Filled 4 0 (numberAt (g .sizes)) (g .dims) ys
-        → _≡_ {A = Chain} (record { grid = record { dims = g .dims; sizes = ys }; window = arrangedOf (g .dims) w; capacities = xs; kernel = k }) (plannedChain planning)
-    unfolding plannedChain sorted trimmedRequest chainOf arrangedOf sizesOf
-    chain-is ys r = λ i. record {
-      grid = record { dims = g .dims; sizes = sizes i };
+    -- What planning makes of the steps' results.
+    abbrev made : (sizes filters : List ℕ) → Chain
+    made ys fs = record {
+      grid = record { dims = g .dims; sizes = ys };
       window = arrangedOf (g .dims) w;
-      capacities = capacities-are i;
+      capacities = xs;
+      order = record { stood = true; filters = fs };
       kernel = k;
     }
-      where
-        sizes : ys ≡ tabulate 4 (λ d. getD (sizesOf g) d 0)
-        sizes =
-            filled-all 4 0 (numberAt (g .sizes)) (λ d. getD (sizesOf g) d 0) (g .dims) ys (λ d h. sym (getD-tabulate (g .dims) (numberAt (g .sizes)) d 0 h))
-            (λ d h. List·getD-eq-default (sizesOf g) 0 (rw length-tabulate h)) r
+
+    module _ (ys : List ℕ) (r : Filled 4 0 (numberAt (g .sizes)) (g .dims) ys) (order fs : List ℕ) (sorts : Ordered (g .dims) (w .count) (w .offsets) 0 order) (held : HeldBy (w .count) order fs) where
+      sizes-are : ys ≡ tabulate 4 (λ d. getD (sizesOf g) d 0)
+      unfolding sizesOf
+      sizes-are =
+          filled-all 4 0 (numberAt (g .sizes)) (λ d. getD (sizesOf g) d 0) (g .dims) ys (λ d h. sym (getD-tabulate (g .dims) (numberAt (g .sizes)) d 0 h))
+          (λ d h. List·getD-eq-default (sizesOf g) 0 (rw length-tabulate h)) r
+
+      filters-are : fs ≡ tabulate 32 (λ t. getD (authorsOrder (offsetsOf (g .dims) w)) t 0)
+      unfolding offsetsOf offsetOf
+      filters-are =
+          let os = offsetsOf (g .dims) w in
+          filled-all 32 0 (λ t. getD (authorsOrder os) t 0) (λ t. getD (authorsOrder os) t 0) (w .count) fs (λ t h. refl)
+          (λ t h. List·getD-eq-default (authorsOrder os) 0 (omega (arith, length-authors os, length-tabulate (w .count) (offsetOf (g .dims) w))))
+          (held (λ t. getD (authorsOrder os) t 0) (order-inverse (g .dims) (w .count) (w .offsets) order sorts (accepted-distinct g w k e)))
+
+      chain-is : made ys fs ≡ plannedChain planning
+      unfolding plannedChain sorted trimmedRequest chainOf arrangedOf
+      chain-is = λ i. record {
+        grid = record { dims = g .dims; sizes = sizes-are i };
+        window = arrangedOf (g .dims) w;
+        capacities = capacities-are i;
+        order = record { stood = true; filters = filters-are i };
+        kernel = k;
+      }
+
+      pub planned-from : tooLarge (tabulate (w .count - 1) (numberAt xs)) ≡ false → _≡_ {A = Planned} (record { verdict = verdict.Accepted; chain = made ys fs }) (planOf planning)
+      unfolding planOf
+      planned-from f =
+          ap (λ (c : Chain). record { verdict = verdict.Accepted; chain = c }) chain-is
+          ∙ ap (λ (v : Verdict). byVerdict v (record { verdict = verdict.Accepted; chain = plannedChain planning }) (λ x. refusedPlan x)) (verdict-is false f)
 
     pub refused-capacities : tooLarge (tabulate (w .count - 1) (numberAt xs)) ≡ true → refusedPlan refusal.TooLarge ≡ planOf planning
     unfolding planOf
     refused-capacities f = rw (← verdict-is true f)
-
-    pub planned-from : tooLarge (tabulate (w .count - 1) (numberAt xs)) ≡ false → (ys : List ℕ) → Filled 4 0 (numberAt (g .sizes)) (g .dims) ys
-        → _≡_ {A = Planned}
-        (record {
-          verdict = verdict.Accepted;
-          chain = record { grid = record { dims = g .dims; sizes = ys }; window = arrangedOf (g .dims) w; capacities = xs; kernel = k };
-        })
-        (planOf planning)
-    unfolding planOf
-    planned-from f ys r =
-        ap (λ (c : Chain). record { verdict = verdict.Accepted; chain = c }) (chain-is ys r)
-        ∙ ap (λ (v : Verdict). byVerdict v (record { verdict = verdict.Accepted; chain = plannedChain planning }) (λ x. refusedPlan x)) (verdict-is false f)
 
 -- A request that one of 3 to 8 turns back.
 pub refused-window : (r : Request) (x : Refusal) → judgedWindow (r .grid) (r .window) (r .kernel) ≡ verdict.Refused x → refusedPlan x ≡ planOf r

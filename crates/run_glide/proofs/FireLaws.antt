@@ -9,7 +9,7 @@ use native.Mathlib.Omega.{arith}
 use lib.ListN.{length, getD, take, drop, set, length-drop, take-append-drop, List·getD-append, List·getD-eq-default}
 use lib.Seq.{slice, sets, sets-eq, length-sets, getD-append-add, getD-drop, take-all, take-set-le, drop-set-add, drop-length, length-take-le}
 use Rattle.model.specs.Lists.{upTo}
-use Rattle.model.specs.Kernels.{wordsAt, terms, difference, scaled, blend, written, width}
+use Rattle.model.specs.Kernels.{wordsAt, difference, scaled, blend, written, width}
 use Rattle.model.specs.declared.Kernel.{Kernel}
 use Rattle.model.specs.declared.Kernel.the-variants as kernels
 use Rattle.model.proofs.KernelLaws.{words-of-all}
@@ -101,7 +101,7 @@ module _ (k : Kernel) (other : OneOf (1 ∷ 2 ∷ 3 ∷ []) (tagOf the-type k)) 
       go (kernels.Scaled f) e = refl
       go (kernels.Blend g) e = refl
 
-module _ (kernel : Kernel) (centre n o : ℕ) (bases tops : List ℕ) (word : ℕ) (puts gets store row out ts : List ℕ) (F : Fires kernel centre n o puts gets store row out ts) where
+module _ (kernel : Kernel) (centre n o : ℕ) (bases tops : List ℕ) (word : ℕ) (puts gets store row out ts : List ℕ) (F : Fires kernel centre n o puts gets store row out) where
   vs : List ℕ
   vs = passing (n - 1) word puts gets store
 
@@ -113,29 +113,29 @@ module _ (kernel : Kernel) (centre n o : ℕ) (bases tops : List ℕ) (word : �
   pub fires-raw : (puts′ gets′ store′ words words′ out′ : List ℕ) → kernel ≡ kernels.Raw
       → lentOf puts′ gets′ store′ words′ ≡ passOf (n - 1) bases tops word (lentOf puts gets store words) → words ≡ drop o out
       → out′ ≡ take o out ++ (words′ ++ drop (length out - o) (drop o out))
-      → lentOf puts′ gets′ store′ out′ ≡ firedOf kernel centre n o bases tops word (lentOf puts gets store out)
+      → lentOf puts′ gets′ store′ out′ ≡ firedOf kernel centre ts n o bases tops word (lentOf puts gets store out)
   unfolding vs written
   fires-raw puts′ gets′ store′ words words′ out′ r e ep eo =
       let none : drop (length out - o) (drop o out) ≡ [] = rw (length-drop o out) at (drop-length (drop o out)) in
       let ew : words′ ≡ sets (drop o out) 0 vs = ap (λ (l : Lent). l .words) e ∙ rw ep in
-      let e₁ : out′ ≡ sets out o (written kernel centre (terms kernel centre (upTo n)) (upTo n) vs) =
+      let e₁ : out′ ≡ sets out o (written kernel centre ts (upTo n) vs) =
       eo ∙ rw (none, append-nil, ew, sets-part out o 0 vs, add-zero, r, words-of-all vs n words-count) in
-      rw e₁ (ap (λ (l : Lent). lentOf (l .puts) (l .gets) (l .store) (sets out o (written kernel centre (terms kernel centre (upTo n)) (upTo n) vs))) e)
+      rw e₁ (ap (λ (l : Lent). lentOf (l .puts) (l .gets) (l .store) (sets out o (written kernel centre ts (upTo n) vs))) e)
 
   -- The other kernels: the words go to the row.
   pub fires-kernel : (puts′ gets′ store′ row′ out′ : List ℕ) → lentOf puts′ gets′ store′ row′ ≡ passOf (n - 1) bases tops word (lentOf puts gets store row)
       → OneOf (1 ∷ 2 ∷ 3 ∷ []) (tagOf the-type kernel) → out′ ≡ applied kernel centre ts ts row′ o out
-      → (lentOf puts′ gets′ store′ out′ ≡ firedOf kernel centre n o bases tops word (lentOf puts gets store out)) × Blank n row′
+      → (lentOf puts′ gets′ store′ out′ ≡ firedOf kernel centre ts n o bases tops word (lentOf puts gets store out)) × Blank n row′
   unfolding vs
   fires-kernel puts′ gets′ store′ row′ out′ e other eo =
       let er : row′ ≡ sets row 0 vs = ap (λ (l : Lent). l .words) e in
       let room : o + width kernel (length ts) ≤ length out = rw (one-width kernel other (length ts) n) (F .room) in
-      let w : written kernel centre ts ts row′ ≡ written kernel centre (terms kernel centre (upTo n)) (upTo n) vs =
+      let w : written kernel centre ts ts row′ ≡ written kernel centre ts (upTo n) vs =
       ap (λ (r : List ℕ). written kernel centre ts ts r) er ∙ written-same kernel centre ts ts (sets row 0 vs) vs (entry n row vs (F .blank) words-count (F .few))
-      ∙ no-writes kernel other centre ts ts (upTo n) vs ∙ ap (λ (ks : List ℕ). written kernel centre ks (upTo n) vs) (F .terms-are) in
-      let e₁ : out′ ≡ sets out o (written kernel centre (terms kernel centre (upTo n)) (upTo n) vs) =
+      ∙ no-writes kernel other centre ts ts (upTo n) vs in
+      let e₁ : out′ ≡ sets out o (written kernel centre ts (upTo n) vs) =
       eo ∙ applied-fits kernel centre ts ts row′ o out room ∙ ap (λ (ws : List ℕ). sets out o ws) w in
-      (rw e₁ (ap (λ (l : Lent). lentOf (l .puts) (l .gets) (l .store) (sets out o (written kernel centre (terms kernel centre (upTo n)) (upTo n) vs))) e), rw er (blank-on n row vs (F .blank) words-count (F .few)))
+      (rw e₁ (ap (λ (l : Lent). lentOf (l .puts) (l .gets) (l .store) (sets out o (written kernel centre ts (upTo n) vs))) e), rw er (blank-on n row vs (F .blank) words-count (F .few)))
 
   pub raw-room : kernel ≡ kernels.Raw → n ≤ length out - o
   unfolding width

@@ -1,5 +1,5 @@
 -- The loop over the clocks of aligned filters, as its function is handed it: one law for each way that a turn goes.
-use Prim.Native.Nat.{ℕ, zero, suc, _+_, _-_, _*_, _%_, _≤_, _<_, min}
+use Prim.Native.Nat.{ℕ, zero, suc, _+_, _-_, _*_, _%_, _≤_, _<_}
 use mathlib.Core.Bool.{Bool}
 use mathlib.Core.List.{List}
 use mathlib.Core.Path.{_≡_, refl, sym, _∙_, ap}
@@ -8,15 +8,9 @@ use native.Mathlib.Numerals.{add-one}
 use native.Mathlib.Omega.{arith}
 use lib.ListN.{length, getD, take}
 use lib.Seq.{sets, getD-take, length-take-le}
-use Rattle.model.specs.Lists.{upTo}
-use Rattle.model.specs.Kernels.{terms}
 use Rattle.model.specs.Values.{Trimmed}
 use Rattle.model.specs.Running.{Done, Spent, Starved, Full, layout, writtenBy}
 use Rattle.model.specs.declared.Kernel.{Kernel}
-use Rattle.model.proofs.ListLaws.{length-tabulate}
-use Rattle.kernel.specs.declared.Terms.{Terms}
-use Rattle.kernel.specs.Tables.{tableOf}
-use Rattle.kernel.proofs.TableLaws.{table-fits, table-terms}
 use Rattle.flow.proofs.Invariant.{first-wanted}
 use Rattle.loop_laws.specs.Passes.{of, ahead, Lent, lentOf, passing, passOf, heads}
 use Rattle.loop_laws.specs.Standings.{counting, stand, endedAt}
@@ -37,27 +31,18 @@ use Rattle.loop_laws.proofs.GlideLaws.{
 use Rattle.run_glide.proofs.RingLaws.{caps-at, puts-at, gets-at}
 use Rattle.run_glide.specs.Glides.{firedOf, passesOf, firesOf, Starts, Glides, calls, GoodPlaces, InRows, InRings, Sound}
 
--- The width of a firing, by another name.
-pub sized : (t : Trimmed) (kernel : Kernel) (n row iterations cells centre w w′ fired dims : ℕ) (at wants caps bases tops spans strides passed us gs store : List ℕ) → w ≡ w′
-    → Glides t kernel n row iterations cells centre w′ fired dims at wants caps bases tops spans strides passed us gs store
-    → Glides t kernel n row iterations cells centre w fired dims at wants caps bases tops spans strides passed us gs store
-sized t kernel n row iterations cells centre w w′ fired dims at wants caps bases tops spans strides passed us gs store e G = rw e G
+-- The terms and the width of a firing, by other names.
+pub named : (t : Trimmed) (kernel : Kernel) (ts ts′ : List ℕ) (n row iterations cells centre w w′ fired dims : ℕ) (at wants caps bases tops spans strides passed us gs store : List ℕ) → ts ≡ ts′ → w ≡ w′
+    → Glides t kernel ts′ n row iterations cells centre w′ fired dims at wants caps bases tops spans strides passed us gs store
+    → Glides t kernel ts n row iterations cells centre w fired dims at wants caps bases tops spans strides passed us gs store
+named t kernel ts ts′ n row iterations cells centre w w′ fired dims at wants caps bases tops spans strides passed us gs store e d G = rw (e, d) G
 
--- The filters that the kernel adds, from the table in which they were found.
-module _ (k : Kernel) (c n : ℕ) (h : n ≤ 32) (ts : Terms) (e : ts ≡ tableOf (terms k c (upTo (min n 32)))) where
-  pub terms-fit : ts .count ≤ length (ts .filters)
-  unfolding tableOf
-  terms-fit = omega (arith, table-fits k c n h ts e, ap (λ (x : Terms). length (x .filters)) e ∙ length-tabulate 32 _)
-
-  pub terms-found : take (ts .count) (ts .filters) ≡ terms k c (upTo n)
-  terms-found = table-terms k c n h ts e
-
-module _ (t : Trimmed) (kernel : Kernel) (n row iterations cells centre size fired₀ dims : ℕ) (at wants caps bases tops spans strides passed us₀ gs₀ store₀ : List ℕ)
+module _ (t : Trimmed) (kernel : Kernel) (ts : List ℕ) (n row iterations cells centre size fired₀ dims : ℕ) (at wants caps bases tops spans strides passed us₀ gs₀ store₀ : List ℕ)
     (lent out₀ : List ℕ) (allowance : ℕ) where
   abbrev pub Glide : (us gs store out : List ℕ) (fired wait left taken o : ℕ) → Type 0
   Glide = Gliding (layout t) (walked spans strides dims 0) (writtenBy t) size n cells iterations row at caps bases tops passed lent fired₀ allowance us₀ gs₀ store₀ out₀
 
-  module _ (G : Glides t kernel n row iterations cells centre size fired₀ dims at wants caps bases tops spans strides passed us₀ gs₀ store₀) where
+  module _ (G : Glides t kernel ts n row iterations cells centre size fired₀ dims at wants caps bases tops spans strides passed us₀ gs₀ store₀) where
     first-small : getD at 0 0 ≤ 1048576
     first-small =
         let zeroth : 0 < iterations = omega (arith, G .more) in
@@ -139,7 +124,7 @@ module _ (t : Trimmed) (kernel : Kernel) (n row iterations cells centre size fir
           (ap (λ (l : Lent). l .puts) e) (ap (λ (l : Lent). l .gets) e) (ap (λ (l : Lent). l .store) e) ex fl al tl wl
 
       -- A firing.
-      module _ (us′ gs′ store′ out′ : List ℕ) (x : ℕ) (e : lentOf us′ gs′ store′ out′ ≡ firedOf kernel centre n o bases tops x (lentOf us gs store out))
+      module _ (us′ gs′ store′ out′ : List ℕ) (x : ℕ) (e : lentOf us′ gs′ store′ out′ ≡ firedOf kernel centre ts n o bases tops x (lentOf us gs store out))
           (ex : x ≡ getD lent taken 0) (fl : fired < iterations) (al : taken ≡ allowance → ⊥) (tl : taken < length lent) (wl : wait ≤ 0) (r : size ≤ length out - o) where
         output : out′ ≡ sets out o (writtenBy t (passing (n - 1) x us gs store))
         output = ap (λ (l : Lent). l .words) e ∙ ap (λ (ws : List ℕ). sets out o ws) (sym (G .writes-are (passing (n - 1) x us gs store)))
@@ -192,14 +177,14 @@ module _ (t : Trimmed) (kernel : Kernel) (n row iterations cells centre size fir
       -- So many firings, of which none is the last of its row;
       module _ (fl : fired < iterations) (wl : wait ≤ 0) where
         glide-fires-on : (m : ℕ) → m < left → fired + m ≤ iterations → taken + m ≤ allowance → taken + m ≤ length lent → m * size ≤ length out - o
-            → let l = firesOf kernel centre n size bases tops lent taken o m (lentOf us gs store out) in Glide (l .puts) (l .gets) (l .store) (l .words) (fired + m) wait (left - m) (taken + m) (o + m * size)
+            → let l = firesOf kernel centre ts n size bases tops lent taken o m (lentOf us gs store out) in Glide (l .puts) (l .gets) (l .store) (l .words) (fired + m) wait (left - m) (taken + m) (o + m * size)
         unfolding firesOf
         glide-fires-on zero ll il al tl r = rw (add-zero fired, sub-zero left, add-zero taken, zero-mul size, add-zero o) s
         glide-fires-on (suc i) ll il al tl r =
-            let l = firesOf kernel centre n size bases tops lent taken o i (lentOf us gs store out) in
+            let l = firesOf kernel centre ts n size bases tops lent taken o i (lentOf us gs store out) in
             let w : suc i * size ≡ i * size + size = suc-mul i size in
             let h = glide-fires-on i (omega arith) (omega arith) (omega arith) (omega arith) (omega arith) in
-            let l′ = firedOf kernel centre n (o + i * size) bases tops (getD lent (taken + i) 0) l in
+            let l′ = firedOf kernel centre ts n (o + i * size) bases tops (getD lent (taken + i) 0) l in
             let g = glide-fires (l .puts) (l .gets) (l .store) (l .words) (fired + i) wait (left - i) (taken + i) (o + i * size) h (l′ .puts) (l′ .gets) (l′ .store) (l′ .words)
             (getD lent (taken + i) 0) refl refl (omega arith) (omega arith) (omega arith) wl (omega (arith, w, h .out-length, s .out-length, s .room)) (omega arith) in
             let e₁ : fired + suc i ≡ fired + i + 1 = omega arith in
@@ -212,14 +197,14 @@ module _ (t : Trimmed) (kernel : Kernel) (n row iterations cells centre size fir
         glide-fires-out : (full : Bool) (first position wait₀ left₀ : ℕ) → Starts full n row fired₀ first position wait₀ left₀ at wants caps passed
             → (m : ℕ) → 0 < m → m ≤ left → left - m ≤ 0 → fired + m ≤ iterations → taken + m ≤ allowance → taken + m ≤ length lent → m * size ≤ length out - o → (w′ : ℕ)
             → (fired + m < iterations → position + (taken + m) ≤ first + walked spans strides dims 0 (fired + m) → position + (taken + m) + w′ ≡ first + walked spans strides dims 0 (fired + m))
-            → let l = firesOf kernel centre n size bases tops lent taken o m (lentOf us gs store out) in Glide (l .puts) (l .gets) (l .store) (l .words) (fired + m) w′ row (taken + m) (o + m * size)
+            → let l = firesOf kernel centre ts n size bases tops lent taken o m (lentOf us gs store out) in Glide (l .puts) (l .gets) (l .store) (l .words) (fired + m) w′ row (taken + m) (o + m * size)
         unfolding firesOf
         glide-fires-out full first position wait₀ left₀ S zero ml ll le il al tl r w′ f = absurd (omega arith)
         glide-fires-out full first position wait₀ left₀ S (suc i) ml ll le il al tl r w′ f =
-            let l = firesOf kernel centre n size bases tops lent taken o i (lentOf us gs store out) in
+            let l = firesOf kernel centre ts n size bases tops lent taken o i (lentOf us gs store out) in
             let w : suc i * size ≡ i * size + size = suc-mul i size in
             let h = glide-fires-on i (omega arith) (omega arith) (omega arith) (omega arith) (omega arith) in
-            let l′ = firedOf kernel centre n (o + i * size) bases tops (getD lent (taken + i) 0) l in
+            let l′ = firedOf kernel centre ts n (o + i * size) bases tops (getD lent (taken + i) 0) l in
             let e₁ : fired + suc i ≡ fired + i + 1 = omega arith in
             let e₃ : taken + suc i ≡ taken + i + 1 = omega arith in
             let e₄ : o + suc i * size ≡ o + i * size + size = omega (arith, w) in
@@ -231,7 +216,7 @@ module _ (t : Trimmed) (kernel : Kernel) (n row iterations cells centre size fir
             rw (e₁, e₃, e₄) g
 
         -- The same, of what is left.
-        module _ (us′ gs′ store′ out′ : List ℕ) (m : ℕ) (e : lentOf us′ gs′ store′ out′ ≡ firesOf kernel centre n size bases tops lent taken o m (lentOf us gs store out))
+        module _ (us′ gs′ store′ out′ : List ℕ) (m : ℕ) (e : lentOf us′ gs′ store′ out′ ≡ firesOf kernel centre ts n size bases tops lent taken o m (lentOf us gs store out))
             (il : fired + m ≤ iterations) (al : taken + m ≤ allowance) (tl : taken + m ≤ length lent) (r : m * size ≤ length out - o) where
           pub glide-fired : 0 < left - m → Glide us′ gs′ store′ out′ (fired + m) wait (left - m) (taken + m) (o + m * size)
           glide-fired h =

@@ -11,7 +11,7 @@ use lib.Seq.{slice, length-sets, getD-set-same, getD-set-other}
 use mir.Syntax.{w64}
 use mir.Val.{Fits}
 use Rattle.model.specs.Lists.{upTo}
-use Rattle.model.specs.Kernels.{written, width, terms}
+use Rattle.model.specs.Kernels.{written, width}
 use Rattle.model.specs.declared.Kernel.{Kernel}
 use Rattle.model.specs.declared.Kernel.the-variants as kernels
 use Rattle.loop_laws.specs.Passes.{step, flow, stepped, Lent, lentOf, passing, passOf, InStore}
@@ -108,7 +108,7 @@ module _ (kernel : Kernel) (centre n size from o count : ℕ) (bases tops cells 
   pub record Fired (us gs store row out : List ℕ) (at i : ℕ) : Type 0 where
     pub most : i ≤ count
     pub at-is : at ≡ o + i * size
-    pub left : lentOf us gs store out ≡ firesOf kernel centre n size bases tops cells from o i (lentOf us₀ gs₀ store₀ out₀)
+    pub left : lentOf us gs store out ≡ firesOf kernel centre ts n size bases tops cells from o i (lentOf us₀ gs₀ store₀ out₀)
     pub rung : Rung n (length store₀) bases tops us gs store
     pub blank : Blank n row
     pub out-length : length out ≡ length out₀
@@ -122,31 +122,30 @@ module _ (kernel : Kernel) (centre n size from o count : ℕ) (bases tops cells 
     pub fired-room : i < count → at + size ≤ length out
     fired-room h = let m : suc i * size ≤ count * size = mul-le-mul-right size (omega arith) in omega (arith, m, suc-mul i size, s .at-is, s .out-length)
 
-    pub may-fire : i < count → ts ≡ terms kernel centre (upTo n) → size ≡ width kernel n → Fires kernel centre n at us gs store row out ts
-    may-fire h et e = record {
+    pub may-fire : i < count → size ≡ width kernel n → Fires kernel centre n at us gs store row out
+    may-fire h e = record {
       some = s .rung .rings .some;
       few = s .rung .rings .few;
       blank = s .blank;
-      terms-are = et;
       in-store = in-store n (length store₀) bases tops us gs store (s .rung);
       room = rw (← e) (fired-room h);
     }
 
     pub fired-more : (us′ gs′ store′ row′ out′ : List ℕ) (x : ℕ) → i < count → x ≡ getD cells (from + i) 0
-        → lentOf us′ gs′ store′ out′ ≡ firedOf kernel centre n at bases tops x (lentOf us gs store out) → Blank n row′ → Fired us′ gs′ store′ row′ out′ (at + size) (i + 1)
+        → lentOf us′ gs′ store′ out′ ≡ firedOf kernel centre ts n at bases tops x (lentOf us gs store out) → Blank n row′ → Fired us′ gs′ store′ row′ out′ (at + size) (i + 1)
     unfolding firesOf
     fired-more us′ gs′ store′ row′ out′ x h ex e b = record {
       most = omega arith;
       at-is = rw (add-one i, suc-mul i size) (omega (arith, s .at-is));
-      left = rw (add-one i) (e ∙ ap (λ (y : ℕ). firedOf kernel centre n at bases tops y (lentOf us gs store out)) ex
-          ∙ ap (λ (z : ℕ). firedOf kernel centre n z bases tops (getD cells (from + i) 0) (lentOf us gs store out)) (s .at-is)
-          ∙ ap (λ (l : Lent). firedOf kernel centre n (o + i * size) bases tops (getD cells (from + i) 0) l) (s .left));
+      left = rw (add-one i) (e ∙ ap (λ (y : ℕ). firedOf kernel centre ts n at bases tops y (lentOf us gs store out)) ex
+          ∙ ap (λ (z : ℕ). firedOf kernel centre ts n z bases tops (getD cells (from + i) 0) (lentOf us gs store out)) (s .at-is)
+          ∙ ap (λ (l : Lent). firedOf kernel centre ts n (o + i * size) bases tops (getD cells (from + i) 0) l) (s .left));
       rung = rung-on n (length store₀) bases tops us gs store (s .rung) us′ gs′ store′ x (ap (λ (l : Lent). l .puts) e) (ap (λ (l : Lent). l .gets) e) (ap (λ (l : Lent). l .store) e);
       blank = b;
-      out-length = ap (λ (l : Lent). length (l .words)) e ∙ length-sets out at (written kernel centre (terms kernel centre (upTo n)) (upTo n) (passing (n - 1) x us gs store)) ∙ s .out-length;
+      out-length = ap (λ (l : Lent). length (l .words)) e ∙ length-sets out at (written kernel centre ts (upTo n) (passing (n - 1) x us gs store)) ∙ s .out-length;
     }
 
-    pub fired-all : count ≤ i → lentOf us gs store out ≡ firesOf kernel centre n size bases tops cells from o count (lentOf us₀ gs₀ store₀ out₀)
+    pub fired-all : count ≤ i → lentOf us gs store out ≡ firesOf kernel centre ts n size bases tops cells from o count (lentOf us₀ gs₀ store₀ out₀)
     fired-all h = let e : count ≡ i = omega (arith, s .most) in rw e (s .left)
 
 -- ---- how many

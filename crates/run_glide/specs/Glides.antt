@@ -6,7 +6,7 @@ use mathlib.Core.Path.{_≡_}
 use lib.ListN.{length, getD, take}
 use lib.Seq.{slice, sets}
 use Rattle.model.specs.Lists.{upTo}
-use Rattle.model.specs.Kernels.{written, width, terms}
+use Rattle.model.specs.Kernels.{written, width}
 use Rattle.model.specs.Values.{Trimmed}
 use Rattle.model.specs.Running.{Ending, Done, Spent, Starved, Stalled, Full, Ended, layout, writtenBy, widthOf, call}
 use Rattle.model.specs.declared.Kernel.{Kernel}
@@ -27,22 +27,21 @@ pub record Blank (n : ℕ) (row : List ℕ) : Type 0 where
   pub there : length row ≡ 256
   pub rest : (k : ℕ) → n ≤ k → getD row k 0 ≡ 0
 
--- What a firing is handed: there is room for the words, and for what the kernel makes of them; `ts` are the filters that the kernel adds.
-pub record Fires (kernel : Kernel) (centre n o : ℕ) (puts gets store row out ts : List ℕ) : Type 0 where
+-- What a firing is handed: there is room for the words, and for what the kernel makes of them.
+pub record Fires (kernel : Kernel) (centre n o : ℕ) (puts gets store row out : List ℕ) : Type 0 where
   pub some : 0 < n
   pub few : n ≤ 32
   pub blank : Blank n row
-  pub terms-are : ts ≡ terms kernel centre (upTo n)
   pub in-store : InStore (n - 1) puts gets store
   pub room : o + width kernel n ≤ length out
 
--- What it leaves.
-abbrev pub firedOf : (kernel : Kernel) (centre n o : ℕ) (bases tops : List ℕ) (word : ℕ) → Lent → Lent
-firedOf kernel centre n o bases tops word l = record {
+-- What it leaves, where the kernel adds the words of filters `ts`.
+abbrev pub firedOf : (kernel : Kernel) (centre : ℕ) (ts : List ℕ) (n o : ℕ) (bases tops : List ℕ) (word : ℕ) → Lent → Lent
+firedOf kernel centre ts n o bases tops word l = record {
   puts = stepped bases tops (n - 1) (l .puts);
   gets = stepped bases tops (n - 1) (l .gets);
   store = flow word (slice 0 (n - 1) (l .gets)) (slice 0 (n - 1) (l .puts)) (l .store);
-  words = sets (l .words) o (written kernel centre (terms kernel centre (upTo n)) (upTo n) (passing (n - 1) word (l .puts) (l .gets) (l .store)));
+  words = sets (l .words) o (written kernel centre ts (upTo n) (passing (n - 1) word (l .puts) (l .gets) (l .store)));
 }
 
 -- A ring up to below `top` lies within `room` places, and both places in it.
@@ -67,17 +66,17 @@ passesOf n bases tops cells from zero l = l
 passesOf n bases tops cells from (suc i) l = passOf (n - 1) bases tops (getD cells (from + i) 0) (passesOf n bases tops cells from i l)
 
 -- and so many firings, each `size` places behind the one before.
-unfoldable pub firesOf : (kernel : Kernel) (centre n size : ℕ) (bases tops cells : List ℕ) (from o : ℕ) → ℕ → Lent → Lent
-firesOf kernel centre n size bases tops cells from o zero l = l
-firesOf kernel centre n size bases tops cells from o (suc i) l =
-    firedOf kernel centre n (o + i * size) bases tops (getD cells (from + i) 0) (firesOf kernel centre n size bases tops cells from o i l)
+unfoldable pub firesOf : (kernel : Kernel) (centre : ℕ) (ts : List ℕ) (n size : ℕ) (bases tops cells : List ℕ) (from o : ℕ) → ℕ → Lent → Lent
+firesOf kernel centre ts n size bases tops cells from o zero l = l
+firesOf kernel centre ts n size bases tops cells from o (suc i) l =
+    firedOf kernel centre ts n (o + i * size) bases tops (getD cells (from + i) 0) (firesOf kernel centre ts n size bases tops cells from o i l)
 
 -- The call that a loop makes the clocks of, from its beginning.
 abbrev pub calls : (t : Trimmed) (n fired : ℕ) (passed store lent out : List ℕ) (allowance : ℕ) → Ended
 calls t n fired passed store lent out allowance = call (layout t) (writtenBy t) (widthOf t) lent allowance (stand fired (take n passed) store out 0 0 0)
 
 -- What the caller hands in: tables, counters and ring places, rows, and what a firing writes.
-pub record Glides (t : Trimmed) (kernel : Kernel) (n row iterations cells centre size fired dims : ℕ) (at wants caps bases tops spans strides passed puts gets store : List ℕ)
+pub record Glides (t : Trimmed) (kernel : Kernel) (ts : List ℕ) (n row iterations cells centre size fired dims : ℕ) (at wants caps bases tops spans strides passed puts gets store : List ℕ)
     : Type 0 where
   pub tables : Tables (layout t) (walked spans strides dims 0) n cells iterations at caps bases
   pub stands : Stands (layout t) n fired caps bases passed store
@@ -87,7 +86,7 @@ pub record Glides (t : Trimmed) (kernel : Kernel) (n row iterations cells centre
   pub rings : Rings n at caps bases tops passed puts gets
   pub rows : Rows (walked spans strides dims 0) row iterations
   pub walks : Walks dims spans strides
-  pub writes-are : (ws : List ℕ) → writtenBy t ws ≡ written kernel centre (terms kernel centre (upTo n)) (upTo n) ws
+  pub writes-are : (ws : List ℕ) → writtenBy t ws ≡ written kernel centre ts (upTo n) ws
   pub size-is : widthOf t ≡ size
 
 -- What the loop is handed of tables and counters.

@@ -1,13 +1,14 @@
 // The clocks of a call whose filters are aligned: every filter moves in each (document 01, "One clock" and "Running").
 use model::Kernel;
+use model::Order;
 ghost use mathlib.Core.List.{List};
 ghost use mathlib.Core.Path.{_≡_};
 ghost use mathlib.Core.Bool.{true, false};
 ghost use Prim.Native.Nat.{ℕ, suc, _+_, _-_, _*_, _%_, _<_, _≤_};
 ghost use lib.ListN.{length, getD};
-ghost use Rattle.model.specs.Lists.{upTo};
 ghost use Rattle.model.specs.Kernels.{width as widthFor, terms as termsOf};
 ghost use Rattle.model.specs.Values.{Trimmed};
+ghost use Rattle.kernel.specs.Tables.{filtersFor};
 ghost use Rattle.loop_laws.specs.Passes.{step, lentOf, passOf, heads, FullFifos, InStore};
 ghost use Rattle.loop_laws.specs.Tables.{walked};
 ghost use Rattle.run_glide.specs.Glides.{Walks, Blank, Fires, firedOf, Rung, passesOf, firesOf, Starts, Glides, GlidesTo, GoodPlaces, InRings, InRows, Sound, Left};
@@ -110,9 +111,9 @@ fn fire(
     o: usize,
     terms: &[u8],
 )
-    requires { ⌜ Fires kernel centre n o (now puts) (heads full (now puts) (now gets)) (now store) (now row) (now out) (now terms) ⌝ }
+    requires { ⌜ Fires kernel centre n o (now puts) (heads full (now puts) (now gets)) (now store) (now row) (now out) ⌝ }
     ensures { λ _. ⌜ (lentOf (now (puts .exit)) (heads full (now (puts .exit)) (now (gets .exit))) (now (store .exit)) (now (out .exit))
-        ≡ firedOf kernel centre n o (now (bases .entry)) (now (tops .entry)) word (lentOf (now (puts .entry)) (heads full (now (puts .entry)) (now (gets .entry))) (now (store .entry)) (now (out .entry)))) × Blank n (now (row .exit)) ⌝ }
+        ≡ firedOf kernel centre (now (terms .entry)) n o (now (bases .entry)) (now (tops .entry)) word (lentOf (now (puts .entry)) (heads full (now (puts .entry)) (now (gets .entry))) (now (store .entry)) (now (out .entry)))) × Blank n (now (row .exit)) ⌝ }
 {
     if let Kernel::Raw = kernel {
         pass(full, n, bases, tops, puts, gets, store, word, &mut out[o..]);
@@ -171,9 +172,9 @@ fn fire_all(
     width: usize,
 )
     requires { ⌜ Rung n (length (now store)) (now bases) (now tops) (now puts) (heads full (now puts) (now gets)) (now store) × Blank n (now row) × (from + count ≤ length (now cells)) ⌝ }
-    requires { ⌜ (now terms ≡ termsOf kernel centre (upTo n)) × (width ≡ widthFor kernel n) × (o + count * width ≤ length (now out)) ⌝ }
+    requires { ⌜ (width ≡ widthFor kernel n) × (o + count * width ≤ length (now out)) ⌝ }
     ensures { λ _. ⌜ (lentOf (now (puts .exit)) (heads full (now (puts .exit)) (now (gets .exit))) (now (store .exit)) (now (out .exit))
-        ≡ firesOf kernel centre n width (now (bases .entry)) (now (tops .entry)) (now (cells .entry)) from o count (lentOf (now (puts .entry)) (heads full (now (puts .entry)) (now (gets .entry))) (now (store .entry)) (now (out .entry))))
+        ≡ firesOf kernel centre (now (terms .entry)) n width (now (bases .entry)) (now (tops .entry)) (now (cells .entry)) from o count (lentOf (now (puts .entry)) (heads full (now (puts .entry)) (now (gets .entry))) (now (store .entry)) (now (out .entry))))
         × Rung n (length (now (store .entry))) (now (bases .entry)) (now (tops .entry)) (now (puts .exit)) (heads full (now (puts .exit)) (now (gets .exit))) (now (store .exit))
         × Blank n (now (row .exit)) × (length (now (out .exit)) ≡ length (now (out .entry))) ⌝ }
 {
@@ -392,11 +393,11 @@ fn slide(
     terms: &[u8],
     width: usize,
 ) -> Slid
-    requires { ⌜ (now terms ≡ termsOf kernel centre (upTo n)) × (width ≡ widthFor kernel n) ⌝ }
+    requires { ⌜ width ≡ widthFor kernel n ⌝ }
     requires { ⌜ (length (now puts) ≡ 32) × (length (now gets) ≡ 32) × InRings n (length (now store)) (now bases) (now tops) (now puts) (now gets) ⌝ }
     requires { ⌜ InRows dims row iterations first (position + wait0) position (now spans) (now strides) × (0 < left0) ⌝ }
     ensures { λ r. ⌜ ((t : Trimmed) (size : ℕ) (at wants caps passed : List ℕ) → Starts full n row fired0 first position wait0 left0 at wants caps passed
-        → Glides t kernel n row iterations size centre width fired0 dims at wants caps (now (bases .entry)) (now (tops .entry)) (now (spans .entry)) (now (strides .entry)) passed (now (puts .entry)) (now (gets .entry)) (now (store .entry))
+        → Glides t kernel (now (terms .entry)) n row iterations size centre width fired0 dims at wants caps (now (bases .entry)) (now (tops .entry)) (now (spans .entry)) (now (strides .entry)) passed (now (puts .entry)) (now (gets .entry)) (now (store .entry))
         → GlidesTo r t n iterations size fired0 passed (now (store .entry)) (now (store .exit)) (now (out .entry)) (now (out .exit)) (now (cells .entry)) allowance) ⌝ }
 {
     let mut spare = [0u32; 256];
@@ -493,7 +494,7 @@ fn slide(
     }
 }
 
-// The clocks of a call whose filters are aligned. `full`: each FIFO is full. Tables that are out of place make no clock, and nothing changes.
+// The clocks of a call whose filters are aligned. `full`: each FIFO is full; `order`: the author's order. Tables that are out of place make no clock, and nothing changes.
 pub fn glide(
     full: bool,
     kernel: Kernel,
@@ -516,9 +517,10 @@ pub fn glide(
     cells: &[u32],
     out: &mut [u32],
     allowance: usize,
+    order: Order,
 ) -> Slid
     ensures { λ r. ⌜ ((t : Trimmed) (size : ℕ) (caps : List ℕ) → (full ≡ true → FullFifos n caps (now (passed .entry)))
-        → Glides t kernel n row iterations size centre (widthFor kernel n) fired0 dims (now (at .entry)) (now (wants .entry)) caps (now (bases .entry)) (now (tops .entry)) (now (spans .entry)) (now (strides .entry)) (now (passed .entry)) puts0 gets0 (now (store .entry))
+        → Glides t kernel (termsOf kernel centre (filtersFor n order)) n row iterations size centre (widthFor kernel n) fired0 dims (now (at .entry)) (now (wants .entry)) caps (now (bases .entry)) (now (tops .entry)) (now (spans .entry)) (now (strides .entry)) (now (passed .entry)) puts0 gets0 (now (store .entry))
         → GlidesTo r t n iterations size fired0 (now (passed .entry)) (now (store .entry)) (now (store .exit)) (now (out .entry)) (now (out .exit)) (now (cells .entry)) allowance)
         × ((Sound n dims row iterations (length (now (store .entry))) (now (at .entry)) (now (wants .entry)) (now (bases .entry)) (now (tops .entry)) (now (spans .entry)) (now (strides .entry)) (now (passed .entry)) puts0 gets0 → ⊥)
         → Left r (now (store .entry)) (now (store .exit)) (now (out .entry)) (now (out .exit))) ⌝ }
@@ -551,7 +553,7 @@ pub fn glide(
             firings: 0,
         };
     }
-    let found = kernel::terms_of(kernel, centre, n);
+    let found = kernel::terms_of(kernel, centre, n, order);
     let filters = found.filters;
     let count = found.count;
     slide(

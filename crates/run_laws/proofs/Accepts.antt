@@ -12,6 +12,7 @@ use Rattle.model.specs.Judging.{badDims, badSizes, badGrid, badCount, tooLarge,
 use Rattle.model.specs.declared.Chain.{Chain}
 use Rattle.model.specs.declared.Verdict.the-variants as verdict
 use Rattle.model.proofs.ListLaws.{length-tabulate, getD-tabulate}
+use Rattle.model.proofs.ChainLaws.{length-order}
 use Rattle.model.proofs.Tests.{neither}
 use Rattle.model.proofs.Iterations.{few-cells, some-iteration}
 use Rattle.model.proofs.CheckLaws.{then-checks, value-passes}
@@ -31,6 +32,7 @@ trimmed-proper c = record {
       let b = rw length-tabulate at h in
       rw (getD-tabulate (c .window .count) (offsetOf (c .grid .dims) (c .window)) k [] b) (length-tabulate (c .grid .dims) _ ∙ sym (length-tabulate (c .grid .dims) _));
   fifos = length-tabulate (c .window .count - 1) _;
+  terms = length-order (c .window .count) (c .order);
 }
 
 pub accepted : (t : Trimmed) → judged t ≡ verdict.Accepted → Accepted t
@@ -39,7 +41,7 @@ accepted t e =
     let p = value-passes t e in
     let count = neither (eqb (t .count) 0) (ltb 32 (t .count)) (p .window .count) in
     let one = eqb-false (t .count) 0 (count .0) in
-    record { checks = e; cells = few-cells t (neither (badDims (t .dims)) (badSizes (t .sizes)) (p .window .grid) .1); some = omega arith; few = ltb-false 32 (t .count) (count .1); iterates = some-iteration t (p .window .iterates); places = ltb-false 16384 (sum (t .capacities)) (p .capacities .places) }
+    record { checks = e; cells = few-cells t (neither (badDims (t .dims)) (badSizes (t .sizes)) (p .window .grid) .1); some = omega arith; few = ltb-false 32 (t .count) (count .1); iterates = some-iteration t (p .window .iterates); places = ltb-false 16384 (sum (t .capacities)) (p .chain .places) }
 
 pub accepted-chain : (c : Chain) → judgeChain c ≡ verdict.Accepted → Accepted (trimmed c)
 unfolding judgeChain

@@ -2,35 +2,43 @@
 use Prim.Native.Nat.{_≤_}
 use mathlib.Core.Bool.{false}
 use mathlib.Core.List.{[]}
-use mathlib.Core.Path.{_≡_, _∙_, ap}
+use mathlib.Core.Path.{_≡_, refl, _∙_, ap}
 use lib.Dec.{eqb, ltb}
 use borrow.Author.Tests.{ltb-false}
 use Rattle.model.specs.Vectors.{isZero}
-use Rattle.model.specs.Values.{Trimmed, trimmed, sizesOf}
+use Rattle.model.specs.Values.{Trimmed, trimmed, noOrder, sizesOf}
 use Rattle.model.specs.Answers.{firstOf}
-use Rattle.model.specs.Judging.{badDims, badSizes, badGrid, repeats, noIteration, windowChecks, valueChecks, judged, judgeChain}
-use Rattle.model.specs.Planning.{falling, distances, trimmedRequest, judgeRequest, sorted, plannedChain, planOf}
+use Rattle.model.specs.Judging.{badDims, badSizes, badGrid, repeats, noIteration, badOrder, windowChecks, chainChecks, valueChecks, judged, judgeChain}
+use Rattle.model.specs.Planning.{falling, authorsOrder, distances, trimmedRequest, judgeRequest, sorted, plannedChain, planOf}
 use Rattle.model.specs.declared.Request.{Request}
 use Rattle.model.specs.declared.Verdict.the-variants as verdict
 use Rattle.model.proofs.ListLaws.{length-tabulate}
 use Rattle.model.proofs.Distances.{same-count}
 use Rattle.model.proofs.SortLaws.{length-falling, falling-each, falling-no-other, sized-falling, any-falling, repeats-falling}
 use Rattle.model.proofs.ChainLaws.{trimmed-chain}
+use Rattle.model.proofs.TermLaws.{length-authors, authors-good}
 use Rattle.model.proofs.Tests.{neither}
 use Rattle.model.proofs.CheckLaws.{value-passes}
 use Rattle.model.specs.Sized.{Proper}
 use Rattle.run_laws.proofs.Accepts.{trimmed-proper, accepted}
 
--- A value with its offsets sorted is judged as before.
-same-checks : (t : Trimmed) → valueChecks (sorted t) ≡ valueChecks t
-unfolding sorted valueChecks windowChecks noIteration
-same-checks t =
+-- A value that no number turns back is judged as before with its offsets sorted: the order that is recorded is each filter number once.
+same-checks : (t : Trimmed) → Proper t → judged t ≡ verdict.Accepted → valueChecks (sorted t) ≡ valueChecks t
+unfolding judged sorted valueChecks windowChecks chainChecks noIteration
+same-checks t p e =
     let os = t .offsets in
-    rw (repeats-falling os, same-count (t .sizes) (falling os) os (falling-no-other os) (falling-each os), any-falling isZero os)
+    let q = value-passes t e in
+    let recorded : badOrder (t .count) (authorsOrder os) ≡ false = rw (p .references) at (authors-good os (q .window .distinct)) in
+    rw (repeats-falling os, same-count (t .sizes) (falling os) os (falling-no-other os) (falling-each os), any-falling isZero os, recorded, q .chain .once)
 
 pub sorted-proper : (t : Trimmed) → Proper t → Proper (sorted t)
 unfolding sorted
-sorted-proper t p = record { references = length-falling (t .offsets) ∙ p .references; entries = sized-falling (t .sizes) (t .offsets) (p .entries); fifos = p .fifos }
+sorted-proper t p = record {
+  references = length-falling (t .offsets) ∙ p .references;
+  entries = sized-falling (t .sizes) (t .offsets) (p .entries);
+  fifos = p .fifos;
+  terms = length-authors (t .offsets) ∙ p .references;
+}
 
 -- What 3 and 5 say of a value that no number turns back.
 few-dims : (t : Trimmed) → judged t ≡ verdict.Accepted → t .dims ≤ 4
@@ -46,11 +54,12 @@ no-repeats t e = value-passes t e .window .distinct
 pub request-proper : (r : Request) → Proper (trimmedRequest r)
 unfolding trimmedRequest trimmed sorted distances
 request-proper r =
-    let p = trimmed-proper (record { grid = r .grid; window = r .window; capacities = []; kernel = r .kernel }) in
+    let p = trimmed-proper (record { grid = r .grid; window = r .window; capacities = []; order = noOrder; kernel = r .kernel }) in
     record {
       references = p .references;
       entries = p .entries;
       fifos = length-tabulate _ _;
+      terms = refl;
     }
 
 module _ (r : Request) (ok : judgeRequest r ≡ verdict.Accepted) where
@@ -59,12 +68,12 @@ module _ (r : Request) (ok : judgeRequest r ≡ verdict.Accepted) where
   unfolding judgeRequest plannedChain trimmedRequest sorted sizesOf
   planned-lists =
       let p = sorted-proper (trimmedRequest r) (request-proper r) in
-      trimmed-chain (sorted (trimmedRequest r)) (length-tabulate (r .grid .dims) _) (p .references) (p .entries) (p .fifos)
+      trimmed-chain (sorted (trimmedRequest r)) (length-tabulate (r .grid .dims) _) (p .references) (p .entries) (p .fifos) (p .terms)
       (few-dims (trimmedRequest r) ok) (accepted (trimmedRequest r) ok .few)
 
   pub planned-judged : judged (sorted (trimmedRequest r)) ≡ verdict.Accepted
   unfolding judged judgeRequest
-  planned-judged = ap firstOf (same-checks (trimmedRequest r)) ∙ ok
+  planned-judged = ap firstOf (same-checks (trimmedRequest r) (request-proper r) ok) ∙ ok
 
   pub plan-accepted : judgeChain (planOf r .chain) ≡ verdict.Accepted
   unfolding planOf judgeChain

@@ -9,14 +9,17 @@ use lib.ListN.{length, getD, take, drop}
 use lib.Seq.{getD-take, length-take-le}
 use mir.Syntax.{w32, w64}
 use mir.Val.{Fits}
-use Rattle.model.specs.Kernels.{width}
+use Rattle.model.specs.Lists.{upTo}
+use Rattle.model.specs.Kernels.{terms, written, width}
 use Rattle.model.specs.Values.{trimmed}
 use Rattle.model.specs.Clock.{Layout}
-use Rattle.model.specs.Running.{Ending, Done, Spent, Starved, Stalled, Ended, outcomeOf, layout, writtenBy, widthOf}
+use Rattle.model.specs.Running.{Ending, Done, Spent, Starved, Stalled, Ended, outcomeOf, layout, filtersOf, writtenBy, widthOf}
 use Rattle.model.specs.declared.Chain.{Chain}
 use Rattle.model.specs.declared.Counts.{Counts}
 use Rattle.model.specs.declared.Outcome.{Outcome}
 use Rattle.model.proofs.Iterations.{at-most-cells}
+use Rattle.kernel.specs.Tables.{filtersFor}
+use Rattle.kernel.proofs.TableLaws.{filters-are}
 use Rattle.flow.specs.Machine.{Holds, Invariant}
 use Rattle.run_laws.proofs.Accepts.{trimmed-proper}
 use Rattle.loop_laws.specs.Passes.{of, Aligned}
@@ -165,8 +168,8 @@ module _ (c : Chain) (row iterations cells centre : ℕ) (at caps bases tops spa
         caps-there k h = rw zero-add at (caps-at (of at) (of caps) 0 k (take n passed′) (omega (arith, long)) aligned-there)
 
         pub may-glide : length store′ ≡ length store
-            → Glides (trimmed c) (c .kernel) n row iterations cells centre (width (c .kernel) n) fired (c .grid .dims) at wants caps bases tops spans strides passed′ us gs store′
-        unfolding trimmed widthOf
+            → Glides (trimmed c) (c .kernel) (terms (c .kernel) centre (filtersFor n (c .order))) n row iterations cells centre (width (c .kernel) n) fired (c .grid .dims) at wants caps bases tops spans strides passed′ us gs store′
+        unfolding trimmed widthOf filtersOf
         may-glide l = record {
           tables = T;
           stands = record { there = F .there; within = λ k h. omega (arith, S .within k h); holds = F .holds };
@@ -183,7 +186,8 @@ module _ (c : Chain) (row iterations cells centre : ℕ) (at caps bases tops spa
           };
           rows = rows (trimmed c) (sizes-count c) (trimmed-proper c) row iterations cells centre at caps bases tops spans strides P;
           walks = walks (trimmed c) (sizes-count c) (trimmed-proper c) row iterations cells centre at caps bases tops spans strides P;
-          writes-are = writes-are (trimmed c) (sizes-count c) (trimmed-proper c) row iterations cells centre at caps bases tops spans strides P;
+          writes-are = λ ws. writes-are (trimmed c) (sizes-count c) (trimmed-proper c) row iterations cells centre at caps bases tops spans strides P ws
+              ∙ ap (λ (ks : List ℕ). written (c .kernel) centre (terms (c .kernel) centre ks) (upTo n) ws) (sym (filters-are n (c .order)));
           size-is = refl;
         }
 

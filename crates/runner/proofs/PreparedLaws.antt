@@ -12,7 +12,7 @@ use Rattle.model.specs.Kernels.{written, terms}
 use Rattle.model.specs.Values.{Trimmed, trimmed, sizesOf}
 use Rattle.model.specs.Iterations.{cellsOf, extentsOf}
 use Rattle.model.specs.Store.{firstPlace}
-use Rattle.model.specs.Running.{layout, termsOf, writesOf, writtenBy}
+use Rattle.model.specs.Running.{layout, filtersOf, termsOf, writesOf, writtenBy}
 use Rattle.model.specs.declared.Chain.{Chain}
 use Rattle.model.proofs.ListLaws.{length-tabulate}
 use Rattle.model.proofs.Iterations.{iterations-product, extents-count, reads-from-first, at-most-cells}
@@ -136,6 +136,6 @@ module _ (t : Trimmed) (sized : length (t .sizes) ≡ t .dims) (proper : Proper 
     holds = B .holds;
   }
 
-  pub writes-are : (ws : List ℕ) → writtenBy t ws ≡ written (t .kernel) centre (terms (t .kernel) centre (upTo (t .count))) (upTo (t .count)) ws
+  pub writes-are : (ws : List ℕ) → writtenBy t ws ≡ written (t .kernel) centre (terms (t .kernel) centre (filtersOf t)) (upTo (t .count)) ws
   unfolding writtenBy termsOf writesOf
   writes-are ws = rw (P .centre-is)

@@ -108,6 +108,7 @@ fn clocks(
     let n = chain.window.count as usize;
     let dims = chain.grid.dims as usize;
     let kernel = chain.kernel;
+    let order = chain.order;
     let allowed = allowance as usize;
     let mut puts = [0usize; 32];
     let mut gets = [0usize; 32];
@@ -176,6 +177,7 @@ fn clocks(
         &cells[taken..],
         out,
         allowed - made,
+        order,
     );
     let slid = g.clocks;
     let firings = g.firings;

@@ -1,14 +1,14 @@
 -- Laws of finding 3 to 6, the centre and the shape together.
 use Prim.Native.Nat.{ℕ, zero, suc, _+_, _-_, _≤_, _<_}
-use mathlib.Core.Bool.{Bool, true, false, and-eq-true-iff}
-use mathlib.Core.List.{List, [], _∷_}
-use mathlib.Core.Path.{_≡_, refl, sym, _∙_, ap, ap₂}
+use mathlib.Core.Bool.{Bool, true, false}
+use mathlib.Core.List.{List, []}
+use mathlib.Core.Path.{_≡_, refl, sym, _∙_, ap}
 use native.Mathlib.Decide.{ℕ-discrete, decLe, decLt}
 use native.Mathlib.Omega.{arith}
-use lib.IntN.{ℤ, pos, negsuc}
-use borrow.Author.Tests.{eqb-true, eq-eqb, ne-eqb}
+use lib.IntN.{ℤ}
+use borrow.Author.Tests.{eq-eqb, ne-eqb}
 use Rattle.model.specs.Lists.{tabulate, any}
-use Rattle.model.specs.Vectors.{same, plus, equal}
+use Rattle.model.specs.Vectors.{plus, equal}
 use Rattle.model.specs.Geometry.{position, iterationCount, iteration, reads}
 use Rattle.model.specs.Answers.{firstOf}
 use Rattle.model.specs.Values.{sizesOf, offsetOf, offsetsOf}
@@ -18,6 +18,7 @@ use Rattle.model.specs.declared.Refusal.the-variants as refusal
 use Rattle.model.specs.declared.Verdict.the-variants as verdict
 use Rattle.model.specs.declared.Window.{Window}
 use Rattle.model.proofs.ListLaws.{getD-tabulate}
+use Rattle.model.proofs.OrderLaws.{equal-is}
 use Rattle.geometry.specs.Parts.{part, numberAt, offsetAt, Falls}
 use Rattle.shape.specs.Shapes.{shapeFor, blankShape, shapeOf, unsurveyedOf, surveyOf}
 use Rattle.shape.specs.declared.Shape.{Shape}
@@ -55,23 +56,6 @@ module _ (f : ℕ → ℕ) where
       at : f (suc j) < f j → Dec (i ≡ j) → (i < j → f j < f i) → f (suc j) < f i
       at next (yes d) far = rw d next
       at next (no d) far = omega (arith, far (omega arith))
-
--- Equal vectors are one.
-same-is : (x y : ℤ) → same x y ≡ true → x ≡ y
-unfolding same
-same-is (pos a) (pos b) e = ap pos (eqb-true a b e)
-same-is (pos a) (negsuc b) e = absurd (let z : _≡_ {A = ℕ} 0 1 = cc in omega arith)
-same-is (negsuc a) (pos b) e = absurd (let z : _≡_ {A = ℕ} 0 1 = cc in omega arith)
-same-is (negsuc a) (negsuc b) e = ap negsuc (eqb-true a b e)
-
-equal-is : (xs ys : List ℤ) → equal xs ys ≡ true → xs ≡ ys
-unfolding equal
-equal-is [] [] e = refl
-equal-is [] (y ∷ ys) e = absurd (let z : _≡_ {A = ℕ} 0 1 = cc in omega arith)
-equal-is (x ∷ xs) [] e = absurd (let z : _≡_ {A = ℕ} 0 1 = cc in omega arith)
-equal-is (x ∷ xs) (y ∷ ys) e =
-    let both = and-eq-true-iff (same x y) (equal xs ys) .0 e in
-    ap₂ _∷_ (same-is x y (both .0)) (equal-is xs ys (both .1))
 
 -- Vectors with numbers of their own that fall.
 module _ (o : ℕ → List ℤ) (key : List ℤ → ℕ) (n : ℕ) (r : Falls (λ k. key (o k)) n) where

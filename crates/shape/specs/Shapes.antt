@@ -1,6 +1,6 @@
 -- What this crate's public functions answer, on any value: the model's definitions where 3 and 4 let the value pass, and a fixed answer elsewhere.
 use Prim.Native.Nat.{ℕ, zero, suc}
-use mathlib.Core.Bool.{Bool, not, cond, _&&_}
+use mathlib.Core.Bool.{Bool, false, not, cond, _&&_}
 use mathlib.Core.List.{List, [], _∷_}
 use lib.IntN.{ℤ}
 use lib.ListN.{getD}
@@ -53,9 +53,9 @@ shapeOf g w =
     let whole = shapeFor sizes offsets in
     cond (sound g w && not (noIteration sizes offsets)) whole blankShape
 
--- A window on a grid as a value, with no capacities, and raw.
+-- A window on a grid as a value, with no capacities and no order, and raw.
 abbrev pub onGrid : Grid → Window → Trimmed
-onGrid g w = trimmedOf g w [] kernel.Raw
+onGrid g w = trimmedOf g w [] false [] kernel.Raw
 
 abbrev pub unsurveyedOf : Refusal → Survey
 unsurveyedOf x = record { verdict = verdict.Refused x; centre = 0; shape = blankShape }

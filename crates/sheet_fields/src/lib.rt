@@ -2,11 +2,12 @@
 use model::Factors;
 use model::KEPT;
 use model::Kernel;
+use values::lesser;
 ghost use mathlib.Core.Path.{_≡_};
 ghost use Prim.Native.Nat.{_+_, _*_};
 ghost use lib.Ieee.{ofBits, toBits, binary32};
 ghost use Rattle.model.specs.Numbers.{wordAt, signed, pattern};
-ghost use Rattle.model.specs.Reading.{sizesIn, entriesIn, kernelIn};
+ghost use Rattle.model.specs.Reading.{sizesIn, entriesIn, filtersIn, kernelIn};
 
 // Four bytes, most significant first.
 fn word(a: u8, b: u8, c: u8, d: u8) -> u32
@@ -72,6 +73,20 @@ pub fn word_in(x: [u8; KEPT]) -> u32
     ensures { λ r. ⌜ r ≡ wordAt x 1 ⌝ }
 {
     word(x[1], x[2], x[3], x[4])
+}
+
+// The filter numbers of n terms on an `06` line, 0 past the last.
+pub fn filters_in(x: [u8; KEPT], n: u8) -> [u8; 32]
+    ensures { λ r. ⌜ r ≡ filtersIn n x ⌝ }
+{
+    let terms = lesser(n as usize, 32);
+    let mut filters = [0u8; 32];
+    let mut t: usize = 0;
+    while t < terms {
+        filters[t] = x[1 + t];
+        t += 1;
+    }
+    filters
 }
 
 // The kernel on an `04` line.

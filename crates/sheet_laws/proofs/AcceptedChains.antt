@@ -7,8 +7,8 @@ use lib.Dec.{eqb, ltb}
 use borrow.Author.Tests.{eqb-false, ltb-false}
 use Rattle.model.specs.declared.Chain.{Chain}
 use Rattle.model.specs.declared.Verdict.the-variants as verdict
-use Rattle.model.specs.Values.{sizesOf, trimmed}
-use Rattle.model.specs.Judging.{badDims, badSizes, badGrid, badCount, badFactor, judged, judgeChain}
+use Rattle.model.specs.Values.{sizesOf, orderOf, trimmed}
+use Rattle.model.specs.Judging.{badDims, badSizes, badGrid, badCount, badFactor, badOrder, judged, judgeChain}
 use Rattle.model.proofs.CheckLaws.{value-passes}
 use Rattle.sheet_laws.proofs.Cases.{or-false}
 use Rattle.sheet_laws.proofs.AcceptedLines.{dims-in-order}
@@ -20,6 +20,7 @@ pub record Accepted (c : Chain) : Type 0 where
   pub some : 0 < c .window .count
   pub few : c .window .count ≤ 32
   pub factors : badFactor (c .kernel) ≡ false
+  pub once : badOrder (c .window .count) (orderOf (c .window .count) (c .order)) ≡ false
 
 pub accepted-chain : (c : Chain) → judgeChain c ≡ verdict.Accepted → Accepted c
 unfolding judgeChain judged trimmed badGrid badCount
@@ -35,4 +36,5 @@ accepted-chain c h =
       some = omega (arith, eqb-false (c .window .count) 0 (n .0));
       few = ltb-false 32 (c .window .count) (n .1);
       factors = p .kernel .factors;
+      once = p .chain .once;
     }

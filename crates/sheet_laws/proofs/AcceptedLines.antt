@@ -21,7 +21,7 @@ use Rattle.model.specs.Numbers.{byteAt}
 use Rattle.model.specs.NamedWindows.{badName}
 use Rattle.model.specs.Reading.{kindOf, secondOf, badKernel, badForm, malformed, badLength, sizesIn, lineChecks, lineVerdict}
 use Rattle.model.specs.Reading.{nextInRequest, nextInChain, miscounted, among, misplaced, closes, complete}
-use Rattle.model.specs.Reading.{taken, withGrid, withOffset, withName, withCapacity, withKernel}
+use Rattle.model.specs.Reading.{taken, withGrid, withOffset, withName, withCapacity, withOrder, withKernel}
 use Rattle.sheet_laws.proofs.Cases.{by-eq, never, of-kind, both, neither, or-false}
 
 -- A refusal is no acceptance.
@@ -34,10 +34,11 @@ unfolding firstOf
 clear true r cs h = absurd (refused-accepted h)
 clear false r cs h = (refl, h)
 
--- What stood last where the `04` line is in its place: an `02` line, in a chain sheet an `03` line, in a request sheet an `07` line.
+-- What stood last where the `04` line is in its place: an `02` line, in a chain sheet an `03` or `06` line, in a request sheet an `07` line.
 pub data BehindWindow (chainSheet : Bool) (last : Last) : Type 0 where
   offsets : last ≡ stood.Offset → BehindWindow chainSheet last
   capacities : last ≡ stood.Capacity → BehindWindow chainSheet last
+  terms : chainSheet ≡ true → last ≡ stood.Order → BehindWindow chainSheet last
   named : chainSheet ≡ false → last ≡ stood.Name → BehindWindow chainSheet last
 
 -- A line that is not turned back: one case for each kind, with what was checked of it.
@@ -46,6 +47,8 @@ pub data Admitted (chainSheet : Bool) (r : Reading) (l : Seen) : Type 0 where
       → badSizes (take (secondOf l) (sizesIn (l .first))) ≡ false → Admitted chainSheet r l
   offset : kindOf l ≡ 2 → (r .last ≡ stood.Grid) ⊎ (r .last ≡ stood.Offset) → l .len ≡ 1 + 2 * r .chain .grid .dims → r .chain .window .count < 32 → Admitted chainSheet r l
   capacity : kindOf l ≡ 3 → (r .last ≡ stood.Offset) ⊎ (r .last ≡ stood.Capacity) → chainSheet ≡ true → r .given + 1 < r .chain .window .count → l .len ≡ 5 → Admitted chainSheet r l
+  order : kindOf l ≡ 6 → (r .last ≡ stood.Offset) ⊎ (r .last ≡ stood.Capacity) → chainSheet ≡ true → r .chain .window .count ≡ r .given + 1
+      → l .len ≡ 1 + r .chain .window .count → Admitted chainSheet r l
   kernel : kindOf l ≡ 4 → BehindWindow chainSheet (r .last) → (chainSheet ≡ true → r .chain .window .count ≡ r .given + 1)
       → badKernel (l .len) (secondOf l) ≡ false → Admitted chainSheet r l
   name : kindOf l ≡ 7 → r .last ≡ stood.Grid → chainSheet ≡ false → l .len ≡ 2 → badName (secondOf l) (r .chain .grid .dims) ≡ false → Admitted chainSheet r l
@@ -68,12 +71,12 @@ module _ (sound : Bool) (len kind second : ℕ) (h : malformed sound len kind se
   unfolding badForm
   formed-name e = eqb-true len 2 (not-false _ (rw e at (well-formed .1)))
 
-  formed-cell : (kind ≡ 1 → ⊥) → (kind ≡ 2 → ⊥) → (kind ≡ 3 → ⊥) → (kind ≡ 4 → ⊥) → (kind ≡ 7 → ⊥) → kind ≡ 5
+  formed-cell : (kind ≡ 1 → ⊥) → (kind ≡ 2 → ⊥) → (kind ≡ 3 → ⊥) → (kind ≡ 4 → ⊥) → (kind ≡ 6 → ⊥) → (kind ≡ 7 → ⊥) → kind ≡ 5
   unfolding badForm
-  formed-cell a b c d f =
+  formed-cell a b c d f g =
       by-eq kind 5
       (λ e. e)
-      (λ e. absurd (never (simp (ne-eqb _ _ a, ne-eqb _ _ b, ne-eqb _ _ c, ne-eqb _ _ d, ne-eqb _ _ e, ne-eqb _ _ f) at (well-formed .1))))
+      (λ e. absurd (never (simp (ne-eqb _ _ a, ne-eqb _ _ b, ne-eqb _ _ c, ne-eqb _ _ d, ne-eqb _ _ e, ne-eqb _ _ f, ne-eqb _ _ g) at (well-formed .1))))
 
 -- What stood last, where a line of each kind is in its place.
 module _ (given count : ℕ) where
@@ -88,7 +91,9 @@ module _ (given count : ℕ) where
   placed-grid false stood.Name h = absurd (never h)
   placed-grid true stood.Capacity h = absurd (never h)
   placed-grid false stood.Capacity h = absurd (never h)
+  placed-grid true stood.Order h = absurd (never h)
   placed-grid true stood.Kernel h = absurd (never h)
+  placed-grid false stood.Order h = absurd (never h)
   placed-grid false stood.Kernel h = absurd (never h)
 
   placed-offset : (chainSheet : Bool) (last : Last) → misplaced chainSheet last given count 2 ≡ false → (last ≡ stood.Grid) ⊎ (last ≡ stood.Offset)
@@ -101,7 +106,9 @@ module _ (given count : ℕ) where
   placed-offset false stood.Name h = absurd (never h)
   placed-offset true stood.Capacity h = absurd (never h)
   placed-offset false stood.Capacity h = absurd (never h)
+  placed-offset true stood.Order h = absurd (never h)
   placed-offset true stood.Kernel h = absurd (never h)
+  placed-offset false stood.Order h = absurd (never h)
   placed-offset false stood.Kernel h = absurd (never h)
 
   placed-capacity : (chainSheet : Bool) (last : Last) → misplaced chainSheet last given count 3 ≡ false
@@ -112,12 +119,14 @@ module _ (given count : ℕ) where
   placed-capacity true stood.Offset h = (inl refl, refl, leb-false _ _ h)
   placed-capacity true stood.Name h = absurd (never h)
   placed-capacity true stood.Capacity h = (inr refl, refl, leb-false _ _ h)
+  placed-capacity true stood.Order h = absurd (never h)
   placed-capacity true stood.Kernel h = absurd (never h)
   placed-capacity false stood.Nothing h = absurd (never h)
   placed-capacity false stood.Grid h = absurd (never h)
   placed-capacity false stood.Offset h = absurd (never h)
   placed-capacity false stood.Name h = absurd (never h)
   placed-capacity false stood.Capacity h = absurd (never h)
+  placed-capacity false stood.Order h = absurd (never h)
   placed-capacity false stood.Kernel h = absurd (never h)
 
   placed-kernel : (chainSheet : Bool) (last : Last) → misplaced chainSheet last given count 4 ≡ false
@@ -128,13 +137,33 @@ module _ (given count : ℕ) where
   placed-kernel true stood.Offset h = (offsets refl, λ z. eqb-true _ _ (not-false _ h))
   placed-kernel true stood.Name h = absurd (never h)
   placed-kernel true stood.Capacity h = (capacities refl, λ z. eqb-true _ _ (not-false _ h))
+  placed-kernel true stood.Order h = (terms refl refl, λ z. eqb-true _ _ (not-false _ h))
   placed-kernel true stood.Kernel h = absurd (never h)
   placed-kernel false stood.Nothing h = absurd (never h)
   placed-kernel false stood.Grid h = absurd (never h)
   placed-kernel false stood.Offset h = (offsets refl, λ z. absurd (never (sym z)))
   placed-kernel false stood.Name h = (named refl refl, λ z. absurd (never (sym z)))
   placed-kernel false stood.Capacity h = absurd (never h)
+  placed-kernel false stood.Order h = absurd (never h)
   placed-kernel false stood.Kernel h = absurd (never h)
+
+  placed-order : (chainSheet : Bool) (last : Last) → misplaced chainSheet last given count 6 ≡ false
+      → ((last ≡ stood.Offset) ⊎ (last ≡ stood.Capacity)) × (chainSheet ≡ true) × (count ≡ given + 1)
+  unfolding misplaced among any nextInRequest nextInChain miscounted
+  placed-order true stood.Nothing h = absurd (never h)
+  placed-order true stood.Grid h = absurd (never h)
+  placed-order true stood.Offset h = (inl refl, refl, eqb-true _ _ (not-false _ h))
+  placed-order true stood.Name h = absurd (never h)
+  placed-order true stood.Capacity h = (inr refl, refl, eqb-true _ _ (not-false _ h))
+  placed-order true stood.Order h = absurd (never h)
+  placed-order true stood.Kernel h = absurd (never h)
+  placed-order false stood.Nothing h = absurd (never h)
+  placed-order false stood.Grid h = absurd (never h)
+  placed-order false stood.Offset h = absurd (never h)
+  placed-order false stood.Name h = absurd (never h)
+  placed-order false stood.Capacity h = absurd (never h)
+  placed-order false stood.Order h = absurd (never h)
+  placed-order false stood.Kernel h = absurd (never h)
 
   never-cell : (chainSheet : Bool) (last : Last) → misplaced chainSheet last given count 5 ≡ false → ⊥
   unfolding misplaced among any nextInRequest nextInChain
@@ -143,12 +172,14 @@ module _ (given count : ℕ) where
   never-cell true stood.Offset h = never h
   never-cell true stood.Name h = never h
   never-cell true stood.Capacity h = never h
+  never-cell true stood.Order h = never h
   never-cell true stood.Kernel h = never h
   never-cell false stood.Nothing h = never h
   never-cell false stood.Grid h = never h
   never-cell false stood.Offset h = never h
   never-cell false stood.Name h = never h
   never-cell false stood.Capacity h = never h
+  never-cell false stood.Order h = never h
   never-cell false stood.Kernel h = never h
 
   placed-name : (chainSheet : Bool) (last : Last) → misplaced chainSheet last given count 7 ≡ false → (last ≡ stood.Grid) × (chainSheet ≡ false)
@@ -158,12 +189,14 @@ module _ (given count : ℕ) where
   placed-name true stood.Offset h = absurd (never h)
   placed-name true stood.Name h = absurd (never h)
   placed-name true stood.Capacity h = absurd (never h)
+  placed-name true stood.Order h = absurd (never h)
   placed-name true stood.Kernel h = absurd (never h)
   placed-name false stood.Nothing h = absurd (never h)
   placed-name false stood.Grid h = (refl, refl)
   placed-name false stood.Offset h = absurd (never h)
   placed-name false stood.Name h = absurd (never h)
   placed-name false stood.Capacity h = absurd (never h)
+  placed-name false stood.Order h = absurd (never h)
   placed-name false stood.Kernel h = absurd (never h)
 
 pub dims-in-order : (dims : ℕ) → badDims dims ≡ false → (0 < dims) × (dims ≤ 4)
@@ -172,7 +205,7 @@ dims-in-order dims h =
     let n = or-false (eqb dims 0) (ltb 4 dims) h in
     (omega (arith, eqb-false dims 0 (n .0)), ltb-false 4 dims (n .1))
 
-module _ (len kind second dims : ℕ) (h : badLength len kind second dims ≡ false) where
+module _ (len kind second dims count : ℕ) (h : badLength len kind second dims count ≡ false) where
   grid-length : kind ≡ 1 → len ≡ 2 + 4 * second
   unfolding badLength
   grid-length e = eqb-true len _ (not-false _ (rw e at h))
@@ -181,43 +214,49 @@ module _ (len kind second dims : ℕ) (h : badLength len kind second dims ≡ fa
   unfolding badLength
   offset-length e = eqb-true len _ (not-false _ (rw e at h))
 
+  order-length : kind ≡ 6 → len ≡ 1 + count
+  unfolding badLength
+  order-length e = eqb-true len _ (not-false _ (rw e at h))
+
 pub admitted : (chainSheet : Bool) (r : Reading) (l : Seen) → lineVerdict chainSheet r l ≡ verdict.Accepted → (l .sound ≡ true) × Admitted chainSheet r l
 unfolding lineVerdict lineChecks
 admitted chainSheet r l h =
     let form = clear _ _ _ h in
-    let order = clear _ _ _ (form .1) in
-    let dims = clear _ _ _ (order .1) in
+    let place = clear _ _ _ (form .1) in
+    let dims = clear _ _ _ (place .1) in
     let size = clear _ _ _ (dims .1) in
     let sizes = clear _ _ _ (size .1) in
     let many = clear _ _ _ (sizes .1) in
     let names = clear _ _ _ (many .1) in
-    go (form .0) (order .0) (dims .0) (size .0) (sizes .0) (many .0) (names .0)
+    go (form .0) (place .0) (dims .0) (size .0) (sizes .0) (many .0) (names .0)
   where
     go : malformed (l .sound) (l .len) (kindOf l) (secondOf l) ≡ false
         → misplaced chainSheet (r .last) (r .given) (r .chain .window .count) (kindOf l) ≡ false
         → (eqb (kindOf l) 1 && badDims (secondOf l)) ≡ false
-        → badLength (l .len) (kindOf l) (secondOf l) (r .chain .grid .dims) ≡ false
+        → badLength (l .len) (kindOf l) (secondOf l) (r .chain .grid .dims) (r .chain .window .count) ≡ false
         → (eqb (kindOf l) 1 && badSizes (take (secondOf l) (sizesIn (l .first)))) ≡ false
         → (eqb (kindOf l) 2 && leb 32 (r .chain .window .count)) ≡ false
         → (eqb (kindOf l) 7 && badName (secondOf l) (r .chain .grid .dims)) ≡ false
         → (l .sound ≡ true) × Admitted chainSheet r l
-    go form order dims size sizes many names =
+    go form place dims size sizes many names =
         let given = r .given in
         let count = r .chain .window .count in (
           well-formed _ _ _ _ form .0,
           by-eq (kindOf l) 1
               (λ e. let d = dims-in-order _ (of-kind _ 1 _ dims e) in
-              grid e (placed-grid given count chainSheet (r .last) (rw e at order)) (d .0) (d .1) (grid-length _ _ _ _ size e) (of-kind _ 1 _ sizes e))
+              grid e (placed-grid given count chainSheet (r .last) (rw e at place)) (d .0) (d .1) (grid-length _ _ _ _ _ size e) (of-kind _ 1 _ sizes e))
               (λ n1. by-eq (kindOf l) 2
-              (λ e. offset e (placed-offset given count chainSheet (r .last) (rw e at order)) (offset-length _ _ _ _ size e) (leb-false _ _ (of-kind _ 2 _ many e)))
+              (λ e. offset e (placed-offset given count chainSheet (r .last) (rw e at place)) (offset-length _ _ _ _ _ size e) (leb-false _ _ (of-kind _ 2 _ many e)))
               (λ n2. by-eq (kindOf l) 3
-              (λ e. let p = placed-capacity given count chainSheet (r .last) (rw e at order) in
+              (λ e. let p = placed-capacity given count chainSheet (r .last) (rw e at place) in
               capacity e (p .0) (p .1) (p .2) (formed-capacity _ _ _ _ form e))
               (λ n3. by-eq (kindOf l) 4
-              (λ e. let p = placed-kernel given count chainSheet (r .last) (rw e at order) in kernel e (p .0) (p .1) (formed-kernel _ _ _ _ form e))
-              (λ n4. by-eq (kindOf l) 7
-              (λ e. let p = placed-name given count chainSheet (r .last) (rw e at order) in name e (p .0) (p .1) (formed-name _ _ _ _ form e) (of-kind _ 7 _ names e))
-              (λ n7. let e = formed-cell _ _ _ _ form n1 n2 n3 n4 n7 in absurd (never-cell given count chainSheet (r .last) (rw e at order))))))),
+              (λ e. let p = placed-kernel given count chainSheet (r .last) (rw e at place) in kernel e (p .0) (p .1) (formed-kernel _ _ _ _ form e))
+              (λ n4. by-eq (kindOf l) 6
+              (λ e. let p = placed-order given count chainSheet (r .last) (rw e at place) in order e (p .0) (p .1) (p .2) (order-length _ _ _ _ _ size e))
+              (λ n6. by-eq (kindOf l) 7
+              (λ e. let p = placed-name given count chainSheet (r .last) (rw e at place) in name e (p .0) (p .1) (formed-name _ _ _ _ form e) (of-kind _ 7 _ names e))
+              (λ n7. let e = formed-cell _ _ _ _ form n1 n2 n3 n4 n6 n7 in absurd (never-cell given count chainSheet (r .last) (rw e at place)))))))),
         )
 
 -- No line comes behind the `04` line.
@@ -228,8 +267,11 @@ not-complete chainSheet r l (offset e (inl last) len count) = ap closes last
 not-complete chainSheet r l (offset e (inr last) len count) = ap closes last
 not-complete chainSheet r l (capacity e (inl last) chain given len) = ap closes last
 not-complete chainSheet r l (capacity e (inr last) chain given len) = ap closes last
+not-complete chainSheet r l (order e (inl last) chain given len) = ap closes last
+not-complete chainSheet r l (order e (inr last) chain given len) = ap closes last
 not-complete chainSheet r l (kernel e (offsets last) given form) = ap closes last
 not-complete chainSheet r l (kernel e (capacities last) given form) = ap closes last
+not-complete chainSheet r l (kernel e (terms chain last) given form) = ap closes last
 not-complete chainSheet r l (kernel e (named request last) given form) = ap closes last
 not-complete chainSheet r l (name e last request len ok) = ap closes last
 
@@ -246,6 +288,10 @@ module _ (r : Reading) (x : List ℕ) where
   pub taken-capacity : byteAt x 0 ≡ 3 → taken r x ≡ withCapacity r x
   unfolding taken
   taken-capacity e = rw e
+
+  pub taken-order : byteAt x 0 ≡ 6 → taken r x ≡ withOrder r x
+  unfolding taken
+  taken-order e = rw e
 
   pub taken-kernel : byteAt x 0 ≡ 4 → taken r x ≡ withKernel r x
   unfolding taken

@@ -1,5 +1,6 @@
 -- How long frames are, and a chain sheet at most.
 use Prim.Native.Nat.{ℕ, zero, suc, _+_, _*_, _-_, _≤_}
+use mathlib.Core.Bool.{Bool, true, false, cond}
 use mathlib.Core.List.{List, [], _∷_, _++_, map, flatMap}
 use mathlib.Core.Path.{_≡_, refl, sym, _∙_, ap}
 use native.Mathlib.Nat.{zero-add}
@@ -9,13 +10,15 @@ use lib.ListN.{length, getD, length-append}
 use Rattle.model.specs.declared.Chain.{Chain}
 use Rattle.model.specs.declared.Kernel.{Kernel}
 use Rattle.model.specs.declared.Kernel.the-variants as kernel
+use Rattle.model.specs.declared.Order.{Order}
 use Rattle.model.specs.Lists.{tabulate}
-use Rattle.model.specs.Values.{sizesOf, entryOf, offsetOf, offsetsOf, capacityOf, capacitiesOf}
+use Rattle.model.specs.Values.{sizesOf, entryOf, offsetOf, offsetsOf, capacityOf, capacitiesOf, orderOf}
 use Rattle.model.specs.Lines.{lineFeed}
 use Rattle.model.specs.Frames.{digitsOf, framed}
 use Rattle.model.specs.Numbers.{halfBytes, wordBytes, pattern}
-use Rattle.model.specs.Writing.{gridLine, offsetLine, capacityLine, kernelLine, chainLines, sheetOf, longestSheet}
+use Rattle.model.specs.Writing.{gridLine, offsetLine, capacityLine, orderLines, kernelLine, chainLines, sheetOf, longestSheet}
 use Rattle.model.proofs.ListLaws.{length-tabulate}
+use Rattle.model.proofs.ChainLaws.{length-order}
 
 pub digits-length : (bs : List ℕ) → length (digitsOf bs) ≡ 2 * length bs
 unfolding digitsOf
@@ -68,6 +71,14 @@ capacities-length (suc n) f =
       capacities-length n (λ i. f (suc i)),
     )
 
+order-length : (n : ℕ) (o : Order) → n ≤ 32 → length (flatMap framed (orderLines n o)) ≤ 67
+unfolding flatMap orderLines
+order-length n o h = go (o .stood) (length-order n o)
+  where
+    go : (b : Bool) → length (orderOf n o) ≡ cond b n 0 → length (flatMap framed (cond b ((6 ∷ orderOf n o) ∷ []) [])) ≤ 67
+    go true e = omega (arith, length-append (framed (6 ∷ orderOf n o)) [], framed-length (6 ∷ orderOf n o))
+    go false e = omega arith
+
 kernel-length : (k : Kernel) → length (flatMap framed (kernelLine k ∷ [])) ≤ 21
 unfolding flatMap framed digitsOf kernelLine wordBytes
 kernel-length kernel.Raw = omega arith
@@ -75,22 +86,25 @@ kernel-length kernel.Difference = omega arith
 kernel-length (kernel.Scaled f) = omega arith
 kernel-length (kernel.Blend g) = omega arith
 
--- An `01` line of 37 characters, 32 `02` lines of 19, 31 `03` lines of 11 and an `04` line of 21.
+-- An `01` line of 37 characters, 32 `02` lines of 19, 31 `03` lines of 11, an `06` line of 67 and an `04` line of 21.
 pub sheet-length : (c : Chain) → c .grid .dims ≤ 4 → c .window .count ≤ 32 → length (sheetOf c) ≤ longestSheet
 unfolding sheetOf chainLines flatMap gridLine sizesOf offsetsOf offsetOf capacitiesOf
 sheet-length c dims count =
     let offsets = map offsetLine (offsetsOf (c .grid .dims) (c .window)) in
     let capacities = map capacityLine (capacitiesOf c) in
+    let order = orderLines (c .window .count) (c .order) in
     let kernel = kernelLine (c .kernel) ∷ [] in
     omega (
       arith,
-      length-append (framed (gridLine (c .grid))) (flatMap framed (offsets ++ (capacities ++ kernel))),
+      length-append (framed (gridLine (c .grid))) (flatMap framed (offsets ++ (capacities ++ (order ++ kernel)))),
       framed-length (gridLine (c .grid)),
       words-length (sizesOf (c .grid)),
       length-tabulate (c .grid .dims) (λ d. getD (c .grid .sizes) d 0),
-      flat-append framed offsets (capacities ++ kernel),
-      flat-append framed capacities kernel,
+      flat-append framed offsets (capacities ++ (order ++ kernel)),
+      flat-append framed capacities (order ++ kernel),
+      flat-append framed order kernel,
       offsets-length (c .window .count) (offsetOf (c .grid .dims) (c .window)) (λ k. omega (arith, length-tabulate (c .grid .dims) (λ d. entryOf (c .window) k d))),
       capacities-length (c .window .count - 1) (λ k. capacityOf c k),
+      order-length (c .window .count) (c .order) count,
       kernel-length (c .kernel),
     )

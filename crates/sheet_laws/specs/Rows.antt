@@ -1,12 +1,14 @@
--- A chain sheet by the numbers of its lines: line 0 is the grid's; behind it come sections of lines, the offsets', the capacities', and last the kernel's.
+-- A chain sheet by the numbers of its lines: line 0 is the grid's; behind it come sections of lines, the offsets', the capacities', the order's, and last the kernel's.
 use Prim.Native.Nat.{ℕ, zero, suc, _+_, _-_, _*_}
-use mathlib.Core.Bool.{cond}
+use mathlib.Core.Bool.{Bool, cond, _&&_}
 use mathlib.Core.List.{List, [], _∷_, _++_}
 use lib.Dec.{ltb}
 use lib.ListN.{length, take, getD}
 use Rattle.model.specs.declared.Chain.{Chain}
 use Rattle.model.specs.declared.Grid.{Grid}
+use Rattle.model.specs.declared.Order.{Order}
 use Rattle.model.specs.declared.Window.{Window}
+use Rattle.model.specs.Lists.{tabulate}
 use Rattle.model.specs.Values.{entryOf, capacityOf}
 use Rattle.model.specs.Frames.{framed}
 use Rattle.model.specs.Numbers.{halfBytes, wordBytes, pattern}
@@ -14,7 +16,7 @@ use Rattle.model.specs.Writing.{gridLine, capacityLine, kernelLine}
 use Rattle.sheet_laws.specs.declared.Part.{Part}
 use Rattle.sheet_laws.specs.declared.Part.the-variants as part
 
--- Rows: lines with all four sizes or entries, whatever the dimension count.
+-- Rows: lines with all four sizes or entries, whatever the dimension count, and with all 32 filter numbers, however many references there are.
 unfoldable pub gridRow : Grid → List ℕ
 gridRow g =
     1 ∷ g .dims
@@ -26,28 +28,38 @@ offsetRow w k =
     ∷ (halfBytes (pattern (entryOf w k 0))
     ++ (halfBytes (pattern (entryOf w k 1)) ++ (halfBytes (pattern (entryOf w k 2)) ++ halfBytes (pattern (entryOf w k 3)))))
 
+unfoldable pub orderRow : Order → List ℕ
+orderRow o = 6 ∷ tabulate 32 (λ t. getD (o .filters) t 0)
+
 unfoldable pub rowOf : Chain → Part → List ℕ
 rowOf c (part.Offset k) = offsetRow (c .window) k
 rowOf c (part.Capacity k) = capacityLine (capacityOf c k)
+rowOf c part.Order = orderRow (c .order)
 rowOf c part.Kernel = kernelLine (c .kernel)
 
 -- How much of its row a line is.
 unfoldable pub lenOf : Chain → Part → ℕ
 lenOf c (part.Offset k) = 1 + 2 * c .grid .dims
 lenOf c (part.Capacity k) = 5
+lenOf c part.Order = 1 + c .window .count
 lenOf c part.Kernel = length (kernelLine (c .kernel))
 
--- Line m behind the grid's, of a sheet with n offsets: the sections have n, n - 1 and 1 lines.
-unfoldable pub partAt : (n m : ℕ) → Part
-partAt n m =
+-- Line m behind the grid's, of a sheet with n offsets: the sections have n, n - 1, 1 (0 where no order stands) and 1 lines;
+unfoldable pub partAt : (ordered : Bool) (n m : ℕ) → Part
+partAt ordered n m =
     let behind = m - n in
     cond (ltb m n) (part.Offset m)
     (cond (ltb (behind + 1) n) (part.Capacity behind)
-    part.Kernel)
+    (cond (ltb behind n && ordered) part.Order
+    part.Kernel))
+
+-- and how many lines there are in all.
+unfoldable pub linesBehind : (ordered : Bool) (n : ℕ) → ℕ
+linesBehind ordered n = 2 * n + cond ordered 1 0
 
 unfoldable pub lineAt : Chain → ℕ → List ℕ
 lineAt c zero = gridLine (c .grid)
-lineAt c (suc m) = let p = partAt (c .window .count) m in take (lenOf c p) (rowOf c p)
+lineAt c (suc m) = let p = partAt (c .order .stood) (c .window .count) m in take (lenOf c p) (rowOf c p)
 
 -- So many lines from line m on.
 unfoldable pub linesFrom : Chain → ℕ → ℕ → List ℕ

@@ -4,5 +4,6 @@
 pub enum Part {
     Offset(usize),
     Capacity(usize),
+    Order,
     Kernel,
 }

@@ -4,6 +4,7 @@ use model::Grid;
 use model::KEPT;
 use model::Last;
 use model::LineStep;
+use model::Order;
 use model::Reading;
 use model::Refusal;
 use model::Verdict;
@@ -14,7 +15,7 @@ ghost use Prim.Native.Nat.{_+_, _<_};
 ghost use lib.ListN.{set};
 ghost use Rattle.model.specs.Frames.{shown};
 ghost use Rattle.model.specs.Lines.{linesOf};
-ghost use Rattle.model.specs.Reading.{withGrid, withOffset, withName, withCapacity, withKernel, taken, stepOf, start, complete, readLines};
+ghost use Rattle.model.specs.Reading.{withGrid, withOffset, withName, withCapacity, withOrder, withKernel, taken, stepOf, start, complete, readLines};
 ghost use Rattle.sheet_lines.specs.Room.{Room};
 
 // Before the first line.
@@ -98,6 +99,23 @@ fn with_capacity(r: Reading, x: [u8; KEPT]) -> Reading
     }
 }
 
+fn with_order(r: Reading, x: [u8; KEPT]) -> Reading
+    ensures { λ s. ⌜ s ≡ withOrder r x ⌝ }
+{
+    let c = r.chain;
+    let window = c.window;
+    let filters = sheet_fields::filters_in(x, window.count);
+    let order = Order {
+        stood: true,
+        filters,
+    };
+    Reading {
+        last: Last::Order,
+        given: r.given,
+        chain: values::set_order(c, order),
+    }
+}
+
 fn with_kernel(r: Reading, x: [u8; KEPT]) -> Reading
     ensures { λ s. ⌜ s ≡ withKernel r x ⌝ }
 {
@@ -123,6 +141,9 @@ fn take_line(r: Reading, x: [u8; KEPT]) -> Reading
     }
     if kind == 3 {
         return with_capacity(r, x);
+    }
+    if kind == 6 {
+        return with_order(r, x);
     }
     if kind == 7 {
         return with_name(r, x);
@@ -162,6 +183,7 @@ pub fn is_complete(r: Reading) -> bool
         Last::Offset => false,
         Last::Name => false,
         Last::Capacity => false,
+        Last::Order => false,
     }
 }
 

@@ -4,13 +4,16 @@ use mathlib.Core.Bool.{Bool, true, false, cond}
 use mathlib.Core.List.{List, [], _∷_, _++_}
 use mathlib.Core.Path.{_≡_, refl, sym, ap, _∙_}
 use native.Mathlib.Omega.{arith}
-use lib.Dec.{leb}
-use lib.ListN.{length, take, drop, replicate, length-append}
-use lib.Seq.{drop-cons, take-take, take-append-le, take-length, length-take-le}
+use lib.Dec.{leb, ltb}
+use lib.ListN.{length, take, drop, getD, replicate, length-append, List·getD-append, List·getD-eq-default}
+use lib.Seq.{drop-cons, take-take, take-append-le, take-length, length-take-le, getD-take, getD-append-add}
 use borrow.Author.Tests.{lt-ltb, le-ltb, le-leb, lt-leb, leb-true, ne-eqb}
+use Rattle.model.specs.Lists.{tabulate}
 use Rattle.model.specs.Lines.{lineFeed, linesOf, into}
 use Rattle.model.specs.Frames.{isDigit, valueOf, digitOf, whole, bytesOf, digitsOf, framed, kept, padded, Seen, seenOf}
 use Rattle.model.specs.Numbers.{byteAt, halfAt, wordAt, halfBytes, wordBytes}
+use Rattle.model.specs.Reading.{filtersIn}
+use Rattle.model.proofs.ListLaws.{length-tabulate, getD-tabulate, tabulate-back}
 use Rattle.sheet_laws.proofs.Cases.{by-lt, never, and-true}
 use Rattle.sheet_laws.proofs.FrameLaws.{value-small}
 
@@ -83,6 +86,10 @@ small-at none i = omega arith
 small-at (more h s) zero = h
 small-at (more h s) (suc i) = small-at s i
 
+pub small-each : (xs : List ℕ) → ((i : ℕ) → i < length xs → byteAt xs i < 256) → Small xs
+small-each [] h = none
+small-each (x ∷ xs) h = more (h 0 (omega arith)) (small-each xs (λ i l. h (suc i) (omega arith)))
+
 pub small-append : {xs ys : List ℕ} → Small xs → Small ys → Small (xs ++ ys)
 small-append none t = t
 small-append (more h s) t = more h (small-append s t)
@@ -148,6 +155,37 @@ length-padded bs = length-take-le kept (bs ++ replicate kept 0) (omega (arith, l
 pub take-padded : (n : ℕ) (bs : List ℕ) → n ≡ length bs → n ≤ kept → take n (padded bs) ≡ bs
 unfolding padded
 take-padded n bs e h = take-take n kept _ h ∙ take-append-le n bs _ (omega arith) ∙ ap (λ k. take k bs) e ∙ take-length bs
+
+-- Past its bytes a line has 0.
+pub blank-at : {A : Type 0} (n i : ℕ) (z : A) → getD (replicate n z) i z ≡ z
+blank-at zero i z = refl
+blank-at (suc n) zero z = refl
+blank-at (suc n) (suc i) z = blank-at n i z
+
+pub past : (xs : List ℕ) (i : ℕ) → length xs ≤ i → byteAt (xs ++ replicate kept 0) i ≡ 0
+past xs i h =
+    let e : i ≡ length xs + (i - length xs) = omega arith in
+    ap (λ j. byteAt (xs ++ replicate kept 0) j) e ∙ getD-append-add xs (replicate kept 0) (i - length xs) 0 ∙ blank-at kept (i - length xs) 0
+
+-- The filter numbers on a line are its bytes behind the first.
+filter-at : (b : ℕ) (xs : List ℕ) (t : ℕ) → t < 32 → byteAt (padded (b ∷ xs)) (1 + t) ≡ getD xs t 0
+unfolding padded
+filter-at b xs t h =
+    let e : 1 + t ≡ suc t = omega arith in
+    getD-take kept ((b ∷ xs) ++ replicate kept 0) (1 + t) 0 (omega arith)
+    ∙ ap (λ i. byteAt ((b ∷ xs) ++ replicate kept 0) i) e
+    ∙ by-lt t (length xs)
+    (λ l. List·getD-append xs (replicate kept 0) 0 t l)
+    (λ l. past xs t l ∙ sym (List·getD-eq-default xs 0 {n = t} l))
+
+pub filters-read : (n b : ℕ) (xs : List ℕ) → length xs ≡ n → filtersIn n (padded (b ∷ xs)) ≡ tabulate 32 (λ t. getD xs t 0)
+unfolding filtersIn
+filters-read n b xs e =
+    tabulate-back 0 (tabulate 32 (λ t. getD xs t 0)) 32 (λ t. cond (ltb t n) (byteAt (padded (b ∷ xs)) (1 + t)) 0) (length-tabulate 32 (λ t. getD xs t 0))
+    (λ t h. by-lt t n
+    (λ l. rw (lt-ltb t n l) (filter-at b xs t h))
+    (λ l. rw (le-ltb t n l) (sym (List·getD-eq-default xs 0 {n = t} (omega arith))))
+    ∙ sym (getD-tabulate 32 (λ t. getD xs t 0) t 0 h))
 
 -- Numbers of bytes, back to the bytes.
 pub half-back : (x : List ℕ) (i : ℕ) → byteAt x (i + 1) < 256 → halfBytes (halfAt x i) ≡ byteAt x i ∷ byteAt x (i + 1) ∷ []

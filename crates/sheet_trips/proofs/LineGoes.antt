@@ -38,7 +38,7 @@ module _ (chainSheet : Bool) where
       → malformed (l .sound) (l .len) (byteAt (l .first) 0) (byteAt (l .first) 1) ≡ false
       → misplaced chainSheet (r .last) (r .given) (r .chain .window .count) (byteAt (l .first) 0) ≡ false
       → (eqb (byteAt (l .first) 0) 1 && badDims (byteAt (l .first) 1)) ≡ false
-      → badLength (l .len) (byteAt (l .first) 0) (byteAt (l .first) 1) (r .chain .grid .dims) ≡ false
+      → badLength (l .len) (byteAt (l .first) 0) (byteAt (l .first) 1) (r .chain .grid .dims) (r .chain .window .count) ≡ false
       → (eqb (byteAt (l .first) 0) 1 && badSizes (take (byteAt (l .first) 1) (sizesIn (l .first)))) ≡ false
       → (eqb (byteAt (l .first) 0) 2 && leb 32 (r .chain .window .count)) ≡ false
       → (eqb (byteAt (l .first) 0) 7 && badName (byteAt (l .first) 1) (r .chain .grid .dims)) ≡ false

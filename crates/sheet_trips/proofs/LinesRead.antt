@@ -1,21 +1,23 @@
 -- What was read from a line is written as that line.
 use Prim.Native.Nat.{ℕ, _+_, _≤_, _<_}
-use mathlib.Core.Bool.{false}
+use mathlib.Core.Bool.{true, false}
 use mathlib.Core.List.{List, [], _∷_, _++_}
-use mathlib.Core.Path.{_≡_, sym, ap, _∙_}
+use mathlib.Core.Path.{_≡_, sym, ap, ap₂, _∙_}
 use native.Mathlib.Omega.{arith}
 use lib.Ieee.{ofBits, toBits, binary32}
-use lib.ListN.{length, take}
+use lib.ListN.{length, take, getD}
 use lib.Seq.{take-take}
 use borrow.Author.Tests.{eq-eqb, ne-eqb, lt-leb, eqb-true, not-false}
+use Rattle.model.specs.Values.{orderOf}
 use Rattle.model.specs.Judging.{notFinite, badFactor}
 use Rattle.model.specs.Frames.{kept, padded}
 use Rattle.model.specs.Numbers.{byteAt, halfAt, wordAt, halfBytes, wordBytes, signed, pattern}
-use Rattle.model.specs.Reading.{badKernel, sizesIn, kernelIn}
+use Rattle.model.specs.Reading.{badKernel, sizesIn, filtersIn, kernelIn}
 use Rattle.model.specs.Writing.{capacityLine, kernelLine}
+use Rattle.model.proofs.ListLaws.{getD-tabulate, tabulate-back}
 use Rattle.sheet_laws.specs.Rows.{gridRow}
 use Rattle.sheet_laws.proofs.Cases.{by-eq, never, or-false}
-use Rattle.sheet_trips.proofs.Bytes.{Small, small-at, small-padded, length-padded, take-padded, half-back, word-back, half-small, word-small, upto, by-entries}
+use Rattle.sheet_trips.proofs.Bytes.{Small, small-at, small-padded, length-padded, take-padded, filters-read, half-back, word-back, half-small, word-small, upto, by-entries}
 use Rattle.sheet_trips.proofs.Values.{pattern-signed, bits-back}
 
 firsts : (n : ℕ) (bs : List ℕ) → n ≤ kept → take n (padded bs) ≡ upto (padded bs) 0 n
@@ -24,6 +26,18 @@ firsts n bs h = by-entries n 0 (padded bs) (omega (arith, length-padded bs))
 -- A line is the front of its row.
 pub front : (n w : ℕ) (bs row : List ℕ) → row ≡ take w (padded bs) → n ≤ w → w ≤ kept → length bs ≡ n → take n row ≡ bs
 front n w bs row e h l q = ap (take n) e ∙ take-take n w (padded bs) h ∙ take-padded n bs (sym q) (omega arith)
+
+-- An order's line, of which the first byte is 6.
+order-bytes : (n : ℕ) (xs : List ℕ) (b : ℕ) → length xs ≡ n → n ≤ 32 → orderOf n (record { stood = true; filters = filtersIn n (padded (b ∷ xs)) }) ≡ xs
+unfolding orderOf
+order-bytes n xs b l h =
+    tabulate-back 0 xs n (λ t. getD (filtersIn n (padded (b ∷ xs))) t 0) l
+    (λ t q. ap (λ (fs : List ℕ). getD fs t 0) (filters-read n b xs l) ∙ getD-tabulate 32 (λ i. getD xs i 0) t 0 (omega arith))
+
+pub order-row : (n : ℕ) (bs : List ℕ) → byteAt (padded bs) 0 ≡ 6 → length bs ≡ 1 + n → n ≤ 32 → 6 ∷ orderOf n (record { stood = true; filters = filtersIn n (padded bs) }) ≡ bs
+unfolding padded
+order-row n [] e l h = absurd (omega arith)
+order-row n (b ∷ xs) e l h = ap₂ _∷_ (sym e) (order-bytes n xs b (omega arith) h)
 
 module _ (bs : List ℕ) (small : Small bs) where
   abbrev x : List ℕ

@@ -1,6 +1,6 @@
 -- What reading the sheet of a chain gives back: the same chain, with 0 past its counts.
 use Prim.Native.Nat.{ℕ, zero, suc, _+_, _-_, _*_, _/_, _%_, _≤_, _<_}
-use mathlib.Core.Bool.{cond}
+use mathlib.Core.Bool.{Bool, cond}
 use mathlib.Core.List.{List, []}
 use mathlib.Core.Path.{_≡_, refl, sym, ap, _∙_}
 use native.Mathlib.Omega.{arith}
@@ -11,14 +11,16 @@ use lib.Seq.{sets, length-sets, getD-set-same, getD-set-other, ext-getD}
 use borrow.Author.Tests.{lt-ltb, le-ltb}
 use Rattle.model.specs.declared.Chain.{Chain}
 use Rattle.model.specs.declared.Grid.{Grid}
+use Rattle.model.specs.declared.Order.{Order}
 use Rattle.model.specs.declared.Window.{Window}
 use Rattle.model.specs.Lists.{tabulate}
-use Rattle.model.specs.Values.{sizesOf, entryOf, offsetOf, offsetsOf, capacityOf, capacitiesOf, trimmed, chainOf}
+use Rattle.model.specs.Values.{sizesOf, entryOf, offsetOf, offsetsOf, capacityOf, capacitiesOf, orderOf, trimmed, chainOf}
 use Rattle.model.proofs.ListLaws.{length-tabulate, getD-tabulate}
 use Rattle.model.proofs.ChainLaws.{same-normal}
 use Rattle.sheet_laws.proofs.Cases.{by-lt}
 use Rattle.sheet_laws.proofs.AcceptedChains.{Accepted}
 use Rattle.sheet_laws.proofs.SheetRows.{tabulate-same}
+use Rattle.sheet_trips.proofs.Bytes.{blank-at}
 use Rattle.sheet_trips.proofs.Values.{sets-before, sets-at, sets-behind}
 
 -- 0 past a count.
@@ -39,11 +41,15 @@ unfoldable pub readCapacities : List ℕ → ℕ → List ℕ
 readCapacities a zero = replicate 31 0
 readCapacities a (suc k) = set (readCapacities a k) k (getD a k 0)
 
+unfoldable pub readOrder : ℕ → (stood : Bool) (filters : List ℕ) → Order
+readOrder n stood filters = record { stood = stood; filters = tabulate 32 (λ t. getD (cond stood (tabulate n (λ i. getD filters i 0)) []) t 0) }
+
 unfoldable pub readBack : Chain → Chain
 readBack c = record {
   grid = record { dims = c .grid .dims; sizes = readSizes (c .grid) };
   window = record { count = c .window .count; offsets = readOffsets (c .grid .dims) (c .window) (c .window .count) };
   capacities = readCapacities (c .capacities) (c .window .count - 1);
+  order = readOrder (c .window .count) (c .order .stood) (c .order .filters);
   kernel = c .kernel;
 }
 
@@ -94,11 +100,6 @@ table-at n i f d =
     (λ h. getD-tabulate n f i d h ∙ rw (lt-ltb _ _ h))
     (λ h. List·getD-eq-default (tabulate n f) d {n = i} (rw length-tabulate h) ∙ rw (le-ltb _ _ h))
 
-pub blank-at : {A : Type 0} (n i : ℕ) (z : A) → getD (replicate n z) i z ≡ z
-blank-at zero i z = refl
-blank-at (suc n) zero z = refl
-blank-at (suc n) (suc i) z = blank-at n i z
-
 normal-sizes : (g : Grid) → readSizes g ≡ tabulate 4 (λ d. getD (sizesOf g) d 0)
 unfolding readSizes sizesOf
 normal-sizes g = tabulate-same 4 _ _ (λ d. sym (table-at (g .dims) d (λ i. getD (g .sizes) i 0) 0))
@@ -143,7 +144,7 @@ normal-capacities c few =
     ∙ sym (getD-tabulate 31 _ k 0 (omega (arith, length-capacities a n))))
 
 pub normal-chain : (c : Chain) → Accepted c → readBack c ≡ chainOf (trimmed c)
-unfolding readBack chainOf trimmed
+unfolding readBack chainOf trimmed readOrder orderOf
 normal-chain c ok = rw (normal-sizes (c .grid), normal-offsets (c .grid .dims) (c .window) (ok .few), normal-capacities c (ok .few))
 
 -- And so the same chain.

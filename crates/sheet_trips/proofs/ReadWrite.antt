@@ -1,6 +1,6 @@
 -- An accepted chain sheet, read and written, gives back its bytes: after each line, what was read is written as the lines so far.
 use Prim.Native.Nat.{ℕ, zero, suc, _+_, _-_, _*_, _≤_, _<_}
-use mathlib.Core.Bool.{true, false, cond}
+use mathlib.Core.Bool.{Bool, true, false, cond}
 use mathlib.Core.List.{List, [], _∷_, _++_, append-assoc, append-nil}
 use mathlib.Core.Logic.{_⊎_, inl, inr}
 use mathlib.Core.Path.{_≡_, refl, sym, ap, subst, _∙_}
@@ -21,20 +21,20 @@ use Rattle.model.specs.Lines.{Line, lineFeed, linesOf, into}
 use Rattle.model.specs.Frames.{framed, whole, bytesOf, padded, seenOf}
 use Rattle.model.specs.Numbers.{byteAt, wordAt}
 use Rattle.model.specs.Reading.{badKernel, entriesIn, kernelIn, lineVerdict}
-use Rattle.model.specs.Reading.{taken, withGrid, withOffset, withCapacity, withKernel, stepOf, start, closes, complete, readLines}
+use Rattle.model.specs.Reading.{taken, withGrid, withOffset, withCapacity, withOrder, withKernel, stepOf, start, closes, complete, readLines}
 use Rattle.model.specs.Writing.{gridLine, capacityLine, sheetOf}
-use Rattle.sheet_laws.specs.Rows.{offsetRow, lineAt, linesFrom}
+use Rattle.sheet_laws.specs.Rows.{offsetRow, linesBehind, lineAt, linesFrom}
 use Rattle.sheet_laws.proofs.Cases.{by-eq, by-lt, never, and-true}
-use Rattle.sheet_laws.proofs.AcceptedLines.{BehindWindow, Admitted, admitted, refused-accepted, not-complete, taken-grid, taken-offset, taken-capacity, taken-kernel}
-use Rattle.sheet_laws.proofs.AcceptedLines.BehindWindow.{offsets, capacities, named}
-use Rattle.sheet_laws.proofs.AcceptedLines.Admitted.{grid, offset, capacity, kernel, name}
+use Rattle.sheet_laws.proofs.AcceptedLines.{BehindWindow, Admitted, admitted, refused-accepted, not-complete, taken-grid, taken-offset, taken-capacity, taken-order, taken-kernel}
+use Rattle.sheet_laws.proofs.AcceptedLines.BehindWindow.{offsets, capacities, terms, named}
+use Rattle.sheet_laws.proofs.AcceptedLines.Admitted.{grid, offset, capacity, order, kernel, name}
 use Rattle.sheet_laws.proofs.AcceptedChains.{accepted-chain}
-use Rattle.sheet_laws.proofs.SheetRows.{line-grid, line-offset, line-capacity, line-kernel, lines-join, sheet-rows}
+use Rattle.sheet_laws.proofs.SheetRows.{line-grid, line-offset, line-capacity, line-order, line-kernel, lines-join, sheet-rows}
 use Rattle.sheet_trips.specs.RoundTrips.{ReadWrite}
 use Rattle.sheet_trips.proofs.Bytes.{Small, small-bytes, digits-back, take-padded, lineSeen}
 use Rattle.sheet_trips.proofs.Values.{sets-before, sets-at}
 use Rattle.sheet_trips.proofs.AcceptedSheets.{accepted-sheet, accepted-read}
-use Rattle.sheet_trips.proofs.LinesRead.{front, grid-row, offset-row, capacity-row, kernel-row}
+use Rattle.sheet_trips.proofs.LinesRead.{front, grid-row, offset-row, capacity-row, order-row, kernel-row}
 
 -- The text of a sheet's lines is the sheet.
 unfoldable text : List Line → List ℕ
@@ -72,16 +72,17 @@ grown c d k bs h e =
     ∙ ap (λ t. linesFrom c 0 k ++ t) (ap (λ m. linesFrom d m 1) z ∙ one-line d k ∙ ap framed e)
 
 -- How many lines were read, and what was read, written.
-unfoldable linesTo : Last → (count given : ℕ) → ℕ
-linesTo stood.Nothing count given = 0
-linesTo stood.Grid count given = 1 + count + given
-linesTo stood.Offset count given = 1 + count + given
-linesTo stood.Name count given = 1 + count + given
-linesTo stood.Capacity count given = 1 + count + given
-linesTo stood.Kernel count given = 2 * count + 1
+unfoldable linesTo : Last → (ordered : Bool) (count given : ℕ) → ℕ
+linesTo stood.Nothing ordered count given = 0
+linesTo stood.Grid ordered count given = 1 + count + given
+linesTo stood.Offset ordered count given = 1 + count + given
+linesTo stood.Name ordered count given = 1 + count + given
+linesTo stood.Capacity ordered count given = 1 + count + given
+linesTo stood.Order ordered count given = 1 + count + given + 1
+linesTo stood.Kernel ordered count given = linesBehind ordered count + 1
 
 unfoldable linesRead : Reading → ℕ
-linesRead r = linesTo (r .last) (r .chain .window .count) (r .given)
+linesRead r = linesTo (r .last) (r .chain .order .stood) (r .chain .window .count) (r .given)
 
 unfoldable written : Reading → List ℕ
 written r = linesFrom (r .chain) 0 (linesRead r)
@@ -101,7 +102,18 @@ Counted stood.Grid count given = given ≡ 0
 Counted stood.Offset count given = given ≡ 0
 Counted stood.Name count given = given ≡ 0
 Counted stood.Capacity count given = Unit {0}
+Counted stood.Order count given = Unit {0}
 Counted stood.Kernel count given = 0 < count
+
+-- And whether an order stood.
+unfoldable Ordered : Last → Bool → Type 0
+Ordered stood.Nothing b = b ≡ false
+Ordered stood.Grid b = b ≡ false
+Ordered stood.Offset b = b ≡ false
+Ordered stood.Name b = b ≡ false
+Ordered stood.Capacity b = b ≡ false
+Ordered stood.Order b = b ≡ true
+Ordered stood.Kernel b = Unit {0}
 
 -- What a reading keeps.
 record Kept (r : Reading) : Type 0 where
@@ -110,6 +122,7 @@ record Kept (r : Reading) : Type 0 where
   dims : r .chain .grid .dims ≤ 4
   count : r .chain .window .count ≤ 32
   counted : Counted (r .last) (r .chain .window .count) (r .given)
+  ordered : Ordered (r .last) (r .chain .order .stood)
 
 -- Line j of a sheet that has been read so far: the grid's, an offset's, or a capacity's.
 by-place : {A : Type 0} (n j : ℕ) → (j ≡ 0 → A) → ((i : ℕ) → i < n → j ≡ 1 + i → A) → ((i : ℕ) → j ≡ 1 + n + i → A) → A
@@ -118,6 +131,12 @@ by-place n (suc j) g o c =
     by-lt j n
     (λ l. o j l (omega arith))
     (λ l. let e : suc j ≡ 1 + n + (j - n) = omega arith in c (j - n) e)
+
+-- A line behind the capacities' and before the kernel's is the order's.
+orders-place : (ordered : Bool) (n j : ℕ) → 2 * n ≤ j → j < linesBehind ordered n → (ordered ≡ true) × (j ≡ 2 * n)
+unfolding linesBehind
+orders-place true n j h l = (refl, omega arith)
+orders-place false n j h l = absurd (omega arith)
 
 same-grid : (c d : Chain) → c .grid ≡ d .grid → lineAt c 0 ≡ lineAt d 0
 unfolding lineAt
@@ -133,12 +152,15 @@ module _ (r : Reading) (keeps : Kept r) (bs : List ℕ) (small : Small bs) where
   abbrev n : ℕ
   n = r .chain .window .count
 
-  lines-at : (l : Last) → r .last ≡ l → linesRead r ≡ linesTo l n (r .given)
+  lines-at : (l : Last) → r .last ≡ l → linesRead r ≡ linesTo l (c .order .stood) n (r .given)
   unfolding linesRead
-  lines-at l e = ap (λ (k : Last). linesTo k n (r .given)) e
+  lines-at l e = ap (λ (k : Last). linesTo k (c .order .stood) n (r .given)) e
 
   counted-at : (l : Last) → r .last ≡ l → Counted l n (r .given)
   counted-at l e = subst (λ (k : Last). Counted k n (r .given)) e (keeps .counted)
+
+  ordered-at : (l : Last) → r .last ≡ l → Ordered l (c .order .stood)
+  ordered-at l e = subst (λ (k : Last). Ordered k (c .order .stood)) e (keeps .ordered)
 
   grid-adds : byteAt x 0 ≡ 1 → r .last ≡ stood.Nothing → byteAt x 1 ≤ 4 → length bs ≡ 2 + 4 * byteAt x 1 → Adds r (withGrid r x) bs
   unfolding withGrid linesRead linesTo Counted
@@ -154,15 +176,15 @@ module _ (r : Reading) (keeps : Kept r) (bs : List ℕ) (small : Small bs) where
   none-given (inl p) = counted-at stood.Grid p
   none-given (inr p) = counted-at stood.Offset p
 
+  no-order : (r .last ≡ stood.Grid) ⊎ (r .last ≡ stood.Offset) → c .order .stood ≡ false
+  unfolding Ordered
+  no-order (inl p) = ordered-at stood.Grid p
+  no-order (inr p) = ordered-at stood.Offset p
+
   behind-grid : (r .last ≡ stood.Grid) ⊎ (r .last ≡ stood.Offset) → linesRead r ≡ 1 + n + r .given
   unfolding linesTo
   behind-grid (inl p) = lines-at stood.Grid p
   behind-grid (inr p) = lines-at stood.Offset p
-
-  behind-window : BehindWindow true (r .last) → (r .last ≡ stood.Offset) ⊎ (r .last ≡ stood.Capacity)
-  behind-window (offsets p) = inl p
-  behind-window (capacities p) = inr p
-  behind-window (named request p) = absurd (never request)
 
   behind-offsets : (r .last ≡ stood.Offset) ⊎ (r .last ≡ stood.Capacity) → linesRead r ≡ 1 + n + r .given
   unfolding linesTo
@@ -217,20 +239,48 @@ module _ (r : Reading) (keeps : Kept r) (bs : List ℕ) (small : Small bs) where
       ∙ ap capacityLine (getD-set-same a v (wordAt x 1) 0 (omega (arith, keeps .capacities, keeps .count)))
       ∙ capacity-row bs small e ∙ take-padded 5 bs (sym len) (omega arith))
 
-  kernel-adds : byteAt x 0 ≡ 4 → (r .last ≡ stood.Offset) ⊎ (r .last ≡ stood.Capacity) → n ≡ r .given + 1 → badKernel (length bs) (byteAt x 1) ≡ false
-      → badFactor (kernelIn x) ≡ false → Adds r (withKernel r x) bs
-  unfolding withKernel linesRead linesTo
-  kernel-adds e p g ok finite =
-      let d = withKernel r x .chain in
+  -- Before the order's line none stood.
+  unordered : (r .last ≡ stood.Offset) ⊎ (r .last ≡ stood.Capacity) → c .order .stood ≡ false
+  unfolding Ordered
+  unordered (inl p) = ordered-at stood.Offset p
+  unordered (inr p) = ordered-at stood.Capacity p
+
+  order-adds : byteAt x 0 ≡ 6 → (r .last ≡ stood.Offset) ⊎ (r .last ≡ stood.Capacity) → n ≡ r .given + 1 → length bs ≡ 1 + n → Adds r (withOrder r x) bs
+  unfolding withOrder linesRead linesTo
+  order-adds e p g len =
+      let d = withOrder r x .chain in
       let v = r .given in
-      let q : 2 * n + 1 ≡ 1 + n + v + 1 = omega arith in
       let w : 1 + n + v ≡ 2 * n = omega arith in
-      adds r (withKernel r x) bs (1 + n + v) (behind-offsets p) q
+      adds r (withOrder r x) bs (1 + n + v) (behind-offsets p) refl
       (λ j l. by-place n j
       (λ z. rw z (same-grid d c refl))
       (λ i h z. rw z (line-offset d i h ∙ sym (line-offset c i h)))
       (λ i z. rw z (line-capacity d i (omega arith) ∙ sym (line-capacity c i (omega arith)))))
-      (ap (lineAt d) w ∙ line-kernel d (omega arith) ∙ kernel-row bs small e ok finite)
+      (ap (lineAt d) w ∙ line-order d refl (omega arith) (keeps .count) ∙ order-row n bs e len (keeps .count))
+
+  -- Behind as many lines as a sheet has before its kernel's.
+  before-kernel : BehindWindow true (r .last) → n ≡ r .given + 1 → linesRead r ≡ linesBehind (c .order .stood) n
+  unfolding linesTo linesBehind Ordered
+  before-kernel (offsets p) g = lines-at stood.Offset p ∙ rw (unordered (inl p)) (omega arith)
+  before-kernel (capacities p) g = lines-at stood.Capacity p ∙ rw (unordered (inr p)) (omega arith)
+  before-kernel (terms chain p) g = lines-at stood.Order p ∙ rw (ordered-at stood.Order p) (omega arith)
+  before-kernel (named request p) g = absurd (never request)
+
+  kernel-adds : byteAt x 0 ≡ 4 → BehindWindow true (r .last) → n ≡ r .given + 1 → badKernel (length bs) (byteAt x 1) ≡ false
+      → badFactor (kernelIn x) ≡ false → Adds r (withKernel r x) bs
+  unfolding withKernel linesRead linesTo
+  kernel-adds e p g ok finite =
+      let d = withKernel r x .chain in
+      let some : 0 < n = omega arith in
+      adds r (withKernel r x) bs (linesBehind (c .order .stood) n) (before-kernel p g) refl
+      (λ j l. by-place n j
+      (λ z. rw z (same-grid d c refl))
+      (λ i h z. rw z (line-offset d i h ∙ sym (line-offset c i h)))
+      (λ i z. by-lt (i + 1) n
+      (λ h. rw z (line-capacity d i h ∙ sym (line-capacity c i h)))
+      (λ h. let (is, at) = orders-place (c .order .stood) n j (omega arith) l in
+      rw at (line-order d is some (keeps .count) ∙ sym (line-order c is some (keeps .count))))))
+      (line-kernel d some ∙ kernel-row bs small e ok finite)
 
 -- Nothing is accepted behind the kernel's line.
 ended : (r : Reading) (ls : List Line) → complete r ≡ true → readLines true r ls .verdict ≡ verdict.Accepted → readLines true r ls .reading ≡ r
@@ -257,14 +307,21 @@ by-verdict (verdict.Refused x) a f = f x refl
 -- Any line that is not turned back.
 step-adds : (r : Reading) → Kept r → (bs : List ℕ) → Small bs → lineVerdict true r (lineSeen bs) ≡ verdict.Accepted → Finite (taken r (padded bs))
     → Adds r (taken r (padded bs)) bs × Kept (taken r (padded bs))
-unfolding withGrid withOffset withCapacity withKernel Finite Counted complete closes
+unfolding withGrid withOffset withCapacity withOrder withKernel Finite Counted Ordered complete closes
 step-adds r k bs small h finite = go (admitted true r _ h .1)
   where
     go : Admitted true r (lineSeen bs) → Adds r (taken r (padded bs)) bs × Kept (taken r (padded bs))
     go (grid e last some few len sizes) =
         rw (taken-grid _ _ e) (
           grid-adds r k bs small e last few len,
-          record { offsets = k .offsets; capacities = k .capacities; dims = few; count = k .count; counted = counted-at r k bs small stood.Nothing last .1 },
+          record {
+            offsets = k .offsets;
+            capacities = k .capacities;
+            dims = few;
+            count = k .count;
+            counted = counted-at r k bs small stood.Nothing last .1;
+            ordered = ordered-at r k bs small stood.Nothing last;
+          },
         )
     go (offset e last len count) =
         rw (taken-offset _ _ e) (
@@ -275,6 +332,7 @@ step-adds r k bs small h finite = go (admitted true r _ h .1)
             dims = k .dims;
             count = omega arith;
             counted = none-given r k bs small last;
+            ordered = no-order r k bs small last;
           },
         )
     go (capacity e last chain given len) =
@@ -286,15 +344,21 @@ step-adds r k bs small h finite = go (admitted true r _ h .1)
             dims = k .dims;
             count = k .count;
             counted = tt;
+            ordered = unordered r k bs small last;
           },
+        )
+    go (order e last chain given len) =
+        rw (taken-order _ _ e) (
+          order-adds r k bs small e last given len,
+          record { offsets = k .offsets; capacities = k .capacities; dims = k .dims; count = k .count; counted = tt; ordered = refl },
         )
     go (name e last request len ok) = absurd (never request)
     go (kernel e last given form) =
         let counted = given refl in
         let same = taken-kernel r (padded bs) e in
         rw same (
-          kernel-adds r k bs small e (behind-window r k bs small last) counted form ((rw same at finite) refl),
-          record { offsets = k .offsets; capacities = k .capacities; dims = k .dims; count = k .count; counted = omega arith },
+          kernel-adds r k bs small e last counted form ((rw same at finite) refl),
+          record { offsets = k .offsets; capacities = k .capacities; dims = k .dims; count = k .count; counted = omega arith; ordered = tt },
         )
 
 line-adds : (r : Reading) → Kept r → (l : Line) → lineVerdict true r (seenOf (l .ended) (l .chars)) ≡ verdict.Accepted
@@ -311,13 +375,15 @@ all-written : (r : Reading) → Kept r → complete r ≡ true → written r ≡
 unfolding written linesRead complete closes linesTo Counted
 all-written r k e = go (r .last) e (k .counted)
   where
-    go : (l : Last) → closes l ≡ true → Counted l (r .chain .window .count) (r .given) → linesFrom (r .chain) 0 (linesTo l (r .chain .window .count) (r .given)) ≡ sheetOf (r .chain)
+    go : (l : Last) → closes l ≡ true → Counted l (r .chain .window .count) (r .given)
+        → linesFrom (r .chain) 0 (linesTo l (r .chain .order .stood) (r .chain .window .count) (r .given)) ≡ sheetOf (r .chain)
     go stood.Nothing h c = absurd (never (sym h))
     go stood.Grid h c = absurd (never (sym h))
     go stood.Offset h c = absurd (never (sym h))
     go stood.Name h c = absurd (never (sym h))
     go stood.Capacity h c = absurd (never (sym h))
-    go stood.Kernel h c = sym (sheet-rows (r .chain) (k .dims) c)
+    go stood.Order h c = absurd (never (sym h))
+    go stood.Kernel h c = sym (sheet-rows (r .chain) (k .dims) c (k .count))
 
 -- The lines from a reading on.
 lines-back : (ls : List Line) (r : Reading) → Kept r
@@ -339,8 +405,8 @@ lines-back (l ∷ ls) r k h e f =
     (λ x q. absurd (refused-accepted (rw q at h)))
 
 kept-start : Kept start
-unfolding Counted
-kept-start = record { offsets = refl; capacities = refl; dims = omega arith; count = omega arith; counted = (refl, refl) }
+unfolding Counted Ordered
+kept-start = record { offsets = refl; capacities = refl; dims = omega arith; count = omega arith; counted = (refl, refl); ordered = refl }
 
 none-written : written start ≡ []
 unfolding written linesRead linesTo linesFrom

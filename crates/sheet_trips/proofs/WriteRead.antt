@@ -1,7 +1,7 @@
 -- A chain, written and read: line by line the reading takes up what was written.
 use Prim.Native.Nat.{ℕ, zero, suc, _+_, _-_, _*_, _/_, _%_, _≤_, _<_}
-use mathlib.Core.Bool.{true, false, not}
-use mathlib.Core.List.{List, [], _++_}
+use mathlib.Core.Bool.{Bool, true, false, cond, not}
+use mathlib.Core.List.{List, [], _∷_, _++_}
 use mathlib.Core.Logic.{_⊎_, inl, inr}
 use mathlib.Core.Path.{_≡_, refl, sym, ap, _∙_}
 use native.Mathlib.Omega.{arith}
@@ -9,7 +9,7 @@ use lib.Ieee.{toBits, binary32}
 use lib.Ieee.Bits.{ofBits-toBits, toBits-lt}
 use lib.IntN.{ℤ, pos}
 use lib.ListN.{length, take, getD, replicate, List·getD-append, List·getD-eq-default}
-use lib.Seq.{getD-take, length-take-le, getD-append-add}
+use lib.Seq.{getD-take, length-take-le}
 use lib.Signed.{mag}
 use borrow.Author.Tests.{eq-eqb, ne-eqb, lt-leb, lt-ltb, le-ltb}
 use Rattle.model.specs.declared.Chain.{Chain}
@@ -20,24 +20,26 @@ use Rattle.model.specs.declared.Last.the-variants as stood
 use Rattle.model.specs.declared.Reading.{Reading}
 use Rattle.model.specs.declared.Verdict.the-variants as verdict
 use Rattle.model.specs.Lists.{tabulate, any}
-use Rattle.model.specs.Values.{sizesOf, entryOf, offsetOf, capacityOf, trimmed}
+use Rattle.model.specs.Values.{sizesOf, entryOf, offsetOf, capacityOf, orderOf, noOrder, setOrder, trimmed}
 use Rattle.model.specs.Judging.{badDims, badSizes, judgeChain}
 use Rattle.model.specs.Lines.{linesOf}
 use Rattle.model.specs.Frames.{kept, padded, framed}
 use Rattle.model.specs.Numbers.{byteAt, wordAt, wordBytes}
 use Rattle.model.specs.Reading.{badKernel, badForm, malformed, nextInChain, miscounted, among, misplaced, badLength, sizesIn, kernelIn}
-use Rattle.model.specs.Reading.{withGrid, withCapacity, withKernel, start, closes, complete, readLines, endVerdict, readChain}
+use Rattle.model.specs.Reading.{withGrid, withCapacity, withOrder, withKernel, start, closes, complete, readLines, endVerdict, readChain}
 use Rattle.model.specs.Writing.{offsetLine, capacityLine, kernelLine, sheetOf}
 use Rattle.model.proofs.ListLaws.{length-tabulate, getD-tabulate}
-use Rattle.sheet_laws.specs.Rows.{gridRow, linesFrom}
+use Rattle.model.proofs.ChainLaws.{length-order}
+use Rattle.model.proofs.TermLaws.{order-below}
+use Rattle.sheet_laws.specs.Rows.{gridRow, linesBehind, linesFrom}
 use Rattle.sheet_laws.proofs.Cases.{by-lt}
-use Rattle.sheet_laws.proofs.AcceptedLines.{taken-grid, taken-capacity, taken-kernel}
+use Rattle.sheet_laws.proofs.AcceptedLines.{taken-grid, taken-capacity, taken-order, taken-kernel}
 use Rattle.sheet_laws.proofs.AcceptedChains.{Accepted, accepted-chain}
-use Rattle.sheet_laws.proofs.SheetRows.{offset-front, line-grid, line-offset, line-capacity, line-kernel, sheet-rows}
+use Rattle.sheet_laws.proofs.SheetRows.{offset-front, line-grid, line-offset, line-capacity, line-order, line-kernel, sheet-rows}
 use Rattle.sheet_trips.specs.RoundTrips.{FactorsFit, InRange, WriteRead}
-use Rattle.sheet_trips.proofs.Bytes.{Small, small-append, small-take, small-word, lineSeen}
+use Rattle.sheet_trips.proofs.Bytes.{Small, small-each, small-append, small-take, small-word, lineSeen, past, filters-read}
 use Rattle.sheet_trips.proofs.Bytes.Small.{none, more}
-use Rattle.sheet_trips.proofs.ReadBack.{upTo, blank-at, readSizes, readEntries, readOffsets, readCapacities, readBack, same-chain, normal-chain}
+use Rattle.sheet_trips.proofs.ReadBack.{upTo, readSizes, readEntries, readOffsets, readCapacities, readOrder, readBack, same-chain, normal-chain}
 use Rattle.sheet_trips.proofs.LineGoes.{all-clear, Goes, line-goes, four, small-offset, offset-goes}
 
 -- What stood last behind k offsets and g capacities.
@@ -55,16 +57,22 @@ midway c k g = record {
     grid = record { dims = c .grid .dims; sizes = readSizes (c .grid) };
     window = record { count = k; offsets = readOffsets (c .grid .dims) (c .window) k };
     capacities = readCapacities (c .capacities) g;
+    order = noOrder;
     kernel = kernel.Raw;
   };
 }
 
--- A byte of the padded front of a row.
-past : (xs : List ℕ) (i : ℕ) → length xs ≤ i → byteAt (xs ++ replicate kept 0) i ≡ 0
-past xs i h =
-    let e : i ≡ length xs + (i - length xs) = omega arith in
-    ap (λ j. byteAt (xs ++ replicate kept 0) j) e ∙ getD-append-add xs (replicate kept 0) (i - length xs) 0 ∙ blank-at kept (i - length xs) 0
+-- And before the kernel, where an order stood or did not.
+abbrev toKernel : Chain → (ordered : Bool) → Reading
+toKernel c ordered =
+    let n = c .window .count in
+    record {
+      last = cond ordered stood.Order (lastOf n (n - 1));
+      given = n - 1;
+      chain = setOrder (readOrder n ordered (c .order .filters)) (midway c n (n - 1) .chain);
+    }
 
+-- A byte of the padded front of a row.
 module _ (n : ℕ) (row : List ℕ) (h : n ≤ length row) (l : n ≤ kept) where
   byte-in : (i : ℕ) → i < n → byteAt (padded (take n row)) i ≡ byteAt row i
   unfolding padded
@@ -114,7 +122,8 @@ front-entries (suc (suc (suc zero))) f h = refl
 front-entries (suc (suc (suc (suc zero)))) f h = refl
 front-entries (suc (suc (suc (suc (suc d))))) f h = absurd (omega arith)
 
--- The order of a chain sheet's lines: an offset behind the grid or an offset, a capacity and the kernel behind an offset or a capacity.
+-- The order of a chain sheet's lines: an offset behind the grid or an offset, a capacity and an order behind an offset or a capacity, the kernel behind these or
+-- the order.
 before-offset : (k : ℕ) → (lastOf k 0 ≡ stood.Grid) ⊎ (lastOf k 0 ≡ stood.Offset)
 unfolding lastOf
 before-offset zero = inl refl
@@ -131,11 +140,18 @@ unfolding lastOf
 capacity-last zero g h = absurd (omega arith)
 capacity-last (suc n) g h = refl
 
-kernel-comes : (n g : ℕ) → n ≡ g + 1 → misplaced true (lastOf n g) g n 4 ≡ false
+order-comes : (n g : ℕ) → n ≡ g + 1 → misplaced true (lastOf n g) g n 6 ≡ false
 unfolding lastOf misplaced among any nextInChain miscounted
-kernel-comes zero g h = absurd (omega arith)
-kernel-comes (suc n) zero h = ap not (eq-eqb _ _ h)
-kernel-comes (suc n) (suc g) h = ap not (eq-eqb _ _ h)
+order-comes zero g h = absurd (omega arith)
+order-comes (suc n) zero h = ap not (eq-eqb _ _ h)
+order-comes (suc n) (suc g) h = ap not (eq-eqb _ _ h)
+
+kernel-comes : (ordered : Bool) (n g : ℕ) → n ≡ g + 1 → misplaced true (cond ordered stood.Order (lastOf n g)) g n 4 ≡ false
+unfolding lastOf misplaced among any nextInChain miscounted
+kernel-comes true n g h = ap not (eq-eqb _ _ h)
+kernel-comes false zero g h = absurd (omega arith)
+kernel-comes false (suc n) zero h = ap not (eq-eqb _ _ h)
+kernel-comes false (suc n) (suc g) h = ap not (eq-eqb _ _ h)
 
 module _ (c : Chain) (range : InRange c) (ok : Accepted c) where
   abbrev dims : ℕ
@@ -284,23 +300,61 @@ module _ (c : Chain) (range : InRange c) (ok : Accepted c) where
   unfolding capacityLine
   small-capacity k = more {b = 3} (omega arith) (small-word _ (range .capacities k))
 
+  -- The order's line, where it stood.
+  abbrev ordered : Bool
+  ordered = c .order .stood
+
+  abbrev order : List ℕ
+  order = orderOf n (c .order)
+
+  small-order : Small (6 ∷ order)
+  small-order = more {b = 6} (omega arith) (small-each order (λ t h. omega (arith, order-below n order (ok .once) t h, ok .few)))
+
+  order-taken : ordered ≡ true → withOrder (midway c n (n - 1)) (padded (6 ∷ order)) ≡ toKernel c true
+  unfolding withOrder readOrder orderOf
+  order-taken is =
+      ap (λ (filters : List ℕ). record {
+        last = stood.Order;
+        given = n - 1;
+        chain = setOrder (record { stood = true; filters = filters }) (midway c n (n - 1) .chain);
+      })
+      (filters-read n 6 order (length-order n (c .order) ∙ ap (λ (b : Bool). cond b n 0) is) ∙ ap (λ (b : Bool). tabulate 32 (λ t. getD (cond b (tabulate n (λ i. getD (c .order .filters) i 0)) []) t 0)) is)
+
+  order-goes : ordered ≡ true → Goes true (midway c n (n - 1)) (6 ∷ order) (toKernel c true)
+  unfolding malformed badForm badLength padded
+  order-goes is =
+      let e : n ≡ n - 1 + 1 = omega (arith, ok .some) in
+      let l : length order ≡ cond ordered n 0 = length-order n (c .order) in
+      let due : length (6 ∷ order) ≡ 1 + n = omega (arith, l ∙ ap (λ (b : Bool). cond b n 0) is) in
+      let some : length (6 ∷ order) ≡ 0 → ⊥ = λ z. omega (arith, due) in (
+        all-clear true (midway c n (n - 1)) (lineSeen (6 ∷ order))
+            (rw (ne-eqb _ _ some))
+            (order-comes n (n - 1) e)
+            refl
+            (rw (eq-eqb _ _ due))
+            refl
+            refl
+            refl,
+        taken-order (midway c n (n - 1)) (padded (6 ∷ order)) refl ∙ order-taken is,
+      )
+
   abbrev atEnd : Reading
   atEnd = record { last = stood.Kernel; given = n - 1; chain = readBack c }
 
-  kernel-goes : Goes true (midway c n (n - 1)) (kernelLine (c .kernel)) atEnd
+  kernel-goes : Goes true (toKernel c ordered) (kernelLine (c .kernel)) atEnd
   unfolding withKernel badLength readBack
   kernel-goes =
       let head = kernel-head (c .kernel) in
       let e : n ≡ n - 1 + 1 = omega (arith, ok .some) in (
-        all-clear true (midway c n (n - 1)) (lineSeen (kernelLine (c .kernel)))
+        all-clear true (toKernel c ordered) (lineSeen (kernelLine (c .kernel)))
             (head .0)
-            (rw (head .1) (kernel-comes n (n - 1) e))
+            (rw (head .1) (kernel-comes ordered n (n - 1) e))
             (rw (head .1))
             (rw (head .1))
             (rw (head .1))
             (rw (head .1))
             (rw (head .1)),
-        taken-kernel (midway c n (n - 1)) (padded (kernelLine (c .kernel))) (head .1) ∙ rw (kernel-read (c .kernel) (range .factors)),
+        taken-kernel (toKernel c ordered) (padded (kernelLine (c .kernel))) (head .1) ∙ rw (kernel-read (c .kernel) (range .factors)),
       )
 
   offsets-read : (i k m : ℕ) → k + i ≡ n
@@ -333,19 +387,35 @@ module _ (c : Chain) (range : InRange c) (ok : Accepted c) where
       (line-goes true (midway c n k) (midway c n (suc k)) (capacityLine (capacityOf c k)) _ (small-capacity k) (capacity-goes c range ok k (omega arith))
       ∙ capacities-read i (suc k) m (omega arith))
 
+  order-read : readLines true (midway c n (n - 1)) (linesOf (linesFrom c (2 * n) (cond ordered 1 0 + 1)))
+      ≡ readLines true (toKernel c ordered) (linesOf (linesFrom c (2 * n + cond ordered 1 0) 1))
+  unfolding linesFrom readOrder tabulate
+  order-read = go ordered refl
+    where
+      go : (b : Bool) → ordered ≡ b
+          → readLines true (midway c n (n - 1)) (linesOf (linesFrom c (2 * n) (cond b 1 0 + 1))) ≡ readLines true (toKernel c b) (linesOf (linesFrom c (2 * n + cond b 1 0) 1))
+      go true e =
+          ap (λ l. readLines true (midway c n (n - 1)) (linesOf (framed l ++ linesFrom c (2 * n + 1) 1))) (line-order c e (ok .some) (ok .few))
+          ∙ line-goes true (midway c n (n - 1)) (toKernel c true) (6 ∷ order) (linesFrom c (2 * n + 1) 1) small-order (order-goes e)
+      go false e =
+          let z : 2 * n ≡ 2 * n + 0 = omega arith in
+          ap (λ m. readLines true (toKernel c false) (linesOf (linesFrom c m 1))) z
+
   all-read : readLines true start (linesOf (sheetOf c)) ≡ record { verdict = verdict.Accepted; reading = atEnd }
-  unfolding linesFrom readLines linesOf
+  unfolding linesFrom readLines linesOf linesBehind
   all-read =
-      let z : 2 * n + 1 ≡ suc (n + (n - 1 + 1)) = omega (arith, ok .some) in
+      let s : ℕ = cond ordered 1 0 in
+      let z : linesBehind ordered n + 1 ≡ suc (n + (n - 1 + (s + 1))) = omega (arith, ok .some) in
       let y : 1 + n + 0 ≡ 1 + n = omega arith in
-      rw (sheet-rows c (ok .few-dims) (ok .some), z, line-grid c (ok .few-dims))
-      (line-goes true start (midway c 0 0) (take (2 + 4 * c .grid .dims) (gridRow (c .grid))) (linesFrom c 1 (n + (n - 1 + 1)))
+      rw (sheet-rows c (ok .few-dims) (ok .some) (ok .few), z, line-grid c (ok .few-dims))
+      (line-goes true start (midway c 0 0) (take (2 + 4 * c .grid .dims) (gridRow (c .grid))) (linesFrom c 1 (n + (n - 1 + (s + 1))))
       (small-take (2 + 4 * c .grid .dims) small-grid) (grid-goes c range ok)
-      ∙ offsets-read n 0 (n - 1 + 1) (omega arith)
-      ∙ ap (λ i. readLines true (midway c n 0) (linesOf (linesFrom c i (n - 1 + 1)))) (sym y)
-      ∙ capacities-read (n - 1) 0 1 (omega (arith, ok .some))
-      ∙ ap (λ l. readLines true (midway c n (n - 1)) (linesOf (framed l ++ []))) (line-kernel c (ok .some))
-      ∙ line-goes true (midway c n (n - 1)) atEnd (kernelLine (c .kernel)) [] (small-kernel (c .kernel) (range .factors)) kernel-goes)
+      ∙ offsets-read n 0 (n - 1 + (s + 1)) (omega arith)
+      ∙ ap (λ i. readLines true (midway c n 0) (linesOf (linesFrom c i (n - 1 + (s + 1))))) (sym y)
+      ∙ capacities-read (n - 1) 0 (s + 1) (omega (arith, ok .some))
+      ∙ order-read
+      ∙ ap (λ l. readLines true (toKernel c ordered) (linesOf (framed l ++ []))) (line-kernel c (ok .some))
+      ∙ line-goes true (toKernel c ordered) atEnd (kernelLine (c .kernel)) [] (small-kernel (c .kernel) (range .factors)) kernel-goes)
 
 judged-alike : (c d : Chain) → trimmed c ≡ trimmed d → judgeChain c ≡ judgeChain d
 unfolding judgeChain

@@ -50,6 +50,9 @@ fn bad_form(len: usize, kind: u8, second: u8) -> bool
     if kind == 5 {
         return len != 5;
     }
+    if kind == 6 {
+        return false;
+    }
     if kind == 7 {
         return len != 2;
     }
@@ -88,6 +91,7 @@ fn comes_in_request(last: Last, kind: u8) -> bool
         }
         Last::Name => kind == 4,
         Last::Capacity => false,
+        Last::Order => false,
         Last::Kernel => false,
     }
 }
@@ -106,6 +110,9 @@ fn comes_in_chain(last: Last, kind: u8) -> bool
             if kind == 3 {
                 return true;
             }
+            if kind == 6 {
+                return true;
+            }
             kind == 4
         }
         Last::Name => false,
@@ -113,8 +120,12 @@ fn comes_in_chain(last: Last, kind: u8) -> bool
             if kind == 3 {
                 return true;
             }
+            if kind == 6 {
+                return true;
+            }
             kind == 4
         }
+        Last::Order => kind == 4,
         Last::Kernel => false,
     }
 }
@@ -130,7 +141,10 @@ fn is_miscounted(given: u8, count: u8, kind: u8) -> bool
     if kind == 4 {
         return (count as u16) != next;
     }
-    false
+    if kind != 6 {
+        return false;
+    }
+    (count as u16) != next
 }
 
 fn is_misplaced(chained: bool, last: Last, given: u8, count: u8, kind: u8) -> bool
@@ -158,14 +172,17 @@ fn bad_dims(kind: u8, dims: u8) -> bool
     4 < dims
 }
 
-fn bad_length(len: usize, kind: u8, second: u8, dims: u8) -> bool
-    ensures { λ r. ⌜ r ≡ badLength len kind second dims ⌝ }
+fn bad_length(len: usize, kind: u8, second: u8, dims: u8, count: u8) -> bool
+    ensures { λ r. ⌜ r ≡ badLength len kind second dims count ⌝ }
 {
     if kind == 1 {
         return len != 2 + 4 * (second as usize);
     }
     if kind == 2 {
         return len != 1 + 2 * (dims as usize);
+    }
+    if kind == 6 {
+        return len != 1 + (count as usize);
     }
     false
 }
@@ -258,7 +275,7 @@ pub fn line_verdict(chained: bool, r: Reading, f: Frame) -> Verdict
     let last = r.last;
     let place = is_misplaced(chained, last, r.given, window.count, kind);
     let dims = bad_dims(kind, second);
-    let length = bad_length(f.len, kind, second, grid.dims);
+    let length = bad_length(f.len, kind, second, grid.dims, window.count);
     let sizes = bad_grid(kind, second, x);
     let many = too_many(kind, window.count);
     let name = bad_name(kind, second, grid.dims);

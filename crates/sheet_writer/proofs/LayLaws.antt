@@ -1,27 +1,31 @@
 -- How frames and lines are laid into the output, one after the other.
 use Prim.Native.Nat.{ℕ, suc, _+_, _-_, _*_, _/_, _%_, _≤_, _<_}
+use mathlib.Core.Bool.{Bool, true, false, cond, _&&_}
 use mathlib.Core.List.{List, [], _∷_, _++_}
-use mathlib.Core.Path.{_≡_, sym, ap, ap₂, subst, _∙_}
+use mathlib.Core.Path.{_≡_, refl, sym, ap, ap₂, subst, _∙_}
 use native.Mathlib.Numerals.{add-one}
 use native.Mathlib.Omega.{arith}
-use lib.ListN.{length, take, drop, getD, set, length-append, drop-of-length-le}
+use lib.Dec.{ltb}
+use lib.ListN.{length, take, drop, getD, set, replicate, length-append, drop-of-length-le}
 use lib.Seq.{sets, drop-cons, getD-take, take-take, take-append-le, length-take-le}
 use borrow.Author.Tests.{lt-ltb, le-ltb}
 use Rattle.model.specs.declared.Chain.{Chain}
 use Rattle.model.specs.declared.Grid.{Grid}
 use Rattle.model.specs.declared.Kernel.{Kernel}
 use Rattle.model.specs.declared.Kernel.the-variants as kernel
+use Rattle.model.specs.Lists.{tabulate}
 use Rattle.model.specs.Frames.{kept, digitOf, digitsOf, framed, padded}
 use Rattle.model.specs.Numbers.{halfBytes, wordBytes}
 use Rattle.model.specs.Lines.{lineFeed}
 use Rattle.model.specs.Writing.{gridLine, capacityLine, kernelLine, sheetOf}
+use Rattle.model.proofs.ListLaws.{length-tabulate, getD-tabulate}
 use Rattle.sheet_laws.proofs.Cases.{by-lt}
 use Rattle.sheet_laws.proofs.SheetLength.{framed-length}
 use Rattle.sheet_laws.proofs.SheetRows.{grid-front, sheet-rows}
 use Rattle.sheet_laws.specs.declared.Part.{Part}
 use Rattle.sheet_laws.specs.declared.Part.the-variants as part
 use Rattle.sheet_writer.specs.Laying.{Inside}
-use Rattle.sheet_laws.specs.Rows.{gridRow, offsetRow, rowOf, lenOf, partAt, lineAt, linesFrom}
+use Rattle.sheet_laws.specs.Rows.{gridRow, offsetRow, orderRow, rowOf, lenOf, partAt, linesBehind, lineAt, linesFrom}
 
 sets-join : (xs ys l : List ℕ) (i : ℕ) → sets (sets l i xs) (i + length xs) ys ≡ sets l i (xs ++ ys)
 sets-join [] ys l i = ap (λ j. sets l j ys) (zero-right i)
@@ -48,6 +52,21 @@ module _ (x out : List ℕ) (len p i : ℕ) (whole : len ≤ length x) where
   unfolding framed digitsOf
   frame-end h = rw (drop-of-length-le (take len x) {i = i} (omega (arith, length-take-le len x whole)))
 
+-- The filter numbers on an order's row.
+abbrev pub numbers : List ℕ → List ℕ
+numbers filters = tabulate 32 (λ t. getD filters t 0)
+
+module _ (filters : List ℕ) where
+  pub length-numbers : length (numbers filters) ≡ 32
+  length-numbers = length-tabulate 32 (λ t. getD filters t 0)
+
+  pub number-at : (t : ℕ) → t < 32 → getD filters t 0 ≡ getD (numbers filters) t 0
+  number-at t h = sym (getD-tabulate 32 (λ t. getD filters t 0) t 0 h)
+
+  pub numbers-put : sets (6 ∷ replicate (kept - 1) 0) 1 (numbers filters) ≡ padded (6 ∷ numbers filters)
+  unfolding tabulate padded
+  numbers-put = refl
+
 -- A line is a front of its row, and the row is short.
 abbrev Fit : ℕ → List ℕ → Type 0
 Fit n xs = (n ≤ length xs) × (length xs ≤ kept)
@@ -63,24 +82,31 @@ pub fit-grid : (g : Grid) → g .dims ≤ 4 → Fit (2 + 4 * g .dims) (gridRow g
 unfolding gridRow wordBytes
 fit-grid g h = (omega arith, omega arith)
 
-pub fit : (c : Chain) (p : Part) → c .grid .dims ≤ 4 → Fit (lenOf c p) (rowOf c p)
-unfolding lenOf rowOf offsetRow capacityLine halfBytes wordBytes
-fit c (part.Offset k) h = (omega arith, omega arith)
-fit c (part.Capacity k) h = (omega arith, omega arith)
-fit c part.Kernel h = fit-kernel (c .kernel)
+pub fit : (c : Chain) (p : Part) → c .grid .dims ≤ 4 → c .window .count ≤ 32 → Fit (lenOf c p) (rowOf c p)
+unfolding lenOf rowOf offsetRow orderRow capacityLine halfBytes wordBytes
+fit c (part.Offset k) h m = (omega arith, omega arith)
+fit c (part.Capacity k) h m = (omega arith, omega arith)
+fit c part.Order h m =
+    let l = length-numbers (c .order .filters) in
+    (omega (arith, l), omega (arith, l))
+fit c part.Kernel h m = fit-kernel (c .kernel)
 
 take-padded : (n : ℕ) (xs : List ℕ) → Fit n xs → take n (padded xs) ≡ take n xs
 unfolding padded
 take-padded n xs f = take-take n kept _ (omega arith) ∙ take-append-le n xs _ (f .0)
 
-pub inside : (n m : ℕ) → Inside n (partAt n m)
+pub inside : (ordered : Bool) (n m : ℕ) → Inside n (partAt ordered n m)
 unfolding Inside partAt
-inside n m =
+inside ordered n m =
     by-lt m n
     (λ l. rw (lt-ltb _ _ l) l)
     (λ l. by-lt (m - n + 1) n
     (λ q. rw (le-ltb _ _ l, lt-ltb _ _ q) q)
-    (λ q. rw (le-ltb _ _ l, le-ltb _ _ q) tt))
+    (λ q. rw (le-ltb _ _ l, le-ltb _ _ q) (last (ltb (m - n) n && ordered))))
+  where
+    last : (b : Bool) → Inside n (cond b part.Order part.Kernel)
+    last true = tt
+    last false = tt
 
 pub offset-inside : (n : ℕ) (p : Part) (k : ℕ) → Inside n p → p ≡ part.Offset k → k < n
 unfolding Inside
@@ -100,28 +126,37 @@ grid-laid g few = ap framed (take-padded _ (gridRow g) (fit-grid g few) ∙ sym 
 pub grid-framed : (g : Grid) → g .dims ≤ 4 → length (framed (gridLine g)) ≡ 2 * (2 + 4 * g .dims) + 1
 grid-framed g few = framed-length (gridLine g) ∙ ap (λ n. 2 * n + 1) (grid-length g few)
 
-module _ (c : Chain) (few : c .grid .dims ≤ 4) (some : 0 < c .window .count) where
-  pub grid-first : sheetOf c ≡ framed (gridLine (c .grid)) ++ linesFrom c 1 (2 * c .window .count)
+module _ (c : Chain) (few : c .grid .dims ≤ 4) (some : 0 < c .window .count) (most : c .window .count ≤ 32)
+    (lines : ℕ) (told : lines ≡ linesBehind (c .order .stood) (c .window .count)) where
+  abbrev behind-grid : List ℕ
+  behind-grid = linesFrom c 1 lines
+
+  pub grid-first : sheetOf c ≡ framed (gridLine (c .grid)) ++ behind-grid
   unfolding linesFrom lineAt
   grid-first =
-      let e : 2 * c .window .count + 1 ≡ suc (2 * c .window .count) = omega arith in
-      sheet-rows c few some ∙ rw e
+      let e : linesBehind (c .order .stood) (c .window .count) + 1 ≡ suc lines = omega (arith, told) in
+      sheet-rows c few some most ∙ ap (linesFrom c 0) e
 
-  pub all-length : length (sheetOf c) ≡ 2 * (2 + 4 * c .grid .dims) + 1 + length (linesFrom c 1 (2 * c .window .count))
-  all-length = ap length grid-first ∙ length-append (framed (gridLine (c .grid))) _ ∙ ap (λ n. n + length (linesFrom c 1 (2 * c .window .count))) (grid-framed (c .grid) few)
+  pub all-length : length (sheetOf c) ≡ 2 * (2 + 4 * c .grid .dims) + 1 + length behind-grid
+  all-length = ap length grid-first ∙ length-append (framed (gridLine (c .grid))) _ ∙ ap (λ n. n + length behind-grid) (grid-framed (c .grid) few)
 
   pub all-laid : (out behind : List ℕ) (at : ℕ) → at ≡ 2 * (2 + 4 * c .grid .dims) + 1 → behind ≡ sets out 0 (framed (gridLine (c .grid)))
-      → sets behind at (linesFrom c 1 (2 * c .window .count)) ≡ sets out 0 (sheetOf c)
+      → sets behind at behind-grid ≡ sets out 0 (sheetOf c)
   all-laid out behind at a b =
       let e : at ≡ 0 + length (framed (gridLine (c .grid))) = omega (arith, grid-framed (c .grid) few) in
-      ap₂ (λ (o : List ℕ) (i : ℕ). sets o i (linesFrom c 1 (2 * c .window .count))) b e
-      ∙ sets-join (framed (gridLine (c .grid))) (linesFrom c 1 (2 * c .window .count)) out 0
+      ap₂ (λ (o : List ℕ) (i : ℕ). sets o i behind-grid) b e
+      ∙ sets-join (framed (gridLine (c .grid))) behind-grid out 0
       ∙ ap (sets out 0) (sym grid-first)
+
+pub few-lines : (ordered : Bool) (n : ℕ) → linesBehind ordered n ≤ 2 * n + 1
+unfolding linesBehind
+few-lines true n = omega arith
+few-lines false n = omega arith
 
 -- The lines that remain behind the first m of them.
 module _ (c : Chain) (m lines : ℕ) where
   abbrev at-m : Part
-  at-m = partAt (c .window .count) m
+  at-m = partAt (c .order .stood) (c .window .count) m
 
   pub no-more : lines ≤ m → linesFrom c (1 + m) (lines - m) ≡ []
   unfolding linesFrom
@@ -129,12 +164,12 @@ module _ (c : Chain) (m lines : ℕ) where
       let e : lines - m ≡ 0 = omega arith in
       rw e
 
-  module _ (few : c .grid .dims ≤ 4) (more : m < lines) where
+  module _ (few : c .grid .dims ≤ 4) (most : c .window .count ≤ 32) (more : m < lines) where
     abbrev line : List ℕ
     line = framed (take (lenOf c at-m) (rowOf c at-m))
 
     line-length : length line ≡ 2 * lenOf c at-m + 1
-    line-length = framed-length (take (lenOf c at-m) (rowOf c at-m)) ∙ ap (λ n. 2 * n + 1) (length-take-le _ _ (fit c at-m few .0))
+    line-length = framed-length (take (lenOf c at-m) (rowOf c at-m)) ∙ ap (λ n. 2 * n + 1) (length-take-le _ _ (fit c at-m few most .0))
 
     one-more : linesFrom c (1 + m) (lines - m) ≡ line ++ linesFrom c (1 + (m + 1)) (lines - (m + 1))
     unfolding linesFrom lineAt
@@ -152,4 +187,4 @@ module _ (c : Chain) (m lines : ℕ) where
         ≡ sets out at (linesFrom c (1 + m) (lines - m))
     line-on out at =
         let f : at + 2 * lenOf c at-m + 1 ≡ at + length line = omega (arith, line-length) in
-        rw (f, take-padded _ _ (fit c at-m few), one-more) (sets-join line (linesFrom c (1 + (m + 1)) (lines - (m + 1))) out at)
+        rw (f, take-padded _ _ (fit c at-m few most), one-more) (sets-join line (linesFrom c (1 + (m + 1)) (lines - (m + 1))) out at)

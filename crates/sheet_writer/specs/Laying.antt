@@ -43,4 +43,5 @@ pub record Counted (c : Chain) : Type 0 where
 unfoldable pub Inside : (n : ℕ) → Part → Type 0
 Inside n (part.Offset k) = k < n
 Inside n (part.Capacity k) = k + 1 < n
+Inside n part.Order = Unit {0}
 Inside n part.Kernel = Unit {0}

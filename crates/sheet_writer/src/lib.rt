@@ -3,6 +3,7 @@ use model::Chain;
 use model::Grid;
 use model::KEPT;
 use model::Kernel;
+use model::Order;
 use model::Refusal;
 use model::Verdict;
 use model::Window;
@@ -18,7 +19,7 @@ ghost use lib.IntN.{pos};
 ghost use Rattle.model.specs.Frames.{kept, framed, padded};
 ghost use Rattle.model.specs.Numbers.{halfBytes, wordBytes, pattern};
 ghost use Rattle.model.specs.Writing.{gridLine, capacityLine, kernelLine, sheetOf};
-ghost use Rattle.sheet_laws.specs.Rows.{gridRow, offsetRow, rowOf, lenOf, partAt};
+ghost use Rattle.sheet_laws.specs.Rows.{gridRow, offsetRow, orderRow, rowOf, lenOf, partAt, linesBehind};
 ghost use Rattle.sheet_writer.specs.Laying.{written, layOf, Counted, Inside};
 
 // Two and four bytes, most significant first, from byte `at` of a line on.
@@ -45,7 +46,7 @@ fn put_word(x: [u8; KEPT], at: usize, w: u32) -> [u8; KEPT]
     y
 }
 
-// The rows: all four sizes or entries, of which a line has as many as there are dimensions.
+// The rows: all four sizes or entries, of which a line has as many as there are dimensions, and all 32 filter numbers, of which it has as many as there are references.
 
 fn grid_row(g: Grid) -> [u8; KEPT]
     ensures { λ r. ⌜ r ≡ padded (gridRow g) ⌝ }
@@ -90,6 +91,20 @@ fn capacity_row(places: u32) -> [u8; KEPT]
     put_word(x, 1, places)
 }
 
+fn order_row(o: Order) -> [u8; KEPT]
+    ensures { λ r. ⌜ r ≡ padded (orderRow o) ⌝ }
+{
+    let filters = o.filters;
+    let mut x = [0u8; KEPT];
+    x[0] = 6;
+    let mut t: usize = 0;
+    while t < 32 {
+        x[1 + t] = filters[t];
+        t += 1;
+    }
+    x
+}
+
 fn kernel_row(k: Kernel) -> [u8; KEPT]
     ensures { λ r. ⌜ r ≡ padded (kernelLine k) ⌝ }
 {
@@ -130,10 +145,10 @@ fn grid_len(g: Grid) -> usize
     2 + 4 * (g.dims as usize)
 }
 
-// Where line `m` behind the grid's stands, of a sheet with n offsets: the sections have n, n - 1 and 1 lines.
-fn part_at(n: usize, m: usize) -> Part
-    requires { ⌜ m < 2 * n ⌝ }
-    ensures { λ r. ⌜ r ≡ partAt n m ⌝ }
+// Where line `m` behind the grid's stands, of a sheet with n offsets: the sections have n, n - 1, 1 (0 where no order stands) and 1 lines;
+fn part_at(ordered: bool, n: usize, m: usize) -> Part
+    requires { ⌜ m ≤ 2 * n ⌝ }
+    ensures { λ r. ⌜ r ≡ partAt ordered n m ⌝ }
 {
     if m < n {
         return Part::Offset(m);
@@ -142,7 +157,24 @@ fn part_at(n: usize, m: usize) -> Part
     if behind + 1 < n {
         return Part::Capacity(behind);
     }
+    if n <= behind {
+        return Part::Kernel;
+    }
+    if ordered {
+        return Part::Order;
+    }
     Part::Kernel
+}
+
+// and how many lines there are in all.
+fn lines_behind(ordered: bool, n: usize) -> usize
+    requires { ⌜ n ≤ 32 ⌝ }
+    ensures { λ r. ⌜ r ≡ linesBehind ordered n ⌝ }
+{
+    if ordered {
+        return 2 * n + 1;
+    }
+    2 * n
 }
 
 // How many bytes a line has.
@@ -150,10 +182,12 @@ fn line_len(c: Chain, p: Part) -> usize
     ensures { λ r. ⌜ r ≡ lenOf c p ⌝ }
 {
     let grid = c.grid;
+    let window = c.window;
     let k = c.kernel;
     match p {
         Part::Offset(_) => 1 + 2 * (grid.dims as usize),
         Part::Capacity(_) => 5,
+        Part::Order => 1 + (window.count as usize),
         Part::Kernel => kernel_len(k),
     }
 }
@@ -165,10 +199,12 @@ fn row(c: Chain, p: Part) -> [u8; KEPT]
 {
     let window = c.window;
     let capacities = c.capacities;
+    let order = c.order;
     let kernel = c.kernel;
     match p {
         Part::Offset(k) => offset_row(window, k),
         Part::Capacity(k) => capacity_row(capacities[k]),
+        Part::Order => order_row(order),
         Part::Kernel => kernel_row(kernel),
     }
 }
@@ -197,12 +233,14 @@ fn sheet_len(c: Chain) -> usize
 {
     let grid = c.grid;
     let window = c.window;
+    let order = c.order;
+    let ordered = order.stood;
     let n = window.count as usize;
-    let lines = 2 * n;
+    let lines = lines_behind(ordered, n);
     let mut total = 2 * grid_len(grid) + 1;
     let mut m: usize = 0;
     while m < lines {
-        let len = line_len(c, part_at(n, m));
+        let len = line_len(c, part_at(ordered, n, m));
         total = total + 2 * len + 1;
         m += 1;
     }
@@ -225,12 +263,14 @@ fn put_sheet(out: &mut [u8], c: Chain) -> usize
 {
     let grid = c.grid;
     let window = c.window;
+    let order = c.order;
+    let ordered = order.stood;
     let n = window.count as usize;
-    let lines = 2 * n;
+    let lines = lines_behind(ordered, n);
     let mut at = put_grid(out, grid);
     let mut m: usize = 0;
     while m < lines {
-        let p = part_at(n, m);
+        let p = part_at(ordered, n, m);
         let len = line_len(c, p);
         let x = row(c, p);
         at = put_frame(out, at, x, len);

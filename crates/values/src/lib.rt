@@ -2,6 +2,7 @@
 use model::Chain;
 use model::Grid;
 use model::Kernel;
+use model::Order;
 use model::Refusal;
 use model::Request;
 use model::Window;
@@ -9,7 +10,7 @@ ghost use mathlib.Core.Path.{_≡_};
 ghost use Prim.Native.Nat.{_/_, _%_, _<_, min};
 ghost use Rattle.model.specs.Answers.{numberOf};
 ghost use Rattle.model.specs.Frames.{digitOf};
-ghost use Rattle.model.specs.Values.{blankChain, requestOf, setGrid, setWindow, setCapacities, setKernel};
+ghost use Rattle.model.specs.Values.{blankChain, requestOf, setGrid, setWindow, setCapacities, setOrder, setKernel};
 
 // What a refusal hands back in place of a chain.
 pub fn blank_chain() -> Chain
@@ -25,11 +26,15 @@ pub fn blank_chain() -> Chain
             offsets: [0i16; 128],
         },
         capacities: [0u32; 31],
+        order: Order {
+            stood: false,
+            filters: [0u8; 32],
+        },
         kernel: Kernel::Raw,
     }
 }
 
-// The request that a chain without its capacities is.
+// The request that a chain without its capacities and its order is.
 pub fn request_of(c: Chain) -> Request
     ensures { λ r. ⌜ r ≡ requestOf c ⌝ }
 {
@@ -50,11 +55,13 @@ pub fn set_grid(c: Chain, grid: Grid) -> Chain
 {
     let window = c.window;
     let capacities = c.capacities;
+    let order = c.order;
     let kernel = c.kernel;
     Chain {
         grid,
         window,
         capacities,
+        order,
         kernel,
     }
 }
@@ -64,11 +71,13 @@ pub fn set_window(c: Chain, window: Window) -> Chain
 {
     let grid = c.grid;
     let capacities = c.capacities;
+    let order = c.order;
     let kernel = c.kernel;
     Chain {
         grid,
         window,
         capacities,
+        order,
         kernel,
     }
 }
@@ -78,11 +87,29 @@ pub fn set_capacities(c: Chain, capacities: [u32; 31]) -> Chain
 {
     let grid = c.grid;
     let window = c.window;
+    let order = c.order;
     let kernel = c.kernel;
     Chain {
         grid,
         window,
         capacities,
+        order,
+        kernel,
+    }
+}
+
+pub fn set_order(c: Chain, order: Order) -> Chain
+    ensures { λ r. ⌜ r ≡ setOrder order c ⌝ }
+{
+    let grid = c.grid;
+    let window = c.window;
+    let capacities = c.capacities;
+    let kernel = c.kernel;
+    Chain {
+        grid,
+        window,
+        capacities,
+        order,
         kernel,
     }
 }
@@ -93,10 +120,12 @@ pub fn set_kernel(c: Chain, kernel: Kernel) -> Chain
     let grid = c.grid;
     let window = c.window;
     let capacities = c.capacities;
+    let order = c.order;
     Chain {
         grid,
         window,
         capacities,
+        order,
         kernel,
     }
 }
@@ -119,6 +148,7 @@ pub fn number_of(n: Refusal) -> u8
         Refusal::BadState => 11,
         Refusal::ShortOutput => 12,
         Refusal::BadName => 13,
+        Refusal::BadOrder => 14,
     }
 }
 

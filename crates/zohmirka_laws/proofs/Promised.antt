@@ -49,6 +49,7 @@ numbered refusal.ShortStore e = omega arith
 numbered refusal.BadState e = omega arith
 numbered refusal.ShortOutput e = omega arith
 numbered refusal.BadName e = omega arith
+numbered refusal.BadOrder e = omega arith
 
 pub unnumbered : (v : Verdict) → verdictNumber v ≡ 0 → v ≡ verdict.Accepted
 unfolding verdictNumber

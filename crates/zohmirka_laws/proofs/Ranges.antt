@@ -12,7 +12,7 @@ use lib.IntN.{ℤ, pos}
 use lib.ListN.{length, getD, List·getD-eq-default}
 use lib.Signed.{mag}
 use borrow.Author.Tests.{le-ltb, eqb-false, ltb-false}
-use Rattle.model.specs.Lists.{tabulate, sum, product, any}
+use Rattle.model.specs.Lists.{sum, product, any}
 use Rattle.model.specs.Numbers.{signed}
 use Rattle.model.specs.Geometry.{cellCount}
 use Rattle.model.specs.Values.{Trimmed, offsetOf, offsetsOf, chainOf, blankChain, requestOf}
@@ -26,17 +26,10 @@ use Rattle.geometry.proofs.GridLaws.{product-above}
 use Rattle.run_laws.proofs.Accepts as accepts
 use Rattle.sheet_laws.proofs.Cases.{by-bool, by-lt, or-false}
 use Rattle.sheet_trips.specs.RoundTrips.{FactorsFit, InRange}
-use Rattle.sheet_trips.proofs.ReadBack.{blank-at}
+use Rattle.sheet_trips.proofs.Bytes.{blank-at}
 use Rattle.zohmirka_words.specs.Words.{wordAt, kernelIn, chainIn}
 use Rattle.zohmirka_words.proofs.WordLaws.{few-chain}
-use Rattle.zohmirka_laws.proofs.ReadChains.{Held, signed-small}
-
--- What holds of the function's values and of the default holds of every entry.
-each-tabulate : {A : Type 0} (P : A → Type 0) (n : ℕ) (f : ℕ → A) (d : A) → ((i : ℕ) → P (f i)) → P d → (i : ℕ) → P (getD (tabulate n f) i d)
-unfolding tabulate
-each-tabulate P zero f d h z i = z
-each-tabulate P (suc n) f d h z zero = h 0
-each-tabulate P (suc n) f d h z (suc i) = each-tabulate P n (λ j. f (suc j)) d (λ j. h (suc j)) z i
+use Rattle.zohmirka_laws.proofs.ReadChains.{each-tabulate, Held, signed-small}
 
 abbrev Word : ℕ → Type 0
 Word w = w < 4294967296
@@ -76,7 +69,7 @@ four a b c d p q r s (suc (suc (suc (suc i)))) = omega arith
 pub words-range : (ws : List ℕ) → ((i : ℕ) → Word (wordAt ws i)) → InRange (chainIn ws)
 unfolding chainIn
 words-range ws small =
-    by-lt (length ws) 168
+    by-lt (length ws) 201
     (λ h. subst InRange (few-chain ws h) blank-range)
     (λ h. rw (le-ltb _ _ h)
     (record {
@@ -131,7 +124,7 @@ module _ (c : Chain) (held : Held c) where
   unfolding trimmedRequest offsetsOf offsetOf
   request-small =
       each-tabulate Small (c .window .count) (offsetOf (c .grid .dims) (c .window)) []
-      (λ k. each-tabulate Entry (c .grid .dims) (λ d. getD (c .window .offsets) (4 * k + d) (pos 0)) (pos 0) (λ d. held .entries (4 * k + d)) (omega arith))
+      (λ k. each-tabulate Entry (c .grid .dims) (λ d. getD (c .window .offsets) (4 * k + d) (pos 0)) (pos 0) (λ d. held .window .1 (4 * k + d)) (omega arith))
       (λ j. omega arith)
 
   request-fits : FactorsFit (trimmedRequest (requestOf c) .kernel)

@@ -1,6 +1,6 @@
--- What a chain read from a sheet holds: arrays of their lengths, entries of 16 bits, factors that binary32 holds.
-use Prim.Native.Nat.{ℕ, zero, suc, _<_}
-use mathlib.Core.Bool.{Bool, true}
+-- What a chain read from a sheet holds: arrays of their lengths, entries of 16 bits, filter numbers of 8, factors that binary32 holds.
+use Prim.Native.Nat.{ℕ, zero, suc, _+_, _<_}
+use mathlib.Core.Bool.{Bool, true, false, cond}
 use mathlib.Core.List.{List, [], _∷_, map}
 use mathlib.Core.Path.{_≡_, refl, _∙_}
 use native.Mathlib.Omega.{arith}
@@ -13,33 +13,52 @@ use lib.Seq.{sets}
 use lib.Signed.{mag}
 use borrow.Author.Tests.{ltb-true, ltb-false}
 use Rattle.model.specs.Answers.{byVerdict}
-use Rattle.model.specs.Frames.{Seen, seenOf}
+use Rattle.model.specs.Frames.{whole, Seen, seenOf}
 use Rattle.model.specs.Lines.{Line, linesOf}
-use Rattle.model.specs.Lists.{all}
+use Rattle.model.specs.Lists.{tabulate, all}
 use Rattle.model.specs.NamedWindows.{windows, namedOf, entriesOf, withReferences, windowNamed}
-use Rattle.model.specs.Numbers.{signed, wordAt}
-use Rattle.model.specs.Reading.{withGrid, withOffset, withName, withCapacity, withKernel, kernelIn, entriesIn, sizesIn, taken, stepOf, start, readLines, lineVerdict}
+use Rattle.model.specs.Numbers.{byteAt, signed, wordAt}
+use Rattle.model.specs.Reading.{withGrid, withOffset, withName, withCapacity, withOrder, withKernel, kernelIn, entriesIn, sizesIn, filtersIn, taken, stepOf, start, readLines, lineVerdict}
 use Rattle.model.specs.declared.Chain.{Chain}
 use Rattle.model.specs.declared.LineStep.{LineStep}
+use Rattle.model.specs.declared.Order.{Order}
 use Rattle.model.specs.declared.Reading.{Reading}
 use Rattle.model.specs.declared.Verdict.{Verdict}
 use Rattle.model.specs.declared.Verdict.the-variants as verdict
 use Rattle.model.specs.declared.Window.{Window}
 use Rattle.model.specs.Values.{blankWindow, withReference}
+use Rattle.model.proofs.ListLaws.{length-tabulate}
 use Rattle.model.proofs.NameLaws.{by-name}
+use Rattle.sheet_laws.proofs.AcceptedLines.{admitted}
 use Rattle.sheet_laws.proofs.Cases.{by-bool, and-true}
 use Rattle.sheet_trips.specs.RoundTrips.{FactorsFit}
-use Rattle.sheet_trips.proofs.ReadBack.{blank-at}
+use Rattle.sheet_trips.proofs.Bytes.{small-bytes, small-at, small-padded, blank-at}
 use Rattle.sheet_trips.proofs.LineGoes.{smallEntries, small-fits}
 
 abbrev Each : List ℤ → Type 0
 Each l = (i : ℕ) → mag (getD l i (pos 0)) < 32768
 
+-- What holds of the function's values and of the default holds of every entry.
+pub each-tabulate : {A : Type 0} (P : A → Type 0) (n : ℕ) (f : ℕ → A) (d : A) → ((i : ℕ) → P (f i)) → P d → (i : ℕ) → P (getD (tabulate n f) i d)
+unfolding tabulate
+each-tabulate P zero f d h z i = z
+each-tabulate P (suc n) f d h z zero = h 0
+each-tabulate P (suc n) f d h z (suc i) = each-tabulate P n (λ j. f (suc j)) d (λ j. h (suc j)) z i
+
+abbrev Byte : ℕ → Type 0
+Byte b = b < 256
+
+abbrev HeldWindow : Window → Type 0
+HeldWindow w = (length (w .offsets) ≡ 128) × Each (w .offsets)
+
+abbrev HeldOrder : Order → Type 0
+HeldOrder o = (length (o .filters) ≡ 32) × ((t : ℕ) → Byte (getD (o .filters) t 0))
+
 pub record Held (c : Chain) : Type 0 where
   pub sizes : length (c .grid .sizes) ≡ 4
-  pub offsets : length (c .window .offsets) ≡ 128
-  pub entries : Each (c .window .offsets)
+  pub window : HeldWindow (c .window)
   pub capacities : length (c .capacities) ≡ 31
+  pub order : HeldOrder (c .order)
   pub factors : FactorsFit (c .kernel)
 
 each-set : (l : List ℤ) (k : ℕ) (v : ℤ) → mag v < 32768 → Each l → Each (set l k v)
@@ -70,8 +89,7 @@ each-entry x (suc (suc (suc zero))) = signed-small _
 each-entry x (suc (suc (suc (suc i)))) = omega arith
 
 -- The window of a name.
-each-reference : (es : List (List ℤ)) (w : Window) → all smallEntries es ≡ true → (length (w .offsets) ≡ 128) × Each (w .offsets)
-    → (length (withReferences w es .offsets) ≡ 128) × Each (withReferences w es .offsets)
+each-reference : (es : List (List ℤ)) (w : Window) → all smallEntries es ≡ true → HeldWindow w → HeldWindow (withReferences w es)
 unfolding all withReferences
 each-reference [] w h k = k
 each-reference (e ∷ es) w h k =
@@ -85,7 +103,7 @@ small-named : (name : ℕ) → SmallNamed name
 unfolding namedOf windows all smallEntries
 small-named = by-name SmallNamed refl refl refl refl refl refl (λ n. refl)
 
-named-held : (name : ℕ) → (length (windowNamed name .offsets) ≡ 128) × Each (windowNamed name .offsets)
+named-held : (name : ℕ) → HeldWindow (windowNamed name)
 unfolding windowNamed
 named-held name = each-reference (map entriesOf (namedOf name .triples)) blankWindow (small-named name) (refl, λ i. rw (blank-at 128 i (pos 0)) (omega arith))
 
@@ -98,40 +116,57 @@ kernel-fits x =
     (λ d.
     by-bool (eqb (getD x 1 0) 2) (λ f. rw (e, d, f) (ofBits-fits binary32 _)) (λ f. rw (e, d, f) (ofBits-fits binary32 _, ofBits-fits binary32 _))))
 
-module _ (r : Reading) (x : List ℕ) (h : Held (r .chain)) where
+module _ (r : Reading) (x : List ℕ) (small : (i : ℕ) → Byte (byteAt x i)) (h : Held (r .chain)) where
   held-taken : Held (taken r x .chain)
-  unfolding taken withGrid withOffset withName withCapacity withKernel sizesIn
+  unfolding taken withGrid withOffset withName withCapacity withOrder withKernel sizesIn filtersIn
   held-taken =
       by-bool (eqb (getD x 0 0) 1)
-      (λ e. rw e (record { sizes = refl; offsets = h .offsets; entries = h .entries; capacities = h .capacities; factors = h .factors }))
+      (λ e. rw e (record { sizes = refl; window = h .window; capacities = h .capacities; order = h .order; factors = h .factors }))
       (λ e.
       by-bool (eqb (getD x 0 0) 2)
       (λ d. rw (e, d)
       (record {
         sizes = h .sizes;
-        offsets = length-sets (entriesIn x) _ _ ∙ h .offsets;
-        entries = each-sets (entriesIn x) _ _ (each-entry x) (h .entries);
+        window = (length-sets (entriesIn x) _ _ ∙ h .window .0, each-sets (entriesIn x) _ _ (each-entry x) (h .window .1));
         capacities = h .capacities;
+        order = h .order;
         factors = h .factors;
       }))
       (λ d.
       by-bool (eqb (getD x 0 0) 3)
       (λ f. rw (e, d, f)
-      (record { sizes = h .sizes; offsets = h .offsets; entries = h .entries; capacities = length-set (r .chain .capacities) (r .given) (wordAt x 1) ∙ h .capacities; factors = h .factors }))
+      (record { sizes = h .sizes; window = h .window; capacities = length-set (r .chain .capacities) (r .given) (wordAt x 1) ∙ h .capacities; order = h .order; factors = h .factors }))
       (λ f.
+      by-bool (eqb (getD x 0 0) 6)
+      (λ o. rw (e, d, f, o) (record { sizes = h .sizes; window = h .window; capacities = h .capacities; order = order-held; factors = h .factors }))
+      (λ o.
       by-bool (eqb (getD x 0 0) 7)
-      (λ g. let n = named-held (getD x 1 0) in
-      rw (e, d, f, g) (record { sizes = h .sizes; offsets = n .0; entries = n .1; capacities = h .capacities; factors = h .factors }))
-      (λ g. rw (e, d, f, g)
-      (record { sizes = h .sizes; offsets = h .offsets; entries = h .entries; capacities = h .capacities; factors = kernel-fits x })))))
+      (λ g. rw (e, d, f, o, g) (record { sizes = h .sizes; window = named-held (getD x 1 0); capacities = h .capacities; order = h .order; factors = h .factors }))
+      (λ g. rw (e, d, f, o, g) (record { sizes = h .sizes; window = h .window; capacities = h .capacities; order = h .order; factors = kernel-fits x }))))))
+    where
+      n : ℕ
+      n = r .chain .window .count
 
-held-step : (chainSheet : Bool) (r : Reading) (l : Seen) → Held (r .chain) → Held (stepOf chainSheet r l .reading .chain)
+      byte : (t : ℕ) (b : Bool) → Byte (cond b (byteAt x (1 + t)) 0)
+      byte t true = small (1 + t)
+      byte t false = omega arith
+
+      order-held : HeldOrder (record { stood = true; filters = filtersIn n x })
+      order-held = (length-tabulate 32 (λ t. cond (ltb t n) (byteAt x (1 + t)) 0), each-tabulate Byte 32 (λ t. cond (ltb t n) (byteAt x (1 + t)) 0) 0 (λ t. byte t (ltb t n)) (omega arith))
+
+-- A line that is not turned back holds bytes.
+held-step : (chainSheet : Bool) (r : Reading) (l : Line) → Held (r .chain) → Held (stepOf chainSheet r (seenOf (l .ended) (l .chars)) .reading .chain)
 unfolding stepOf
-held-step chainSheet r l h = go (lineVerdict chainSheet r l)
+held-step chainSheet r l h = go (lineVerdict chainSheet r s) refl
   where
-    go : (v : Verdict) → Held (byVerdict v (taken r (l .first)) (λ x. r) .chain)
-    go verdict.Accepted = held-taken r (l .first) h
-    go (verdict.Refused x) = h
+    s : Seen
+    s = seenOf (l .ended) (l .chars)
+
+    go : (v : Verdict) → lineVerdict chainSheet r s ≡ v → Held (byVerdict v (taken r (s .first)) (λ x. r) .chain)
+    go verdict.Accepted e =
+        let digits = and-true (l .ended) (whole (l .chars)) (admitted chainSheet r s e .0) .1 in
+        held-taken r (s .first) (small-at (small-padded (small-bytes (l .chars) digits))) h
+    go (verdict.Refused x) e = h
 
 held-either : (v : Verdict) (a b : LineStep) → Held (a .reading .chain) → Held (b .reading .chain) → Held (byVerdict v a (λ x. b) .reading .chain)
 held-either verdict.Accepted a b h k = h
@@ -142,7 +177,7 @@ unfolding readLines
 held-lines chainSheet r [] h = h
 held-lines chainSheet r (l ∷ ls) h =
     let s = stepOf chainSheet r (seenOf (l .ended) (l .chars)) in
-    let k = held-step chainSheet r (seenOf (l .ended) (l .chars)) h in
+    let k = held-step chainSheet r l h in
     held-either (s .verdict) (readLines chainSheet (s .reading) ls) s (held-lines chainSheet (s .reading) ls k) k
 
 pub held-read : (chainSheet : Bool) (sheet : List ℕ) → Held (readLines chainSheet start (linesOf sheet) .reading .chain)
@@ -150,4 +185,10 @@ unfolding FactorsFit
 held-read chainSheet sheet = held-lines chainSheet start (linesOf sheet) held-start
   where
     held-start : Held (start .chain)
-    held-start = record { sizes = refl; offsets = refl; entries = λ i. rw (blank-at 128 i (pos 0)) (omega arith); capacities = refl; factors = tt }
+    held-start = record {
+      sizes = refl;
+      window = (refl, λ i. rw (blank-at 128 i (pos 0)) (omega arith));
+      capacities = refl;
+      order = (refl, λ t. rw (blank-at {A = ℕ} 32 t 0) (omega arith));
+      factors = tt;
+    }

@@ -11,7 +11,7 @@ use Rattle.model.specs.Answers.{Check, firstOf, byVerdict, numberOf, verdictNum
 use Rattle.model.specs.Lists.{sum}
 use Rattle.model.specs.Kernels.{width}
 use Rattle.model.specs.Values.{trimmed}
-use Rattle.model.specs.Judging.{windowChecks, kernelChecks, capacityChecks, valueChecks, judged, judgeChain}
+use Rattle.model.specs.Judging.{windowChecks, kernelChecks, chainChecks, valueChecks, judged, judgeChain}
 use Rattle.model.specs.Planning.{planOf}
 use Rattle.model.specs.Frames.{seenOf}
 use Rattle.model.specs.Lines.{Line, linesOf}
@@ -77,10 +77,10 @@ first-other (c ∷ cs) b = go (c .holds) (first-other cs (b .1))
 
 -- A chain is not judged by it,
 judged-other : (c : Chain) → Other (verdictNumber (judgeChain c))
-unfolding judgeChain judged windowChecks kernelChecks capacityChecks valueChecks numberOf
+unfolding judgeChain judged windowChecks kernelChecks chainChecks valueChecks numberOf
 judged-other c =
     first-other (valueChecks (trimmed c))
-    (λ e. omega arith, (λ e. omega arith, (λ e. omega arith, (λ e. omega arith, (λ e. omega arith, (λ e. omega arith, (λ e. omega arith, tt)))))))
+    (λ e. omega arith, (λ e. omega arith, (λ e. omega arith, (λ e. omega arith, (λ e. omega arith, (λ e. omega arith, (λ e. omega arith, (λ e. omega arith, tt))))))))
 
 -- nor is a sheet.
 lines-other : (ls : List Line) (r : Reading) → Other (verdictNumber (readLines true r ls .verdict))

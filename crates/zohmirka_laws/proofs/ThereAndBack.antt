@@ -1,8 +1,10 @@
 -- A chain's words give back the chain.
 use Prim.Native.Nat.{ℕ, _+_, _-_, _%_, _≤_, _<_}
+use mathlib.Core.Bool.{Bool, true, false, cond, not}
 use mathlib.Core.List.{List, [], _∷_}
 use mathlib.Core.Path.{_≡_, refl, sym, _∙_, ap}
 use native.Mathlib.Omega.{arith}
+use lib.Dec.{eqb}
 use lib.Ieee.{binary32}
 use lib.Ieee.Bits.{ofBits-toBits}
 use lib.IntN.{pos}
@@ -14,10 +16,11 @@ use Rattle.model.specs.declared.Chain.{Chain}
 use Rattle.model.specs.declared.Kernel.{Kernel}
 use Rattle.model.specs.declared.Kernel.the-variants as kernel
 use Rattle.model.proofs.ListLaws.{tabulate-back}
+use Rattle.sheet_laws.proofs.Cases.{by-lt}
 use Rattle.sheet_trips.specs.RoundTrips.{FactorsFit}
 use Rattle.sheet_trips.proofs.Values.{signed-pattern, pattern-small}
-use Rattle.zohmirka_words.specs.Words.{wordAt, laid, kernelWords, chainWord, chainWords, countIn, kernelIn, chainIn}
-use Rattle.zohmirka_words.proofs.WordLaws.{chain-of-words}
+use Rattle.zohmirka_words.specs.Words.{wordAt, laid, kernelWords, chainWord, chainWords, countIn, kernelIn, orderIn, chainIn}
+use Rattle.zohmirka_words.proofs.WordLaws.{at-stood, at-filter, order-of-words, chain-of-words}
 use Rattle.zohmirka_laws.proofs.Laid.{laid-long, laid-at}
 use Rattle.zohmirka_laws.proofs.ReadChains.{Held}
 
@@ -28,9 +31,9 @@ kernel-back kernel.Difference h = refl
 kernel-back (kernel.Scaled f) h = ap kernel.Scaled (ofBits-toBits binary32 f h)
 kernel-back (kernel.Blend g) (a, b) = rw (ofBits-toBits binary32 (g .a) a, ofBits-toBits binary32 (g .b) b)
 
-count-back : (n : ℕ) → n < 255 → n ≡ countIn n
+count-back : (n : ℕ) → n < 256 → n ≡ countIn n
 unfolding countIn
-count-back n h = rw (lt-ltb _ _ h)
+count-back n h = by-lt n 255 (λ l. rw (lt-ltb _ _ l)) (λ l. rw (le-ltb _ _ l) (omega arith))
 
 module _ (c : Chain) where
   at-dims : chainWord c 0 ≡ c .grid .dims
@@ -80,18 +83,19 @@ module _ (c : Chain) where
     abbrev ws : List ℕ
     ws = laid (chainWords c) old
 
-    long : 168 ≤ length ws
+    long : 201 ≤ length ws
     unfolding chainWords
-    long = laid-long 168 (chainWord c) old
+    long = laid-long 201 (chainWord c) old
 
-    at : (i : ℕ) → i < 168 → wordAt ws i ≡ chainWord c i
+    at : (i : ℕ) → i < 201 → wordAt ws i ≡ chainWord c i
     unfolding chainWords
-    at i h = laid-at 168 (chainWord c) old i h
+    at i h = laid-at 201 (chainWord c) old i h
 
     pub chain-back : Held c → c .grid .dims ≤ 4 → c .window .count ≤ 32 → c ≡ chainIn ws
     unfolding tabulate
     chain-back h few some =
-        chain-of-words ws (c .grid .dims) (c .window .count) (c .grid .sizes) (c .capacities) (c .window .offsets) (c .kernel) long dims sizes count offsets capacities kernels
+        chain-of-words ws (c .grid .dims) (c .window .count) (c .grid .sizes) (c .capacities) (c .window .offsets) (c .order) (c .kernel) long dims sizes count offsets capacities orders
+        kernels
       where
         dims : c .grid .dims ≡ countIn (wordAt ws 0)
         dims = count-back (c .grid .dims) (omega arith) ∙ ap countIn (sym (at 0 (omega arith) ∙ at-dims))
@@ -105,16 +109,29 @@ module _ (c : Chain) where
         offsets : c .window .offsets ≡ tabulate 128 (λ i. signed (wordAt ws (6 + i) % 65536))
         offsets =
             sym
-            (tabulate-back (pos 0) (c .window .offsets) 128 (λ i. signed (wordAt ws (6 + i) % 65536)) (h .offsets)
+            (tabulate-back (pos 0) (c .window .offsets) 128 (λ i. signed (wordAt ws (6 + i) % 65536)) (h .window .0)
             (λ i b.
             let e = getD (c .window .offsets) i (pos 0) in
-            rw (at (6 + i) (omega arith), at-entry i b, mod-small (pattern e) (pattern-small e (h .entries i))) (signed-pattern e (h .entries i))))
+            rw (at (6 + i) (omega arith), at-entry i b, mod-small (pattern e) (pattern-small e (h .window .1 i))) (signed-pattern e (h .window .1 i))))
           where
             mod-small : (w : ℕ) → w < 65536 → w % 65536 ≡ w
             mod-small w b = omega arith
 
         capacities : c .capacities ≡ tabulate 31 (λ k. wordAt ws (134 + k))
         capacities = sym (tabulate-back 0 (c .capacities) 31 (λ k. wordAt ws (134 + k)) (h .capacities) (λ k b. at (134 + k) (omega arith) ∙ at-capacity k b))
+
+        orders : c .order ≡ orderIn ws
+        orders = order-of-words ws (c .order .stood) (c .order .filters) (stood (c .order .stood) (at 168 (omega arith) ∙ at-stood c)) filters
+          where
+            stood : (b : Bool) → wordAt ws 168 ≡ cond b 1 0 → b ≡ not (eqb (wordAt ws 168) 0)
+            stood true e = rw e
+            stood false e = rw e
+
+            filters : c .order .filters ≡ tabulate 32 (λ t. countIn (wordAt ws (169 + t)))
+            filters =
+                sym
+                (tabulate-back 0 (c .order .filters) 32 (λ t. countIn (wordAt ws (169 + t))) (h .order .0)
+                (λ t b. ap countIn (at (169 + t) (omega arith) ∙ at-filter c t b) ∙ sym (count-back (getD (c .order .filters) t 0) (h .order .1 t))))
 
         kernels : c .kernel ≡ kernelIn (wordAt ws 165) (wordAt ws 166) (wordAt ws 167)
         kernels =

@@ -1,12 +1,15 @@
 -- Lists whose first entries are set one after the other; states and chains by their words.
-use Prim.Native.Nat.{ℕ, zero, suc, _+_, _%_, _≤_, _<_}
+use Prim.Native.Nat.{ℕ, zero, suc, _+_, _-_, _%_, _≤_, _<_}
+use mathlib.Core.Bool.{Bool, true, false, cond, not}
 use mathlib.Core.List.{List, [], _∷_, _++_}
 use mathlib.Core.Path.{_≡_, refl, sym, _∙_, ap}
 use native.Mathlib.Nat.{le-of-suc-le-suc}
 use native.Mathlib.Numerals.{add-one}
 use native.Mathlib.Omega.{arith}
+use lib.Dec.{eqb}
 use lib.IntN.{ℤ}
 use lib.ListN.{length, getD, drop, set, replicate}
+use mir.Val.{boolByte}
 use borrow.Author.Tests.{lt-ltb, le-ltb}
 use Rattle.model.specs.Lists.{tabulate}
 use Rattle.model.specs.Numbers.{signed}
@@ -14,9 +17,10 @@ use Rattle.model.specs.Values.{blankChain}
 use Rattle.model.specs.declared.CellsPassed.{CellsPassed}
 use Rattle.model.specs.declared.Chain.{Chain}
 use Rattle.model.specs.declared.Kernel.{Kernel}
+use Rattle.model.specs.declared.Order.{Order}
 use Rattle.model.specs.declared.State.{State}
 use Rattle.model.proofs.ListLaws.{length-tabulate}
-use Rattle.zohmirka_words.specs.Words.{wordAt, laid, counter, stateWord, stateWords, stateIn, stateInto, chainWord, chainWords, chainInto, countIn, kernelIn, chainIn}
+use Rattle.zohmirka_words.specs.Words.{wordAt, laid, counter, stateWord, stateWords, stateIn, stateInto, chainWord, chainWords, chainInto, countIn, kernelIn, orderIn, chainIn}
 
 -- The first k entries f's, the others as they were.
 abbrev pub front : {A : Type 0} → (ℕ → A) → ℕ → List A → List A
@@ -59,6 +63,25 @@ module _ {A : Type 0} where
 front-laid : (f : ℕ → ℕ) (n : ℕ) (old : List ℕ) → front f n old ≡ laid (tabulate n f) old
 front-laid f n old = rw length-tabulate
 
+-- The words of an order in its chain.
+module _ (c : Chain) where
+  pub at-stood : chainWord c 168 ≡ cond (c .order .stood) 1 0
+  unfolding chainWord
+  at-stood = refl
+
+  pub at-filter : (t : ℕ) → t < 32 → chainWord c (169 + t) ≡ getD (c .order .filters) t 0
+  unfolding chainWord
+  at-filter t h =
+      let a : 1 ≤ 169 + t = omega arith in
+      let b : 5 ≤ 169 + t = omega arith in
+      let d : 6 ≤ 169 + t = omega arith in
+      let f : 134 ≤ 169 + t = omega arith in
+      let g : 165 ≤ 169 + t = omega arith in
+      let k : 168 ≤ 169 + t = omega arith in
+      let l : 169 ≤ 169 + t = omega arith in
+      let e : 169 + t - 169 ≡ t = omega arith in
+      rw (le-ltb _ _ a, le-ltb _ _ b, le-ltb _ _ d, le-ltb _ _ f, le-ltb _ _ g, le-ltb _ _ k, le-ltb _ _ l, e)
+
 module _ (ws : List ℕ) where
   pub few-state : length ws < 33 → _≡_ {A = State} (record { passed = replicate 32 (counter 0); fired = record { 0 = 4294967295 } }) (stateIn ws)
   unfolding stateIn
@@ -85,24 +108,48 @@ module _ (ws : List ℕ) where
       let e : k ≡ 32 = omega arith in
       rw (le-ltb _ _ l) (front-more (stateWord s) 32 ws xs (s .fired .0) l refl (rw e at r) ∙ front-laid (stateWord s) 33 ws)
 
-  pub few-places : (c : Chain) → length ws < 168 → ws ≡ chainInto c ws
+  pub few-places : (c : Chain) → length ws < 201 → ws ≡ chainInto c ws
   unfolding chainInto
   few-places c h = rw (lt-ltb _ _ h)
 
-  pub words-of-chain : (c : Chain) (k : ℕ) (xs : List ℕ) → 168 ≤ k → k ≤ 168 → 168 ≤ length ws → xs ≡ front (chainWord c) k ws → xs ≡ chainInto c ws
-  unfolding chainInto chainWords
-  words-of-chain c k xs h g l r =
+  -- Whether the order stood, one filter more, and all words.
+  pub stood-more : (c : Chain) (k : ℕ) (xs : List ℕ) → 168 ≤ k → k ≤ 168 → 201 ≤ length ws → xs ≡ front (chainWord c) k ws
+      → set xs 168 (boolByte (c .order .stood)) ≡ front (chainWord c) 169 ws
+  stood-more c k xs h g l r =
       let e : k ≡ 168 = omega arith in
-      rw (le-ltb _ _ l) (r ∙ rw e (front-laid (chainWord c) 168 ws))
+      let d : 168 < length ws = omega arith in
+      front-more (chainWord c) 168 ws xs (boolByte (c .order .stood)) d (byte (c .order .stood) ∙ sym (at-stood c)) (rw e at r)
+    where
+      byte : (b : Bool) → boolByte b ≡ cond b 1 0
+      byte true = refl
+      byte false = refl
 
-  pub few-chain : length ws < 168 → blankChain ≡ chainIn ws
+  pub filter-more : (c : Chain) (t : ℕ) (xs : List ℕ) → t < 32 → 201 ≤ length ws → xs ≡ front (chainWord c) (169 + t) ws
+      → set xs (169 + t) (getD (c .order .filters) t 0) ≡ front (chainWord c) (169 + (t + 1)) ws
+  filter-more c t xs h l r =
+      let e : 169 + (t + 1) ≡ 169 + t + 1 = omega arith in
+      let d : 169 + t < length ws = omega arith in
+      rw e (front-more (chainWord c) (169 + t) ws xs (getD (c .order .filters) t 0) d (sym (at-filter c t h)) r)
+
+  pub words-of-chain : (c : Chain) (t : ℕ) (xs : List ℕ) → 32 ≤ t → t ≤ 32 → 201 ≤ length ws → xs ≡ front (chainWord c) (169 + t) ws → xs ≡ chainInto c ws
+  unfolding chainInto chainWords
+  words-of-chain c t xs h g l r =
+      let e : 169 + t ≡ 201 = omega arith in
+      rw (le-ltb _ _ l) (r ∙ rw e (front-laid (chainWord c) 201 ws))
+
+  pub few-chain : length ws < 201 → blankChain ≡ chainIn ws
   unfolding chainIn
   few-chain h = rw (lt-ltb _ _ h)
 
-  pub chain-of-words : (dims count : ℕ) (sizes capacities : List ℕ) (offsets : List ℤ) (k : Kernel) → 168 ≤ length ws
+  pub order-of-words : (stood : Bool) (filters : List ℕ) → stood ≡ not (eqb (wordAt ws 168) 0) → filters ≡ tabulate 32 (λ t. countIn (wordAt ws (169 + t)))
+      → _≡_ {A = Order} (record { stood = stood; filters = filters }) (orderIn ws)
+  unfolding orderIn
+  order-of-words stood filters e d = rw (e, d)
+
+  pub chain-of-words : (dims count : ℕ) (sizes capacities : List ℕ) (offsets : List ℤ) (o : Order) (k : Kernel) → 201 ≤ length ws
       → dims ≡ countIn (wordAt ws 0) → sizes ≡ wordAt ws 1 ∷ wordAt ws 2 ∷ wordAt ws 3 ∷ wordAt ws 4 ∷ [] → count ≡ countIn (wordAt ws 5)
       → offsets ≡ tabulate 128 (λ i. signed (wordAt ws (6 + i) % 65536)) → capacities ≡ tabulate 31 (λ i. wordAt ws (134 + i))
-      → k ≡ kernelIn (wordAt ws 165) (wordAt ws 166) (wordAt ws 167)
-      → record { grid = record { dims = dims; sizes = sizes }; window = record { count = count; offsets = offsets }; capacities = capacities; kernel = k } ≡ chainIn ws
+      → o ≡ orderIn ws → k ≡ kernelIn (wordAt ws 165) (wordAt ws 166) (wordAt ws 167)
+      → record { grid = record { dims = dims; sizes = sizes }; window = record { count = count; offsets = offsets }; capacities = capacities; order = o; kernel = k } ≡ chainIn ws
   unfolding chainIn
-  chain-of-words dims count sizes capacities offsets k h e1 e2 e3 e4 e5 e6 = rw (le-ltb _ _ h, e1, e2, e3, e4, e5, e6)
+  chain-of-words dims count sizes capacities offsets o k h e1 e2 e3 e4 e5 e6 e7 = rw (le-ltb _ _ h, e1, e2, e3, e4, e5, e6, e7)

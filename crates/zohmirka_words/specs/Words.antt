@@ -1,6 +1,6 @@
 -- A state and a chain as words.
 use Prim.Native.Nat.{ℕ, _+_, _-_, _%_}
-use mathlib.Core.Bool.{cond}
+use mathlib.Core.Bool.{cond, not}
 use mathlib.Core.List.{List, [], _∷_, _++_}
 use lib.Dec.{eqb, ltb}
 use lib.IntN.{pos}
@@ -13,6 +13,7 @@ use Rattle.model.specs.declared.CellsPassed.{CellsPassed}
 use Rattle.model.specs.declared.Chain.{Chain}
 use Rattle.model.specs.declared.Kernel.{Kernel}
 use Rattle.model.specs.declared.Kernel.the-variants as kernel
+use Rattle.model.specs.declared.Order.{Order}
 use Rattle.model.specs.declared.State.{State}
 
 abbrev pub wordAt : List ℕ → ℕ → ℕ
@@ -47,10 +48,10 @@ stateIn ws =
     (record { passed = replicate 32 (counter 0); fired = record { 0 = 4294967295 } })
     (record { passed = tabulate 32 (λ k. counter (wordAt ws k)); fired = record { 0 = wordAt ws 32 } })
 
--- Chains: dimension count, sizes, number of references, entries, capacities, kernel and factors.
+-- Chains: dimension count, sizes, number of references, entries, capacities, kernel and factors, whether the author's order stood, its filters.
 
 abbrev pub chainSize : ℕ
-chainSize = 168
+chainSize = 201
 
 unfoldable pub kernelWords : Kernel → List ℕ
 kernelWords kernel.Raw = 0 ∷ 0 ∷ 0 ∷ []
@@ -65,12 +66,14 @@ chainWord c i =
     (cond (ltb i 6) (c .window .count)
     (cond (ltb i 134) (pattern (getD (c .window .offsets) (i - 6) (pos 0)))
     (cond (ltb i 165) (getD (c .capacities) (i - 134) 0)
-    (getD (kernelWords (c .kernel)) (i - 165) 0)))))
+    (cond (ltb i 168) (getD (kernelWords (c .kernel)) (i - 165) 0)
+    (cond (ltb i 169) (cond (c .order .stood) 1 0)
+    (getD (c .order .filters) (i - 169) 0)))))))
 
 unfoldable pub chainWords : Chain → List ℕ
 chainWords c = tabulate chainSize (chainWord c)
 
--- A count of 8 bits; 255, which 3 and 4 turn back, for all that are greater.
+-- A count or a filter number of 8 bits; 255, which 3, 4 and 14 turn back where it plays a part, for all that are greater.
 unfoldable pub countIn : ℕ → ℕ
 countIn w = cond (ltb w 255) w 255
 
@@ -83,6 +86,10 @@ kernelIn which a b =
     (cond (eqb which 3) (kernel.Blend (record { a = float a; b = float b }))
     (kernel.Scaled (float 0x7FC00000)))))
 
+-- The order stood if its first word is not 0.
+unfoldable pub orderIn : List ℕ → Order
+orderIn ws = record { stood = not (eqb (wordAt ws 168) 0); filters = tabulate 32 (λ t. countIn (wordAt ws (169 + t))) }
+
 -- Too few words are taken for the blank chain, which 3 turns back.
 unfoldable pub chainIn : List ℕ → Chain
 chainIn ws =
@@ -91,6 +98,7 @@ chainIn ws =
       grid = record { dims = countIn (wordAt ws 0); sizes = wordAt ws 1 ∷ wordAt ws 2 ∷ wordAt ws 3 ∷ wordAt ws 4 ∷ [] };
       window = record { count = countIn (wordAt ws 5); offsets = tabulate 128 (λ i. signed (wordAt ws (6 + i) % 65536)) };
       capacities = tabulate 31 (λ k. wordAt ws (134 + k));
+      order = orderIn ws;
       kernel = kernelIn (wordAt ws 165) (wordAt ws 166) (wordAt ws 167);
     })
 

@@ -5,6 +5,7 @@ use model::Factors;
 use model::FiringsMade;
 use model::Grid;
 use model::Kernel;
+use model::Order;
 use model::State;
 use model::Window;
 ghost use mathlib.Core.Path.{_≡_};
@@ -12,7 +13,7 @@ ghost use Prim.Native.Nat.{_+_, _%_, _≤_, _<_};
 ghost use lib.ListN.{length};
 ghost use Rattle.model.specs.Lists.{tabulate};
 ghost use Rattle.model.specs.Numbers.{signed};
-ghost use Rattle.zohmirka_words.specs.Words.{wordAt, stateIn, stateInto, kernelWords, chainWord, chainInto, countIn, kernelIn, chainIn};
+ghost use Rattle.zohmirka_words.specs.Words.{wordAt, stateIn, stateInto, kernelWords, chainWord, chainInto, countIn, kernelIn, orderIn, chainIn};
 
 // The state of its words.
 pub fn state_in(words: &[u32]) -> State
@@ -91,7 +92,7 @@ fn kernel_in(which: u32, a: u32, b: u32) -> Kernel
 }
 
 fn offsets_in(words: &[u32]) -> [i16; 128]
-    requires { ⌜ 168 ≤ length (now words) ⌝ }
+    requires { ⌜ 201 ≤ length (now words) ⌝ }
     ensures { λ r. ⌜ r ≡ tabulate 128 (λ i. signed (wordAt (now (words .entry)) (6 + i) % 65536)) ⌝ }
 {
     let mut offsets = [0i16; 128];
@@ -105,7 +106,7 @@ fn offsets_in(words: &[u32]) -> [i16; 128]
 }
 
 fn capacities_in(words: &[u32]) -> [u32; 31]
-    requires { ⌜ 168 ≤ length (now words) ⌝ }
+    requires { ⌜ 201 ≤ length (now words) ⌝ }
     ensures { λ r. ⌜ r ≡ tabulate 31 (λ k. wordAt (now (words .entry)) (134 + k)) ⌝ }
 {
     let mut capacities = [0u32; 31];
@@ -117,11 +118,27 @@ fn capacities_in(words: &[u32]) -> [u32; 31]
     capacities
 }
 
+fn order_in(words: &[u32]) -> Order
+    requires { ⌜ 201 ≤ length (now words) ⌝ }
+    ensures { λ r. ⌜ r ≡ orderIn (now (words .entry)) ⌝ }
+{
+    let mut filters = [0u8; 32];
+    let mut t: usize = 0;
+    while t < 32 {
+        filters[t] = count_in(words[169 + t]);
+        t += 1;
+    }
+    Order {
+        stood: words[168] != 0,
+        filters,
+    }
+}
+
 // The chain of its words.
 pub fn chain_in(words: &[u32]) -> Chain
     ensures { λ r. ⌜ r ≡ chainIn (now (words .entry)) ⌝ }
 {
-    if words.len() < 168 {
+    if words.len() < 201 {
         return values::blank_chain();
     }
     let grid = Grid {
@@ -136,6 +153,7 @@ pub fn chain_in(words: &[u32]) -> Chain
         grid,
         window,
         capacities: capacities_in(words),
+        order: order_in(words),
         kernel: kernel_in(words[165], words[166], words[167]),
     }
 }
@@ -151,7 +169,7 @@ fn kernel_words(k: Kernel) -> [u32; 3]
     }
 }
 
-// Word i of a chain.
+// Word i of a chain, of those before its order.
 fn chain_word(c: Chain, i: usize) -> u32
     requires { ⌜ i < 168 ⌝ }
     ensures { λ r. ⌜ r ≡ chainWord c i ⌝ }
@@ -186,12 +204,20 @@ fn chain_word(c: Chain, i: usize) -> u32
 pub fn chain_out(c: Chain, words: &mut [u32])
     ensures { λ _. ⌜ now (words .exit) ≡ chainInto c (now (words .entry)) ⌝ }
 {
-    if words.len() < 168 {
+    if words.len() < 201 {
         return;
     }
     let mut i: usize = 0;
     while i < 168 {
         words[i] = chain_word(c, i);
         i += 1;
+    }
+    let order = c.order;
+    words[168] = order.stood as u32;
+    let filters = order.filters;
+    let mut t: usize = 0;
+    while t < 32 {
+        words[169 + t] = filters[t] as u32;
+        t += 1;
     }
 }

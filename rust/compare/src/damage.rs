@@ -27,7 +27,7 @@ fn characters(dice: &mut Dice, text: &mut Vec<u8>) {
 }
 
 fn lines(dice: &mut Dice, text: &mut Vec<u8>) {
-    const OTHERS: [&str; 31] = [
+    const OTHERS: [&str; 37] = [
         "",
         "01",
         "0100",
@@ -51,6 +51,12 @@ fn lines(dice: &mut Dice, text: &mut Vec<u8>) {
         "04047F800000",
         "04033F80000040000000",
         "0500000001",
+        "06",
+        "0600",
+        "0601",
+        "060001",
+        "060100",
+        "06010002",
         "07",
         "0700",
         "0701",
@@ -62,7 +68,7 @@ fn lines(dice: &mut Dice, text: &mut Vec<u8>) {
     ];
     let mut lines: Vec<Vec<u8>> = text.split(|&c| c == b'\n').map(<[u8]>::to_vec).collect();
     let (k, j) = (dice.below(lines.len()), dice.below(lines.len()));
-    match dice.below(10) {
+    match dice.below(11) {
         0 => {
             lines.remove(k);
         }
@@ -81,9 +87,20 @@ fn lines(dice: &mut Dice, text: &mut Vec<u8>) {
             let at = 1 + 2 * dice.below(2).min((lines[k].len() - 2) / 2);
             lines[k][at] = dice.pick(b"01234567F");
         }
+        9 => {
+            // An order, of as many bytes as there are references or nearly.
+            let count = lines.iter().filter(|line| line.starts_with(b"02")).count();
+            let bytes = (count + dice.below(3)).saturating_sub(1);
+            let mut order = b"06".to_vec();
+            for _ in 0..bytes {
+                order.extend(format!("{:02X}", dice.below(count + 2)).bytes());
+            }
+            let behind = lines.len().saturating_sub(2);
+            lines.insert(if dice.one_in(2) { behind } else { j }, order);
+        }
         _ => {
             // A long line, sound or not.
-            let mut long = b"02".repeat(1 + dice.below(300));
+            let mut long = dice.pick(&[b"02", b"06"]).repeat(1 + dice.below(300));
             if dice.one_in(2) {
                 let at = dice.below(long.len());
                 long[at] = dice.pick(b"G0F");

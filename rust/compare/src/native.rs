@@ -60,6 +60,13 @@ extern "C" {
         out_len: usize,
         allowance: u32,
     ) -> Report;
+    fn zohmirka_judge_chain(chain: *const u32, chain_len: usize) -> u32;
+    fn zohmirka_write_chain(
+        chain: *const u32,
+        chain_len: usize,
+        sheet: *mut u8,
+        sheet_len: usize,
+    ) -> Sheet;
 }
 
 pub fn plan(request: &[u8], sheet: &mut [u8]) -> Sheet {
@@ -130,4 +137,12 @@ pub fn run_chain(
             allowance,
         )
     }
+}
+
+pub fn judge_chain(chain: &[u32]) -> u32 {
+    unsafe { zohmirka_judge_chain(chain.as_ptr(), chain.len()) }
+}
+
+pub fn write_chain(chain: &[u32], sheet: &mut [u8]) -> Sheet {
+    unsafe { zohmirka_write_chain(chain.as_ptr(), chain.len(), sheet.as_mut_ptr(), sheet.len()) }
 }

@@ -7,6 +7,8 @@ pub struct Tally {
     pub outcomes: [u64; 5],
     /// Firings compared, by dimension count and kernel.
     pub firings: [[u64; 4]; 4],
+    /// Those whose terms go in an order other than the chain's.
+    pub ordered: u64,
     pub clocks: u64,
 }
 
@@ -17,17 +19,21 @@ pub enum Function {
     ReadChain,
     Run,
     RunChain,
+    JudgeChain,
+    WriteChain,
 }
 
 /// The greatest number of a refusal.
-const NUMBERS: usize = 13;
+const NUMBERS: usize = 14;
 /// Each function with the numbers that it can answer.
-const FUNCTIONS: [(&str, &[usize]); 5] = [
+const FUNCTIONS: [(&str, &[usize]); 7] = [
     ("plan", &[1, 2, 3, 4, 5, 6, 7, 8, 9, 12, 13]),
-    ("judge", &[1, 2, 3, 4, 5, 6, 7, 8, 9]),
-    ("read_chain", &[1, 2, 3, 4, 5, 6, 7, 8, 9, 12]),
-    ("run", &[1, 2, 3, 4, 5, 6, 7, 8, 9, 10, 11]),
-    ("run_chain", &[3, 4, 5, 6, 7, 8, 9, 10, 11]),
+    ("judge", &[1, 2, 3, 4, 5, 6, 7, 8, 9, 14]),
+    ("read_chain", &[1, 2, 3, 4, 5, 6, 7, 8, 9, 12, 14]),
+    ("run", &[1, 2, 3, 4, 5, 6, 7, 8, 9, 10, 11, 14]),
+    ("run_chain", &[3, 4, 5, 6, 7, 8, 9, 10, 11, 14]),
+    ("judge_chain", &[3, 4, 5, 6, 7, 8, 9, 14]),
+    ("write_chain", &[3, 4, 5, 6, 7, 8, 9, 12, 14]),
 ];
 const KERNELS: [&str; 4] = ["raw", "difference", "scaled", "blend"];
 const OUTCOMES: [&str; 5] = ["Done", "Spent", "Starved", "Stalled", "Full"];
@@ -38,6 +44,7 @@ impl Tally {
             refusals: [[0; NUMBERS + 1]; FUNCTIONS.len()],
             outcomes: [0; 5],
             firings: [[0; 4]; 4],
+            ordered: 0,
             clocks: 0,
         }
     }
@@ -51,16 +58,20 @@ impl Tally {
         self.outcomes[report.outcome as usize] += 1;
         let (kernel, ..) = chain.kernel.bits();
         self.firings[chain.grid.dims as usize - 1][kernel as usize] += report.firings as u64;
+        let n = chain.window.count as usize;
+        if kernel != 0 && (0..n).any(|t| chain.term(t) != t) {
+            self.ordered += report.firings as u64;
+        }
         self.clocks += report.clocks as u64;
     }
 
     pub fn print(&self) {
-        print!("{:10} {:>9} {:>8}", "", "calls", "accepted");
+        print!("{:11} {:>9} {:>8}", "", "calls", "accepted");
         (1..=NUMBERS).for_each(|number| print!(" {number:>7}"));
         println!();
         for ((name, ..), counts) in FUNCTIONS.iter().zip(&self.refusals) {
             print!(
-                "{name:10} {:>9} {:>8}",
+                "{name:11} {:>9} {:>8}",
                 counts.iter().sum::<u64>(),
                 counts[0]
             );
@@ -72,19 +83,23 @@ impl Tally {
             .zip(&self.outcomes)
             .map(|(name, count)| format!("{name} {count}"))
             .collect();
-        println!("outcomes   {}", outcomes.join(", "));
+        println!("outcomes    {}", outcomes.join(", "));
         println!("{} clocks; firings:", self.clocks);
         println!(
-            "{:10} {}",
+            "{:11} {}",
             "",
             KERNELS.map(|name| format!("{name:>12}")).concat()
         );
         for (firings, dims) in self.firings.iter().zip(1..) {
             println!(
-                "{dims} dim.     {}",
+                "{dims} dim.      {}",
                 firings.map(|count| format!("{count:>12}")).concat()
             );
         }
+        println!(
+            "{} of them in an order other than the chain's",
+            self.ordered
+        );
     }
 
     /// What should have come up and did not.
@@ -105,6 +120,9 @@ impl Tally {
         }
         if self.firings.iter().flatten().any(|&count| count == 0) {
             missing.push("a kernel never fired".to_string());
+        }
+        if self.ordered == 0 {
+            missing.push("no kernel added in an order other than the chain's".to_string());
         }
         missing
     }

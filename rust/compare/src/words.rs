@@ -2,7 +2,7 @@
 use crate::native::Report;
 use straight::{Answer, Chain, Factors, Kernel, State};
 
-pub const CHAIN_WORDS: usize = 168;
+pub const CHAIN_WORDS: usize = 201;
 pub const STATE_WORDS: usize = 33;
 
 pub fn chain_words(chain: &Chain) -> [u32; CHAIN_WORDS] {
@@ -15,7 +15,11 @@ pub fn chain_words(chain: &Chain) -> [u32; CHAIN_WORDS] {
     }
     words[134..165].copy_from_slice(&chain.capacities);
     let (kind, a, b) = chain.kernel.bits();
-    words[165..].copy_from_slice(&[kind as u32, a, b]);
+    words[165..168].copy_from_slice(&[kind as u32, a, b]);
+    words[168] = chain.order.stood as u32;
+    for (word, &filter) in words[169..].iter_mut().zip(&chain.order.filters) {
+        *word = filter as u32;
+    }
     words
 }
 
@@ -39,6 +43,10 @@ pub fn chain_of(words: &[u32]) -> Chain {
         3 => Kernel::Blend(Factors { a, b }),
         _ => Kernel::Scaled(f32::NAN),
     };
+    chain.order.stood = words[168] != 0;
+    for (filter, &word) in chain.order.filters.iter_mut().zip(&words[169..]) {
+        *filter = word.min(255) as u8;
+    }
     chain
 }
 

@@ -1,6 +1,6 @@
 use crate::geometry::{Shape, Walk};
-use crate::judge::{capacity_sum, centre, judge_chain};
-use crate::kernel::{apply, words};
+use crate::judge::{capacity_sum, judge_chain};
+use crate::kernel::{apply, words, Terms};
 use crate::types::{Answer, Chain, Counts, Outcome, Refusal, State};
 
 pub fn run(
@@ -64,7 +64,7 @@ fn go(
     allowance: u32,
 ) -> Outcome {
     let n = shape.count;
-    let centre = centre(&chain.window, shape.dims).unwrap_or(0);
+    let terms = Terms::new(chain);
     let size = words(&chain.kernel, n);
     let mut start = [0usize; 32];
     for k in 1..n {
@@ -106,7 +106,7 @@ fn go(
                 }
                 passed[k] += 1;
             }
-            apply(&chain.kernel, centre, &heads[..n], &mut out[written..]);
+            apply(&chain.kernel, &terms, &heads[..n], &mut out[written..]);
             written += size;
             counts.cells += 1;
             counts.firings += 1;

@@ -17,15 +17,15 @@ mod native;
 use std::sync::Once;
 
 /// The version of the interface that this crate is written for.
-pub const VERSION: u32 = 1;
+pub const VERSION: u32 = 2;
 /// No chain sheet has more bytes.
-pub const SHEET_BYTES: usize = 1007;
+pub const SHEET_BYTES: usize = 1074;
 /// No accepted chain needs more words of store.
 pub const STORE_WORDS: usize = 16384;
 /// No firing of an accepted chain writes more words.
 pub const FIRING_WORDS: usize = 32;
 pub const STATE_WORDS: usize = 33;
-pub const CHAIN_WORDS: usize = 168;
+pub const CHAIN_WORDS: usize = 201;
 
 /// The version of the library that is linked.
 pub fn version() -> u32 {
@@ -60,6 +60,7 @@ pub enum Refusal {
     BadState,
     ShortOutput,
     BadName,
+    BadOrder,
     /// A number that has no name here.
     Other(u32),
 }
@@ -80,6 +81,7 @@ impl Refusal {
             Refusal::BadState => 11,
             Refusal::ShortOutput => 12,
             Refusal::BadName => 13,
+            Refusal::BadOrder => 14,
             Refusal::Other(number) => number,
         }
     }
@@ -99,6 +101,7 @@ impl Refusal {
             11 => Refusal::BadState,
             12 => Refusal::ShortOutput,
             13 => Refusal::BadName,
+            14 => Refusal::BadOrder,
             _ => Refusal::Other(number),
         }
     }
@@ -120,6 +123,7 @@ impl std::fmt::Display for Refusal {
             Refusal::BadState => "a state whose counters do not fit the chain",
             Refusal::ShortOutput => "an output that is too short for what is to be written",
             Refusal::BadName => "no name of a window, or one of other dimensions than the grid's",
+            Refusal::BadOrder => "an order that does not hold each filter number once",
             Refusal::Other(_) => "a number that has no name here",
         };
         write!(f, "refused by {}: {}", self.number(), text)
@@ -273,6 +277,14 @@ impl Chain {
         &self.words[134..134 + fifos]
     }
 
+    /// The author's order, where it stood: the filter number of each term in turn.
+    pub fn order(&self) -> Option<&[u32]> {
+        if self.words[168] == 0 {
+            return None;
+        }
+        Some(&self.words[169..169 + self.references().min(32)])
+    }
+
     /// The capacities' sum: how many words the store needs.
     pub fn places(&self) -> usize {
         self.capacities().iter().map(|&c| c as usize).sum()
@@ -339,7 +351,7 @@ impl Chain {
 mod tests {
     use super::*;
 
-    const SHEET: &[u8] = b"010100000005\n020003\n020000\n0300000003\n0400\n";
+    const SHEET: &[u8] = b"010100000005\n020003\n020000\n0300000003\n060100\n0400\n";
 
     /// A call on the first `chain_len` words of a chain and the first `state_len` of a state: its refusal, its outcome and the state's words.
     fn call(chain: &[u32], chain_len: usize, state_len: usize) -> (u32, u32, [u32; 40]) {
@@ -368,46 +380,47 @@ mod tests {
     fn every_number_of_a_refusal_is_kept() {
         for number in 1..=300 {
             let refusal = Refusal::of(number);
-            assert_eq!((refusal.number(), matches!(refusal, Refusal::Other(_))), (number, number > 13));
+            assert_eq!((refusal.number(), matches!(refusal, Refusal::Other(_))), (number, number > 14));
         }
     }
 
     #[test]
-    #[should_panic(expected = "version 2 of the interface")]
+    #[should_panic(expected = "version 3 of the interface")]
     fn another_version_is_not_taken() {
         require(VERSION + 1);
     }
 
     #[test]
     fn slices_of_other_lengths() {
-        let mut chain = [7; 200];
+        let mut chain = [7; 240];
         let mut read = |len: usize| {
-            // SAFETY: `len` is at most 200.
+            // SAFETY: `len` is at most 240.
             unsafe { native::zohmirka_read_chain(SHEET.as_ptr(), SHEET.len(), chain.as_mut_ptr(), len) }
         };
-        assert_eq!((read(0), read(167)), (12, 12));
-        assert_eq!(read(200), 0);
-        assert!(chain[168..].iter().all(|&w| w == 7));
+        assert_eq!((read(0), read(168), read(200)), (12, 12, 12));
+        assert_eq!(read(240), 0);
+        assert!(chain[201..].iter().all(|&w| w == 7));
 
         let mut untouched = [0; 40];
         untouched[33..].fill(6);
-        assert_eq!(call(&chain, 167, 33), (3, 5, untouched));
+        assert_eq!(call(&chain, 200, 33), (3, 5, untouched));
+        assert_eq!(call(&chain, 168, 33), (3, 5, untouched));
         assert_eq!(call(&chain, 0, 0), (3, 5, untouched));
-        assert_eq!(call(&chain, 168, 32), (11, 5, untouched));
-        assert_eq!(call(&chain, 200, 0), (11, 5, untouched));
+        assert_eq!(call(&chain, 201, 32), (11, 5, untouched));
+        assert_eq!(call(&chain, 240, 0), (11, 5, untouched));
         let mut done = untouched;
         (done[0], done[1], done[32]) = (5, 2, 2);
-        assert_eq!(call(&chain, 168, 33), (0, 0, done));
-        assert_eq!(call(&chain, 200, 40), (0, 0, done));
+        assert_eq!(call(&chain, 201, 33), (0, 0, done));
+        assert_eq!(call(&chain, 240, 40), (0, 0, done));
     }
 
     #[test]
     fn chains_of_other_lengths() {
-        let mut chain = [7; 200];
+        let mut chain = [7; 240];
         chain[..CHAIN_WORDS].copy_from_slice(&Chain::read(SHEET).unwrap().words);
-        for (len, refusal) in [(0, 3), (167, 3), (168, 0), (200, 0)] {
+        for (len, refusal) in [(0, 3), (168, 3), (200, 3), (201, 0), (240, 0)] {
             let mut sheet = [0; 100];
-            // SAFETY: `len` is at most 200, and the sheet has 100 places.
+            // SAFETY: `len` is at most 240, and the sheet has 100 places.
             let (judged, wrote) = unsafe {
                 (native::zohmirka_judge_chain(chain.as_ptr(), len), native::zohmirka_write_chain(chain.as_ptr(), len, sheet.as_mut_ptr(), 100))
             };

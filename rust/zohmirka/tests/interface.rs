@@ -2,7 +2,8 @@
 use zohmirka::{judge, plan, plan_into, run, version, Chain, Counts, Outcome, Refusal, State, STORE_WORDS, VERSION};
 
 const REQUEST: &[u8] = b"010100000005\n020000\n020003\n0400\n";
-const SHEET: &[u8] = b"010100000005\n020003\n020000\n0300000003\n0400\n";
+const SHEET: &[u8] = b"010100000005\n020003\n020000\n0300000003\n060100\n0400\n";
+const WITHOUT: &[u8] = b"010100000005\n020003\n020000\n0300000003\n0400\n";
 
 fn counts(cells: u32, firings: u32, clocks: u32) -> Counts {
     Counts { cells, firings, clocks }
@@ -16,7 +17,7 @@ fn the_library_is_of_this_version() {
 #[test]
 fn plans_the_sample() {
     assert_eq!(plan(REQUEST).unwrap(), SHEET);
-    assert_eq!(judge(SHEET), Ok(()));
+    assert_eq!((judge(SHEET), judge(WITHOUT)), (Ok(()), Ok(())));
 }
 
 #[test]
@@ -52,14 +53,59 @@ fn plans_a_window_by_name() {
     let offsets = b"01020000030000000400\n0200010000\n0200000001\n0200000000\n020000FFFF\n02FFFF0000\n0400\n";
     let sheet = plan(name).unwrap();
     assert_eq!(Ok(&sheet), plan(offsets).as_ref());
-    assert_eq!(Chain::read(&sheet).unwrap().capacities(), [1023, 1, 1, 1023]);
+    let chain = Chain::read(&sheet).unwrap();
+    assert_eq!(chain.capacities(), [1023, 1, 1, 1023]);
+    assert_eq!(chain.order(), Some([0, 1, 2, 3, 4].as_slice()));
     assert_eq!(judge(name), Err(Refusal::Misplaced));
+}
+
+#[test]
+fn adds_in_the_author_s_order() {
+    // Cells 1, 1 and 2^24: which of them come first decides what the sum loses.
+    let cells = [1.0, 1.0, 16_777_216.0].map(f32::to_bits);
+    let sum = |chain: &Chain| {
+        let mut out = [0];
+        chain.run(&mut State::fresh(), &mut [0; 2], &cells, &mut out, 9).map(|_| out[0])
+    };
+    let planned = |offsets: &str| Chain::read(&plan(format!("010100000003\n{offsets}04023F800000\n").as_bytes()).unwrap()).unwrap();
+    let (rising, turned) = (planned("020000\n020001\n020002\n"), planned("020000\n020002\n020001\n"));
+    assert_eq!(rising.order(), Some([2, 1, 0].as_slice()));
+    assert_eq!(turned.order(), Some([2, 0, 1].as_slice()));
+    assert_eq!((sum(&rising), sum(&turned)), (Ok(0x4B80_0001), Ok(0x4B80_0000)));
+
+    // Without the order in chain order, whatever its words hold.
+    let mut without = rising;
+    (without.words[168], without.words[170]) = (0, 300);
+    assert_eq!((without.order(), sum(&without)), (None, Ok(0x4B80_0000)));
+    assert_eq!(without.write().unwrap(), b"010100000003\n020002\n020001\n020000\n0300000001\n0300000001\n04023F800000\n");
+    let mut any = rising;
+    any.words[168] = u32::MAX;
+    assert_eq!((sum(&any), any.write()), (sum(&rising), rising.write()));
+}
+
+#[test]
+fn refuses_an_order_that_is_none() {
+    let chain = Chain::read(SHEET).unwrap();
+    for (at, word) in [(169, 0), (169, 2), (169, 255), (169, 257), (170, 1), (170, 256), (170, u32::MAX)] {
+        let mut other = chain;
+        other.words[at] = word;
+        let answer = other.run(&mut State::fresh(), &mut [], &[], &mut [], 0);
+        assert_eq!((other.judge(), answer), (Err(Refusal::BadOrder), Err(Refusal::BadOrder)));
+        assert_eq!(other.write_into(&mut []), Err(Refusal::BadOrder));
+        other.words[134] = 16385;
+        assert_eq!(other.judge(), Err(Refusal::TooLarge));
+    }
+    let text = |line: &str| judge(format!("010100000005\n020003\n020000\n0300000003\n{line}\n0400\n").as_bytes());
+    assert_eq!((text("060001"), text("060000"), text("060002")), (Ok(()), Err(Refusal::BadOrder), Err(Refusal::BadOrder)));
+    assert_eq!((text("0600"), text("060100\n060100")), (Err(Refusal::Malformed), Err(Refusal::Misplaced)));
+    assert_eq!(plan(b"010100000005\n020000\n0600\n0400\n"), Err(Refusal::Misplaced));
 }
 
 #[test]
 fn runs_a_sheet_and_its_chain_alike() {
     let chain = Chain::read(SHEET).unwrap();
     assert_eq!((chain.references(), chain.capacities(), chain.places(), chain.width()), (2, [3].as_slice(), 3, 2));
+    assert_eq!((chain.order(), Chain::read(WITHOUT).unwrap().order()), (Some([1, 0].as_slice()), None));
     for lent in 0..6 {
         let (mut s, mut t) = (State::fresh(), State::fresh());
         let (mut a, mut b) = ([9; 5], [9; 5]);
@@ -189,7 +235,11 @@ fn judges_a_chain_and_writes_its_sheet() {
 
     // Words past the counts play no part, and the sheet gives back the chain without them.
     let mut other = chain;
-    (other.words[14], other.words[135], other.words[167]) = (9, 9, 9);
+    (other.words[14], other.words[135], other.words[167], other.words[171]) = (9, 9, 9, 999);
     assert_eq!(other.write().unwrap(), SHEET);
     assert_eq!(Chain::read(&other.write().unwrap()), Ok(chain));
+    other.words[168] = 0;
+    assert_eq!(other.write().unwrap(), WITHOUT);
+    let without = Chain::read(WITHOUT).unwrap();
+    assert_eq!((Chain::read(&other.write().unwrap()), &without.words[168..]), (Ok(without), [0; 33].as_slice()));
 }

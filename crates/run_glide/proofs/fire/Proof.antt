@@ -25,7 +25,7 @@ pass-requires : tie.Need-pass-requires
 pass-requires c κs =
     let k = c .before .before .before .before in
     let st = k .before .before .before .before .before in
-    ((st .pre .some, st .pre .few, rw (part-length (st .args .out .now) (st .args .o)) (raw-room _ (st .args .centre) _ _ (st .args .bases .now) (st .args .tops .now) (st .args .word) _ _ _ _ _ _ (st .pre) (k .enum-told .given .1))), st .pre .in-store)
+    ((st .pre .some, st .pre .few, rw (part-length (st .args .out .now) (st .args .o)) (raw-room _ (st .args .centre) _ _ (st .args .bases .now) (st .args .tops .now) (st .args .word) _ _ _ _ _ (st .args .terms .now) (st .pre) (k .enum-told .given .1))), st .pre .in-store)
 
 same-length : tie.Need-same-length
 same-length c = search needs

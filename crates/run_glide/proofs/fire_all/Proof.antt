@@ -40,14 +40,14 @@ fire-requires : tie.Need-fire-requires Inv-loop μ-loop
 fire-requires c κs =
     let i = c .before .before .before .before .before .before in
     let p = start (i .before) .pre .1 in
-    may-fire _ _ _ _ _ _ _ _ _ _ _ _ _ _ _ _ _ _ _ _ _ _ _ (i .before .loop .inv) (p .2) (i .loop-test .taken) (p .0) (p .1)
+    may-fire _ _ _ _ _ _ _ _ _ _ _ _ _ _ _ _ _ _ _ _ _ _ _ (i .before .loop .inv) (p .1) (i .loop-test .taken) (p .0)
 
 add-at : tie.Need-add-at Inv-loop μ-loop
 add-at c =
     let i = c .before .before .before .before .before .before .before .before .before .before .before in
     let s = i .before .loop .inv in
     let st = start (i .before) in
-    up-to-fits _ _ (fired-room _ _ _ _ _ _ _ _ _ _ _ _ _ _ _ _ _ _ _ _ _ _ _ s (st .pre .1 .2) (i .loop-test .taken)) (omega (arith, s .out-length, st .good .1 .1 .1 .1 .1 .1 .1 .1 .1 .1 .1 .1 .1 .0 .0))
+    up-to-fits _ _ (fired-room _ _ _ _ _ _ _ _ _ _ _ _ _ _ _ _ _ _ _ _ _ _ _ s (st .pre .1 .1) (i .loop-test .taken)) (omega (arith, s .out-length, st .good .1 .1 .1 .1 .1 .1 .1 .1 .1 .1 .1 .1 .1 .0 .0))
 
 add-i : tie.Need-add-i Inv-loop μ-loop
 add-i c =
@@ -61,7 +61,7 @@ loop-again : tie.Need-loop-again Inv-loop μ-loop
 loop-again c =
     let f = c .before .before .before .before in
     let i = f .before .before .before .before .before .before .before in
-    fired-more _ _ _ _ _ _ _ _ _ _ _ _ _ _ _ _ _ _ _ _ _ _ _ (i .before .loop .inv) (start (i .before) .pre .1 .2) _ _ _ _ _ _ (i .loop-test .taken) refl (f .fire .ensures .0) (f .fire .ensures .1)
+    fired-more _ _ _ _ _ _ _ _ _ _ _ _ _ _ _ _ _ _ _ _ _ _ _ (i .before .loop .inv) (start (i .before) .pre .1 .1) _ _ _ _ _ _ (i .loop-test .taken) refl (f .fire .ensures .0) (f .fire .ensures .1)
 
 same-length : tie.Need-same-length Inv-loop μ-loop
 same-length c = c .before .loop .inv .rung .room-is
@@ -73,7 +73,7 @@ returns : tie.Need-returns Inv-loop μ-loop
 returns c =
     let a = c .before in
     let s = a .loop .inv in
-    (fired-all _ _ _ _ _ _ _ _ _ _ _ _ _ _ _ _ _ _ _ _ _ _ _ s (start a .pre .1 .2) (c .loop-test .left), s .rung, s .blank, s .out-length)
+    (fired-all _ _ _ _ _ _ _ _ _ _ _ _ _ _ _ _ _ _ _ _ _ _ _ s (start a .pre .1 .1) (c .loop-test .left), s .rung, s .blank, s .out-length)
 
 pub fire-all-spec : {M : Type 1} → statement M
 fire-all-spec =

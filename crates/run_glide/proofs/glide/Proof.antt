@@ -5,9 +5,10 @@ use native.Mathlib.Omega.{arith}
 use lib.ListN.{length, getD}
 use lib.Seq.{length-take-le}
 use borrow.Author.Needs.{needs}
+use Rattle.kernel.proofs.TableLaws.{table-fits, table-terms}
 use Rattle.run_glide.specs.Glides.{Sound}
 use Rattle.run_glide.proofs.SlideLaws.{row-left, row-some, by-wait}
-use Rattle.run_glide.proofs.GlidingLaws.{sized, sound, terms-fit, terms-found}
+use Rattle.run_glide.proofs.GlidingLaws.{named, sound}
 use Rattle.run_glide.proofs.glide.Statement.{statement}
 use Rattle.run_glide.proofs.glide.Tie as tie
 
@@ -37,7 +38,7 @@ bad-rows-requires c κs = search needs
 
 returns : tie.Need-returns
 returns c = (
-  λ t size caps F G. absurd (c .before .bad-rows .ensures .1 (c .if1 .taken) (sound _ _ _ _ _ _ _ _ _ _ _ _ _ _ _ _ _ _ _ _ _ [] [] 0 G .in-rows)),
+  λ t size caps F G. absurd (c .before .bad-rows .ensures .1 (c .if1 .taken) (sound _ _ _ _ _ _ _ _ _ _ _ _ _ _ _ _ _ _ _ _ _ _ [] [] 0 G .in-rows)),
   λ _. record { no-clocks = refl; no-firings = refl; store-kept = refl; out-kept = refl },
 )
 
@@ -46,7 +47,7 @@ bad-places-requires c κs = search needs
 
 returns-2 : tie.Need-returns-2
 returns-2 c = (
-  λ t size caps F G. absurd (c .before .bad-places .ensures .1 (c .if2 .taken) (sound _ _ _ _ _ _ _ _ _ _ _ _ _ _ _ _ _ _ _ _ _ [] [] 0 G .in-rings)),
+  λ t size caps F G. absurd (c .before .bad-places .ensures .1 (c .if2 .taken) (sound _ _ _ _ _ _ _ _ _ _ _ _ _ _ _ _ _ _ _ _ _ _ [] [] 0 G .in-rings)),
   λ _. record { no-clocks = refl; no-firings = refl; store-kept = refl; out-kept = refl },
 )
 
@@ -68,12 +69,12 @@ width-requires c κs = search needs
 array-share-prefix-filters : tie.Need-array-share-prefix-filters
 array-share-prefix-filters c =
     let t = c .before .before .before .before .before in
-    terms-fit _ _ _ (passes (t .before) .in-rings .few) _ (t .terms-of .ensures)
+    table-fits _ _ _ _ (passes (t .before) .in-rings .few) _ (t .terms-of .ensures)
 
 slice-aggregate-slide : tie.Need-slice-aggregate-slide
 slice-aggregate-slide c =
     let t = c .before .before .before .before .before .before in
-    sym (length-take-le _ _ (terms-fit _ _ _ (passes (t .before) .in-rings .few) _ (t .terms-of .ensures)))
+    sym (length-take-le _ _ (table-fits _ _ _ _ (passes (t .before) .in-rings .few) _ (t .terms-of .ensures)))
 
 slide-requires : tie.Need-slide-requires
 slide-requires c κs =
@@ -81,7 +82,7 @@ slide-requires c κs =
     let e = t .before in
     let st = start e in
     let r = passes e .in-rows in (
-      (terms-found _ _ _ (passes e .in-rings .few) _ (t .terms-of .ensures), c .width .ensures),
+      c .width .ensures,
       (
         (omega (arith, st .good .1 .1 .1 .1 .1 .1 .1 .1 .1 .1 .1 .1 .1 .1 .1 .0), omega (arith, st .good .1 .1 .1 .1 .1 .1 .1 .1 .1 .1 .1 .1 .1 .1 .1 .1 .0), passes e .in-rings),
         (by-wait _ _ _ _ _ _ _ _ r, row-some _ _ (r .some)),
@@ -97,11 +98,13 @@ same-length-2 c = search needs
 returns-3 : tie.Need-returns-3
 returns-3 c =
     let f = c .before .before .before .before in
-    let w = f .before in (
+    let w = f .before in
+    let n = w .before .before .before .before .before .before .before in
+    let e = n .before in (
       λ t size caps F G.
           f .slide .ensures t size _ _ caps _ (record { full-is = F; first-is = refl; position-is = refl; wait-is = refl; left-is = refl })
-          (sized _ _ _ _ _ _ _ _ _ _ _ _ _ _ _ _ _ _ _ _ _ _ (w .width .ensures) G),
-      λ no. absurd (no (passes (w .before .before .before .before .before .before .before .before))),
+          (named _ _ _ _ _ _ _ _ _ _ _ _ _ _ _ _ _ _ _ _ _ _ _ _ (table-terms _ _ _ _ (passes e .in-rings .few) _ (n .terms-of .ensures)) (w .width .ensures) G),
+      λ no. absurd (no (passes e)),
     )
 
 pub glide-spec : {M : Type 1} → statement M

@@ -31,8 +31,8 @@ Inv-loop full kernel centre n bases tops dims spans strides row iterations first
     Slides n fired0 allowance bases tops store₀ out₀ puts (heads full puts gets) store out fired left taken o
     × Blank n spare
     × ((t : Trimmed) (size : ℕ) (at wants caps passed : List ℕ) → Starts full n row fired0 first position wait0 left0 at wants caps passed
-    → Glides t kernel n row iterations size centre width fired0 dims at wants caps bases tops spans strides passed puts₀ gets₀ store₀
-    → Glide t kernel n row iterations size centre width fired0 dims at wants caps bases tops spans strides passed puts₀ gets₀ store₀ cells out₀ allowance puts
+    → Glides t kernel terms n row iterations size centre width fired0 dims at wants caps bases tops spans strides passed puts₀ gets₀ store₀
+    → Glide t kernel terms n row iterations size centre width fired0 dims at wants caps bases tops spans strides passed puts₀ gets₀ store₀ cells out₀ allowance puts
     (heads full puts gets) store out fired wait left taken o)
 
 abbrev μ-loop : tie.MeasureT-loop
@@ -47,7 +47,7 @@ loop-holds c =
     let p = start c .pre .1 in (
       slides-start _ _ _ _ _ _ _ _ _ _ (start c .args .full) (p .1 .1) (p .0 .2) (p .0 .0) (p .0 .1),
       blank-start _ _ refl,
-      λ t size at wants caps passed S G. glide-start _ _ _ _ _ _ _ _ _ _ _ _ _ _ _ _ _ _ _ _ _ _ _ _ G _ _ _ _ _ S,
+      λ t size at wants caps passed S G. glide-start _ _ _ _ _ _ _ _ _ _ _ _ _ _ _ _ _ _ _ _ _ _ _ _ _ G _ _ _ _ _ S,
     )
 
 sub-t37 : tie.Need-sub-t37 Inv-loop μ-loop
@@ -64,7 +64,7 @@ returns c =
     let a = c .before .before in
     λ t size at wants caps passed S G.
     let s = a .loop .inv .2 t size at wants caps passed S G in
-    record { ends = glide-spent _ _ _ _ _ _ _ _ _ _ _ _ _ _ _ _ _ _ _ _ _ _ _ _ G _ _ _ _ _ _ _ _ _ s (c .before .loop-test .taken) (c .if1 .taken); had = s .had; allowed = s .allowed; fewer = s .fewer; inside = s .inside; most = fired-most _ _ _ _ _ _ _ _ _ _ _ _ _ _ _ _ _ _ _ _ _ _ _ _ G _ _ _ _ _ _ _ _ _ s }
+    record { ends = glide-spent _ _ _ _ _ _ _ _ _ _ _ _ _ _ _ _ _ _ _ _ _ _ _ _ _ G _ _ _ _ _ _ _ _ _ s (c .before .loop-test .taken) (c .if1 .taken); had = s .had; allowed = s .allowed; fewer = s .fewer; inside = s .inside; most = fired-most _ _ _ _ _ _ _ _ _ _ _ _ _ _ _ _ _ _ _ _ _ _ _ _ _ G _ _ _ _ _ _ _ _ _ s }
 
 sub-t40 : tie.Need-sub-t40 Inv-loop μ-loop
 sub-t40 c = c .before .before .before .loop .inv .0 .begun
@@ -80,7 +80,7 @@ returns-2 c =
     let a = c .before .before .before in
     λ t size at wants caps passed S G.
     let s = a .loop .inv .2 t size at wants caps passed S G in
-    record { ends = glide-starved _ _ _ _ _ _ _ _ _ _ _ _ _ _ _ _ _ _ _ _ _ _ _ _ G _ _ _ _ _ _ _ _ _ s (c .before .before .loop-test .taken) (c .before .if1 .left) (c .if2 .taken); had = s .had; allowed = s .allowed; fewer = s .fewer; inside = s .inside; most = fired-most _ _ _ _ _ _ _ _ _ _ _ _ _ _ _ _ _ _ _ _ _ _ _ _ G _ _ _ _ _ _ _ _ _ s }
+    record { ends = glide-starved _ _ _ _ _ _ _ _ _ _ _ _ _ _ _ _ _ _ _ _ _ _ _ _ _ G _ _ _ _ _ _ _ _ _ s (c .before .before .loop-test .taken) (c .before .if1 .left) (c .if2 .taken); had = s .had; allowed = s .allowed; fewer = s .fewer; inside = s .inside; most = fired-most _ _ _ _ _ _ _ _ _ _ _ _ _ _ _ _ _ _ _ _ _ _ _ _ _ G _ _ _ _ _ _ _ _ _ s }
 
 lesser-requires : tie.Need-lesser-requires Inv-loop μ-loop
 lesser-requires c κs = search needs
@@ -150,7 +150,7 @@ loop-again c =
       slides-waits _ _ _ _ _ _ _ _ _ _ _ _ _ _ _ (a .loop .inv .0) _ _ _ _ (p .pass-all .ensures .1) (waits-lent k .0),
       p .pass-all .ensures .2,
       λ t size at wants caps passed S G.
-          glide-waited _ _ _ _ _ _ _ _ _ _ _ _ _ _ _ _ _ _ _ _ _ _ _ _ G _ _ _ _ _ _ _ _ _ (a .loop .inv .2 t size at wants caps passed S G) _ _ _ _ _ _ (p .pass-all .ensures .0)
+          glide-waited _ _ _ _ _ _ _ _ _ _ _ _ _ _ _ _ _ _ _ _ _ _ _ _ _ G _ _ _ _ _ _ _ _ _ (a .loop .inv .2 t size at wants caps passed S G) _ _ _ _ _ _ (p .pass-all .ensures .0)
           (k .before .before .before .before .before .loop-test .taken) (omega (arith, k .lesser2 .ensures)) (waits-lent k .0) (waits-lent k .1),
     )
 
@@ -173,7 +173,7 @@ returns-3 c =
     let a = c .before .before .before .before .before .before in
     λ t size at wants caps passed S G.
     let s = a .loop .inv .2 t size at wants caps passed S G in
-    record { ends = glide-full _ _ _ _ _ _ _ _ _ _ _ _ _ _ _ _ _ _ _ _ _ _ _ _ G _ _ _ _ _ _ _ _ _ s (c .before .before .before .before .before .loop-test .taken) (c .before .before .before .before .if1 .left) (c .before .before .before .if2 .left) (c .before .if3 .left) (c .if4 .taken); had = s .had; allowed = s .allowed; fewer = s .fewer; inside = s .inside; most = fired-most _ _ _ _ _ _ _ _ _ _ _ _ _ _ _ _ _ _ _ _ _ _ _ _ G _ _ _ _ _ _ _ _ _ s }
+    record { ends = glide-full _ _ _ _ _ _ _ _ _ _ _ _ _ _ _ _ _ _ _ _ _ _ _ _ _ G _ _ _ _ _ _ _ _ _ s (c .before .before .before .before .before .loop-test .taken) (c .before .before .before .before .if1 .left) (c .before .before .before .if2 .left) (c .before .if3 .left) (c .if4 .taken); had = s .had; allowed = s .allowed; fewer = s .fewer; inside = s .inside; most = fired-most _ _ _ _ _ _ _ _ _ _ _ _ _ _ _ _ _ _ _ _ _ _ _ _ _ G _ _ _ _ _ _ _ _ _ s }
 
 sub-firings-in : tie.Need-sub-firings-in Inv-loop μ-loop
 sub-firings-in c = omega (arith, c .before .before .before .before .before .loop-test .taken)
@@ -181,7 +181,7 @@ sub-firings-in c = omega (arith, c .before .before .before .before .before .loop
 firings-in-requires : tie.Need-firings-in-requires Inv-loop μ-loop
 firings-in-requires c κs =
     let a = c .before .before .before .before .before .before in
-    width-some _ _ _ (a .loop .inv .0 .rung .rings .some) (start (a .before) .pre .0 .1)
+    width-some _ _ _ (a .loop .inv .0 .rung .rings .some) (start (a .before) .pre .0)
 
 -- the firings that are made, from the call that makes them, and the loop
 abbrev firing : tie.After-fire-all Inv-loop μ-loop → tie.After-firings-in Inv-loop μ-loop
@@ -222,7 +222,7 @@ fire-all-requires c κs =
     let a = fires-at g in
     let s = a .loop .inv .0 in
     let p = start (a .before) .pre .0 in
-    ((rung-now _ _ _ _ _ _ _ _ _ _ _ _ _ _ _ s, a .loop .inv .1, omega (arith, fires-lent g .1)), (p .0, p .1, omega (arith, g .firings-in .ensures .3, s .room)))
+    ((rung-now _ _ _ _ _ _ _ _ _ _ _ _ _ _ _ s, a .loop .inv .1, omega (arith, fires-lent g .1)), (p, omega (arith, g .firings-in .ensures .3, s .room)))
 
 mul-o : tie.Need-mul-o Inv-loop μ-loop
 mul-o c =
@@ -261,7 +261,7 @@ loop-again-2 c =
       slides-fires _ _ _ _ _ _ _ _ _ _ _ _ _ _ _ (a .loop .inv .0) _ _ _ _ _ _ _ (f .fire-all .ensures .1) (f .fire-all .ensures .3) (fires-lent g .0) (g .firings-in .ensures .3) (c .if5 .taken),
       f .fire-all .ensures .2,
       λ t size at wants caps passed S G.
-          glide-fired _ _ _ _ _ _ _ _ _ _ _ _ _ _ _ _ _ _ _ _ _ _ _ _ G _ _ _ _ _ _ _ _ _ (a .loop .inv .2 t size at wants caps passed S G) (g .before .before .before .before .before .before .loop-test .taken) (g .before .before .if3 .left)
+          glide-fired _ _ _ _ _ _ _ _ _ _ _ _ _ _ _ _ _ _ _ _ _ _ _ _ _ G _ _ _ _ _ _ _ _ _ (a .loop .inv .2 t size at wants caps passed S G) (g .before .before .before .before .before .before .loop-test .taken) (g .before .before .if3 .left)
           _ _ _ _ _ (f .fire-all .ensures .0) (fires-left g) (fires-lent g .0) (fires-lent g .1) (g .firings-in .ensures .3) (c .if5 .taken),
     )
 
@@ -289,7 +289,7 @@ loop-again-3 c =
           (start (a .before) .pre .1 .1 .0 .some),
       f .fire-all .ensures .2,
       λ t size at wants caps passed S G.
-          glide-turned _ _ _ _ _ _ _ _ _ _ _ _ _ _ _ _ _ _ _ _ _ _ _ _ G _ _ _ _ _ _ _ _ _ (a .loop .inv .2 t size at wants caps passed S G) (g .before .before .before .before .before .before .loop-test .taken) (g .before .before .if3 .left)
+          glide-turned _ _ _ _ _ _ _ _ _ _ _ _ _ _ _ _ _ _ _ _ _ _ _ _ _ G _ _ _ _ _ _ _ _ _ (a .loop .inv .2 t size at wants caps passed S G) (g .before .before .before .before .before .before .loop-test .taken) (g .before .before .if3 .left)
           _ _ _ _ _ (f .fire-all .ensures .0) (fires-left g) (fires-lent g .0) (fires-lent g .1) (g .firings-in .ensures .3)
           _ _ _ _ _ S (fires-some g) (g .firings-in .ensures .0) (c .before .if5 .left) _ (c .wait-for .ensures),
     )
@@ -308,7 +308,7 @@ returns-4 c =
     let a = c .before in
     λ t size at wants caps passed S G.
     let s = a .loop .inv .2 t size at wants caps passed S G in
-    record { ends = glide-done _ _ _ _ _ _ _ _ _ _ _ _ _ _ _ _ _ _ _ _ _ _ _ _ G _ _ _ _ _ _ _ _ _ s (c .loop-test .left); had = s .had; allowed = s .allowed; fewer = s .fewer; inside = s .inside; most = fired-most _ _ _ _ _ _ _ _ _ _ _ _ _ _ _ _ _ _ _ _ _ _ _ _ G _ _ _ _ _ _ _ _ _ s }
+    record { ends = glide-done _ _ _ _ _ _ _ _ _ _ _ _ _ _ _ _ _ _ _ _ _ _ _ _ _ G _ _ _ _ _ _ _ _ _ s (c .loop-test .left); had = s .had; allowed = s .allowed; fewer = s .fewer; inside = s .inside; most = fired-most _ _ _ _ _ _ _ _ _ _ _ _ _ _ _ _ _ _ _ _ _ _ _ _ _ G _ _ _ _ _ _ _ _ _ s }
 
 pub slide-spec : {M : Type 1} → statement M
 slide-spec =

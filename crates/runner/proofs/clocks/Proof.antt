@@ -28,16 +28,16 @@ use Rattle.runner.proofs.clocks.Tie as tie
 
 -- the function's entry, and the test whether firings are left, from the call of `fill`
 abbrev start : tie.After-fill → tie.Start
-start f = f .before .before .before .before .before .before .before .before .before .before .before .before
+start f = f .before .before .before .before .before .before .before .before .before .before .before .before .before
 
 abbrev going : tie.After-fill → tie.Else1
-going f = f .before .before .before .before .before .before .before .before
+going f = f .before .before .before .before .before .before .before .before .before
 
 counts-requires : tie.Need-counts-requires
 counts-requires c κs = search needs
 
-cast-t41 : tie.Need-cast-t41
-cast-t41 c = let st = c .before .before .before .before .before in fired-fits _ _ _ _ _ _ _ _ _ _ _ (st .pre .0) _ _ _ _ (st .pre .1)
+cast-t42 : tie.Need-cast-t42
+cast-t42 c = let st = c .before .before .before .before .before in fired-fits _ _ _ _ _ _ _ _ _ _ _ (st .pre .0) _ _ _ _ (st .pre .1)
 
 returns : tie.Need-returns
 unfolding outcomeOf
@@ -48,8 +48,8 @@ returns c =
 counts-requires-2 : tie.Need-counts-requires-2
 counts-requires-2 c κs = search needs
 
-cast-t45 : tie.Need-cast-t45
-cast-t45 c = let st = c .before .before .before .before .before .before in fired-fits _ _ _ _ _ _ _ _ _ _ _ (st .pre .0) _ _ _ _ (st .pre .1)
+cast-t46 : tie.Need-cast-t46
+cast-t46 c = let st = c .before .before .before .before .before .before in fired-fits _ _ _ _ _ _ _ _ _ _ _ (st .pre .0) _ _ _ _ (st .pre .1)
 
 returns-2 : tie.Need-returns-2
 unfolding outcomeOf
@@ -75,8 +75,8 @@ counts-requires-3 c κs =
     let st = start f in
     filled-counts _ _ _ _ _ _ _ _ _ _ _ (st .pre .0) _ _ _ _ (st .pre .1) (going f .if1 .left) _ (st .args .out .now) _ (f .fill .result) _ _ _ _ (f .fill .ensures .0 _ _ _ _ (may-fill _ _ _ _ _ _ _ _ _ _ _ (st .pre .0) _ _ _ _ (st .pre .1) (going f .if1 .left))) (st .fits .allowance .fits)
 
-cast-t53 : tie.Need-cast-t53
-cast-t53 c =
+cast-t54 : tie.Need-cast-t54
+cast-t54 c =
     let f = c .before .before .before .before .before .before in
     let st = start f in
     fired-fits _ _ _ _ _ _ _ _ _ _ _ (st .pre .0) _ _ _ _ (st .pre .1)
@@ -100,8 +100,8 @@ counts-requires-4 c κs =
     let st = start f in
     filled-counts _ _ _ _ _ _ _ _ _ _ _ (st .pre .0) _ _ _ _ (st .pre .1) (going f .if1 .left) _ (st .args .out .now) _ (f .fill .result) _ _ _ _ (f .fill .ensures .0 _ _ _ _ (may-fill _ _ _ _ _ _ _ _ _ _ _ (st .pre .0) _ _ _ _ (st .pre .1) (going f .if1 .left))) (st .fits .allowance .fits)
 
-cast-t57 : tie.Need-cast-t57
-cast-t57 c =
+cast-t58 : tie.Need-cast-t58
+cast-t58 c =
     let f = c .before .before .before .before .before .before in
     let st = start f in
     fired-fits _ _ _ _ _ _ _ _ _ _ _ (st .pre .0) _ _ _ _ (st .pre .1)
@@ -125,8 +125,8 @@ counts-requires-5 c κs =
     let st = start f in
     filled-counts _ _ _ _ _ _ _ _ _ _ _ (st .pre .0) _ _ _ _ (st .pre .1) (going f .if1 .left) _ (st .args .out .now) _ (f .fill .result) _ _ _ _ (f .fill .ensures .0 _ _ _ _ (may-fill _ _ _ _ _ _ _ _ _ _ _ (st .pre .0) _ _ _ _ (st .pre .1) (going f .if1 .left))) (st .fits .allowance .fits)
 
-cast-t61 : tie.Need-cast-t61
-cast-t61 c =
+cast-t62 : tie.Need-cast-t62
+cast-t62 c =
     let f = c .before .before .before .before .before .before in
     let st = start f in
     fired-fits _ _ _ _ _ _ _ _ _ _ _ (st .pre .0) _ _ _ _ (st .pre .1)
@@ -225,8 +225,8 @@ add-all c =
 outcome-of-requires : tie.Need-outcome-of-requires
 outcome-of-requires c κs = search needs
 
-cast-t79 : tie.Need-cast-t79
-cast-t79 c =
+cast-t80 : tie.Need-cast-t80
+cast-t80 c =
     let g = c .before .before .before .before .before .before .before .before in
     let f = filled (aligned g) in
     let st = start f in
@@ -254,27 +254,27 @@ clocks-spec =
     tie.close
     (tie.spec
     counts-requires
-    cast-t41
+    cast-t42
     returns
     counts-requires-2
-    cast-t45
+    cast-t46
     returns-2
     cast-n
     cast-dims
     fill-requires
     enum-told
     counts-requires-3
-    cast-t53
+    cast-t54
     same-length
     returns-3
     enum-told-2
     counts-requires-4
-    cast-t57
+    cast-t58
     same-length-2
     returns-4
     enum-told-3
     counts-requires-5
-    cast-t61
+    cast-t62
     same-length-3
     returns-5
     enum-told-4
@@ -290,7 +290,7 @@ clocks-spec =
     counts-requires-6
     add-all
     outcome-of-requires
-    cast-t79
+    cast-t80
     same-length-4
     same-length-5
     returns-6)

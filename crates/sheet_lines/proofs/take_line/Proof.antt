@@ -2,7 +2,7 @@ use mathlib.Core.Path.{sym, _∙_}
 use borrow.Author.Needs.{needs}
 use borrow.Author.Tests.{ne-eqb}
 use Rattle.model.specs.Reading.{taken}
-use Rattle.sheet_laws.proofs.AcceptedLines.{taken-grid, taken-offset, taken-name, taken-capacity}
+use Rattle.sheet_laws.proofs.AcceptedLines.{taken-grid, taken-offset, taken-name, taken-capacity, taken-order}
 use Rattle.sheet_lines.proofs.take_line.Statement.{statement}
 use Rattle.sheet_lines.proofs.take_line.Tie as tie
 
@@ -27,22 +27,35 @@ with-capacity-requires c κs = c .before .before .before .pre .capacity (c .if3 
 returns-3 : tie.Need-returns-3
 returns-3 c = c .with-capacity .ensures ∙ sym (taken-capacity _ _ (c .before .if3 .taken))
 
+with-order-requires : tie.Need-with-order-requires
+with-order-requires c κs = search needs
+
+returns-4 : tie.Need-returns-4
+returns-4 c = c .with-order .ensures ∙ sym (taken-order _ _ (c .before .if4 .taken))
+
 with-name-requires : tie.Need-with-name-requires
 with-name-requires c κs = search needs
 
-returns-4 : tie.Need-returns-4
-returns-4 c = c .with-name .ensures ∙ sym (taken-name _ _ (c .before .if4 .taken))
+returns-5 : tie.Need-returns-5
+returns-5 c = c .with-name .ensures ∙ sym (taken-name _ _ (c .before .if5 .taken))
 
 with-kernel-requires : tie.Need-with-kernel-requires
 with-kernel-requires c κs = search needs
 
-returns-5 : tie.Need-returns-5
+returns-6 : tie.Need-returns-6
 unfolding taken
-returns-5 c =
-    let e4 = c .before in
+returns-6 c =
+    let e5 = c .before in
+    let e4 = e5 .before in
     let e3 = e4 .before in
     let e2 = e3 .before in
-    rw (ne-eqb _ _ (e2 .before .if1 .left), ne-eqb _ _ (e2 .if2 .left), ne-eqb _ _ (e3 .if3 .left), ne-eqb _ _ (e4 .if4 .left)) (c .with-kernel .ensures)
+    rw (
+      ne-eqb _ _ (e2 .before .if1 .left),
+      ne-eqb _ _ (e2 .if2 .left),
+      ne-eqb _ _ (e3 .if3 .left),
+      ne-eqb _ _ (e4 .if4 .left),
+      ne-eqb _ _ (e5 .if5 .left),
+    ) (c .with-kernel .ensures)
 
 pub take-line-spec : {M : Type 1} → statement M
 take-line-spec =
@@ -55,7 +68,9 @@ take-line-spec =
     returns-2
     with-capacity-requires
     returns-3
-    with-name-requires
+    with-order-requires
     returns-4
+    with-name-requires
+    returns-5
     with-kernel-requires
-    returns-5)
+    returns-6)

@@ -56,15 +56,29 @@ returns-7 : tie.Need-returns-7
 unfolding badForm
 returns-7 c =
     simp (
-      ne-eqb _ _ (c .before .before .before .before .before .if1 .left),
-      ne-eqb _ _ (c .before .before .before .before .if2 .left),
-      ne-eqb _ _ (c .before .before .before .if3 .left),
-      ne-eqb _ _ (c .before .before .if4 .left),
-      ne-eqb _ _ (c .before .if5 .left),
-      ne-eqb _ _ (c .if6 .left),
+      ne-eqb _ _ (c .before .before .before .before .before .before .if1 .left),
+      ne-eqb _ _ (c .before .before .before .before .before .if2 .left),
+      ne-eqb _ _ (c .before .before .before .before .if3 .left),
+      ne-eqb _ _ (c .before .before .before .if4 .left),
+      ne-eqb _ _ (c .before .before .if5 .left),
+      ne-eqb _ _ (c .before .if6 .left),
+      eq-eqb _ _ (c .if7 .taken),
+    )
+
+returns-8 : tie.Need-returns-8
+unfolding badForm
+returns-8 c =
+    simp (
+      ne-eqb _ _ (c .before .before .before .before .before .before .if1 .left),
+      ne-eqb _ _ (c .before .before .before .before .before .if2 .left),
+      ne-eqb _ _ (c .before .before .before .before .if3 .left),
+      ne-eqb _ _ (c .before .before .before .if4 .left),
+      ne-eqb _ _ (c .before .before .if5 .left),
+      ne-eqb _ _ (c .before .if6 .left),
+      ne-eqb _ _ (c .if7 .left),
     )
 
 pub bad-form-spec : {M : Type 1} → statement M
 bad-form-spec =
     tie.close
-    (tie.spec returns returns-2 returns-3 bad-kernel-requires returns-4 returns-5 returns-6 returns-7)
+    (tie.spec returns returns-2 returns-3 bad-kernel-requires returns-4 returns-5 returns-6 returns-7 returns-8)

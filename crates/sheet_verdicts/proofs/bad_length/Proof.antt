@@ -24,11 +24,18 @@ returns-2 : tie.Need-returns-2
 unfolding badLength
 returns-2 c = simp (ne-eqb _ _ (c .before .if1 .left), eq-eqb _ _ (c .if2 .taken))
 
+add-result-3 : tie.Need-add-result-3
+add-result-3 c = search needs
+
 returns-3 : tie.Need-returns-3
 unfolding badLength
-returns-3 c = simp (ne-eqb _ _ (c .before .if1 .left), ne-eqb _ _ (c .if2 .left))
+returns-3 c = simp (ne-eqb _ _ (c .before .before .if1 .left), ne-eqb _ _ (c .before .if2 .left), eq-eqb _ _ (c .if3 .taken))
+
+returns-4 : tie.Need-returns-4
+unfolding badLength
+returns-4 c = simp (ne-eqb _ _ (c .before .before .if1 .left), ne-eqb _ _ (c .before .if2 .left), ne-eqb _ _ (c .if3 .left))
 
 pub bad-length-spec : {M : Type 1} → statement M
 bad-length-spec =
     tie.close
-    (tie.spec mul-result add-result returns mul-result-2 add-result-2 returns-2 returns-3)
+    (tie.spec mul-result add-result returns mul-result-2 add-result-2 returns-2 add-result-3 returns-3 returns-4)

@@ -23,6 +23,9 @@ enum-told-5 c = search needs
 enum-told-6 : tie.Need-enum-told-6
 enum-told-6 c = search needs
 
+enum-told-7 : tie.Need-enum-told-7
+enum-told-7 c = search needs
+
 returns : tie.Need-returns
 unfolding nextInRequest
 returns c = rw (c .before .enum-told2 .given .1) (is-first _ 2 _ (c .if1 .taken))
@@ -55,6 +58,10 @@ returns-8 : tie.Need-returns-8
 unfolding nextInRequest among any
 returns-8 c = rw (c .enum-told6 .given .1)
 
+returns-9 : tie.Need-returns-9
+unfolding nextInRequest among any
+returns-9 c = rw (c .enum-told7 .given .1)
+
 pub comes-in-request-spec : {M : Type 1} → statement M
 comes-in-request-spec =
     tie.close
@@ -67,9 +74,11 @@ comes-in-request-spec =
     enum-told-4
     enum-told-5
     enum-told-6
+    enum-told-7
     returns-3
     returns-4
     returns-5
     returns-6
     returns-7
-    returns-8)
+    returns-8
+    returns-9)

@@ -21,6 +21,15 @@ enum-told-2 c = search needs
 enum-told-3 : tie.Need-enum-told-3
 enum-told-3 c = search needs
 
+cast-result-2 : tie.Need-cast-result-2
+cast-result-2 c = search needs
+
+add-result-2 : tie.Need-add-result-2
+add-result-2 c = search needs
+
+enum-told-4 : tie.Need-enum-told-4
+enum-told-4 c = search needs
+
 kernel-len-requires : tie.Need-kernel-len-requires
 kernel-len-requires c κs = search needs
 
@@ -34,7 +43,11 @@ returns-2 c = rw (c .enum-told2 .given .1)
 
 returns-3 : tie.Need-returns-3
 unfolding lenOf
-returns-3 c = rw (c .before .enum-told3 .given .1) (c .kernel-len .ensures)
+returns-3 c = rw (c .before .enum-told3 .given .1)
+
+returns-4 : tie.Need-returns-4
+unfolding lenOf
+returns-4 c = rw (c .before .enum-told4 .given .1) (c .kernel-len .ensures)
 
 pub line-len-spec : {M : Type 1} → statement M
 line-len-spec =
@@ -46,7 +59,11 @@ line-len-spec =
     add-result
     enum-told-2
     enum-told-3
+    cast-result-2
+    add-result-2
+    enum-told-4
     kernel-len-requires
     returns
     returns-2
-    returns-3)
+    returns-3
+    returns-4)

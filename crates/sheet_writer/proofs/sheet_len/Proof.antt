@@ -7,23 +7,31 @@ use lib.ListN.{length}
 use borrow.Author.Needs.{needs}
 use Rattle.model.specs.Frames.{kept}
 use Rattle.sheet_laws.specs.Rows.{lenOf, partAt, linesFrom}
-use Rattle.sheet_writer.proofs.LayLaws.{fit, more-length, no-more, all-length}
+use Rattle.sheet_writer.proofs.LayLaws.{fit, few-lines, more-length, no-more, all-length}
 use Rattle.sheet_writer.proofs.sheet_len.Statement.{statement}
 use Rattle.sheet_writer.proofs.sheet_len.Tie as tie
 
 abbrev Inv-loop : tie.InvT-loop
-Inv-loop c n lines total₀ m₀ total m =
+Inv-loop c ordered n lines total₀ m₀ total m =
     (m ≤ lines) × (total ≤ (2 * kept + 1) * (m + 1)) × (total + length (linesFrom c (1 + m) (lines - m)) ≡ total₀ + length (linesFrom c 1 lines))
 
 abbrev μ-loop : tie.MeasureT-loop
-μ-loop c n lines total₀ m₀ total m = lines - m
+μ-loop c ordered n lines total₀ m₀ total m = lines - m
 
 abbrev start : tie.At-loop Inv-loop μ-loop → tie.Start Inv-loop μ-loop
-start l = l .before .before .before .before .before
+start l = l .before .before .before .before .before .before .before
+
+abbrev lines-told : tie.At-loop Inv-loop μ-loop → tie.After-lines-behind Inv-loop μ-loop
+lines-told l = l .before .before
+
+most-lines : (l : tie.At-loop Inv-loop μ-loop) → lines-told l .lines-behind .result ≤ 2 * start l .args .c .window .count + 1
+most-lines l =
+    let a = start l .args .c in
+    omega (arith, lines-told l .lines-behind .ensures, few-lines (a .order .stood) (a .window .count))
 
 -- A line is short, and adds its length.
 len : (c : tie.After-line-len Inv-loop μ-loop)
-    → (let l = c .before .before .before in let a = start l .args .c in c .line-len .result ≡ lenOf a (partAt (a .window .count) (l .loop .m)))
+    → (let l = c .before .before .before in let a = start l .args .c in c .line-len .result ≡ lenOf a (partAt (a .order .stood) (a .window .count) (l .loop .m)))
 len c =
     let q = c .before in
     let l = q .before .before in
@@ -33,41 +41,42 @@ short : (c : tie.After-line-len Inv-loop μ-loop) → c .line-len .result ≤ ke
 short c =
     let l = c .before .before .before in
     let s = start l in
-    let f = fit (s .args .c) (partAt (s .args .c .window .count) (l .loop .m)) (s .pre .dims) in
+    let a = s .args .c in
+    let f = fit a (partAt (a .order .stood) (a .window .count) (l .loop .m)) (s .pre .dims) (s .pre .most) in
     omega (arith, len c, f .0, f .1)
 
 cast-n : tie.Need-cast-n Inv-loop μ-loop
 cast-n c = search needs
 
-mul-lines : tie.Need-mul-lines Inv-loop μ-loop
-mul-lines c = search needs
+lines-behind-requires : tie.Need-lines-behind-requires Inv-loop μ-loop
+lines-behind-requires c κs = search needs
 
 grid-len-requires : tie.Need-grid-len-requires Inv-loop μ-loop
 grid-len-requires c κs = search needs
 
 mul-total : tie.Need-mul-total Inv-loop μ-loop
-mul-total c = omega (arith, c .grid-len .ensures, c .before .before .before .before .pre .dims)
+mul-total c = omega (arith, c .grid-len .ensures, c .before .before .before .before .before .before .pre .dims)
 
 add-total : tie.Need-add-total Inv-loop μ-loop
-add-total c = omega (arith, c .grid-len .ensures, c .before .before .before .before .pre .dims)
+add-total c = omega (arith, c .grid-len .ensures, c .before .before .before .before .before .before .pre .dims)
 
 loop-holds : tie.Need-loop-holds Inv-loop μ-loop
-loop-holds c = (search needs, omega (arith, c .grid-len .ensures, c .before .before .before .before .pre .dims), rw sub-zero)
+loop-holds c = (search needs, omega (arith, c .grid-len .ensures, c .before .before .before .before .before .before .pre .dims), rw sub-zero)
 
 part-at-requires : tie.Need-part-at-requires Inv-loop μ-loop
-part-at-requires c κs = search needs
+part-at-requires c κs = omega (arith, c .loop-test .taken, most-lines (c .before))
 
 line-len-requires : tie.Need-line-len-requires Inv-loop μ-loop
 line-len-requires c κs = search needs
 
 mul-total-2 : tie.Need-mul-total-2 Inv-loop μ-loop
-mul-total-2 c = omega (arith, short c, start (c .before .before .before) .pre .most)
+mul-total-2 c = omega (arith, short c)
 
 add-total-2 : tie.Need-add-total-2 Inv-loop μ-loop
-add-total-2 c = omega (arith, short c, start (c .before .before .before) .pre .most)
+add-total-2 c = let l = c .before .before .before in omega (arith, short c, most-lines l, start l .pre .most)
 
 add-total-3 : tie.Need-add-total-3 Inv-loop μ-loop
-add-total-3 c = omega (arith, short c, start (c .before .before .before) .pre .most)
+add-total-3 c = let l = c .before .before .before in omega (arith, short c, most-lines l, start l .pre .most)
 
 add-m : tie.Need-add-m Inv-loop μ-loop
 add-m c = search needs
@@ -86,7 +95,7 @@ loop-again c =
         arith,
         len c,
         l .loop .inv .2,
-        more-length (s .args .c) (l .loop .m) (2 * s .args .c .window .count) (s .pre .dims) (t .loop-test .taken),
+        more-length (s .args .c) (l .loop .m) (lines-told l .lines-behind .result) (s .pre .dims) (s .pre .most) (t .loop-test .taken),
       ),
     )
 
@@ -94,8 +103,10 @@ returns : tie.Need-returns Inv-loop μ-loop
 returns c =
     let l = c .before in
     let s = start l in
-    let none = no-more (s .args .c) (l .loop .m) (2 * s .args .c .window .count) (c .loop-test .left) in
-    omega (arith, l .loop .inv .2, l .before .grid-len .ensures, ap length none, all-length (s .args .c) (s .pre .dims) (s .pre .some))
+    let told = lines-told l .lines-behind in
+    let none = no-more (s .args .c) (l .loop .m) (told .result) (c .loop-test .left) in
+    let all = all-length (s .args .c) (s .pre .dims) (s .pre .some) (s .pre .most) (told .result) (told .ensures) in
+    omega (arith, l .loop .inv .2, l .before .grid-len .ensures, ap length none, all)
 
 pub sheet-len-spec : {M : Type 1} → statement M
 sheet-len-spec =
@@ -104,7 +115,7 @@ sheet-len-spec =
     Inv-loop
     μ-loop
     cast-n
-    mul-lines
+    lines-behind-requires
     grid-len-requires
     mul-total
     add-total

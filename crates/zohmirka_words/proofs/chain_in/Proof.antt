@@ -40,6 +40,9 @@ offsets-in-requires c κs = search needs
 capacities-in-requires : tie.Need-capacities-in-requires
 capacities-in-requires c κs = search needs
 
+order-in-requires : tie.Need-order-in-requires
+order-in-requires c κs = search needs
+
 shared-slice-read-kernel-in-3 : tie.Need-shared-slice-read-kernel-in-3
 shared-slice-read-kernel-in-3 c = search needs
 
@@ -54,12 +57,13 @@ kernel-in-requires c κs = search needs
 
 returns-2 : tie.Need-returns-2
 returns-2 c =
-    let cap = c .before .before .before .before in
+    let ord = c .before .before .before .before in
+    let cap = ord .before in
     let off = cap .before in
     let cnt = off .before in
     let dim = cnt .before .before .before .before .before .before in
     let i = dim .before .before in
-    chain-of-words _ _ _ _ _ _ _ (i .if1 .left) (dim .count-in .ensures) refl (cnt .count-in2 .ensures) (off .offsets-in .ensures) (cap .capacities-in .ensures) (c .kernel-in .ensures)
+    chain-of-words _ _ _ _ _ _ _ _ (i .if1 .left) (dim .count-in .ensures) refl (cnt .count-in2 .ensures) (off .offsets-in .ensures) (cap .capacities-in .ensures) (ord .order-in .ensures) (c .kernel-in .ensures)
 
 pub chain-in-spec : {M : Type 1} → statement M
 chain-in-spec =
@@ -77,6 +81,7 @@ chain-in-spec =
     count-in-requires-2
     offsets-in-requires
     capacities-in-requires
+    order-in-requires
     shared-slice-read-kernel-in-3
     shared-slice-read-kernel-in-4
     shared-slice-read-kernel-in-5

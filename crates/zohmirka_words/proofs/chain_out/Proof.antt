@@ -1,61 +1,127 @@
-use Prim.Native.Nat.{_-_, _≤_}
-use mathlib.Core.Path.{_≡_}
+use Prim.Native.Nat.{ℕ, _+_, _-_, _≤_}
+use mathlib.Core.List.{List}
+use mathlib.Core.Path.{_≡_, refl, _∙_, ap}
 use native.Mathlib.Omega.{arith}
-use lib.ListN.{length}
+use lib.ListN.{length, getD, set, length-set}
+use borrow.Author.Needs.{needs}
+use Rattle.model.specs.declared.Chain.{Chain}
 use Rattle.zohmirka_words.specs.Words.{chainWord}
-use Rattle.zohmirka_words.proofs.WordLaws.{front, front-none, front-long, front-more, few-places, words-of-chain}
+use Rattle.zohmirka_words.proofs.WordLaws.{front, front-none, front-long, front-more, few-places, stood-more, filter-more, words-of-chain}
 use Rattle.zohmirka_words.proofs.chain_out.Statement.{statement}
 use Rattle.zohmirka_words.proofs.chain_out.Tie as tie
 
 abbrev Inv-loop : tie.InvT-loop
-Inv-loop c words₀ i₀ words i = (i ≤ 168) × (168 ≤ length words₀) × (words ≡ front (chainWord c) i words₀)
+Inv-loop c words₀ i₀ words i = (i ≤ 168) × (201 ≤ length words₀) × (words ≡ front (chainWord c) i words₀)
 
 abbrev μ-loop : tie.MeasureT-loop
 μ-loop c words₀ i₀ words i = 168 - i
 
-returns : tie.Need-returns Inv-loop μ-loop
+-- the words before the order stand, of any chain whose order has these filters
+abbrev Inv-loop2 : tie.InvT-loop2
+Inv-loop2 words₀ i filters t₀ words t =
+    (t ≤ 32) × (201 ≤ length words₀) × (length words ≡ length words₀)
+    × ((c : Chain) (ws : List ℕ) → 201 ≤ length ws → filters ≡ c .order .filters → words₀ ≡ front (chainWord c) 169 ws → words ≡ front (chainWord c) (169 + t) ws)
+
+abbrev μ-loop2 : tie.MeasureT-loop2
+μ-loop2 words₀ i filters t₀ words t = 32 - t
+
+returns : tie.Need-returns Inv-loop μ-loop Inv-loop2 μ-loop2
 returns c = few-places _ _ (c .if1 .taken)
 
-loop-holds : tie.Need-loop-holds Inv-loop μ-loop
+loop-holds : tie.Need-loop-holds Inv-loop μ-loop Inv-loop2 μ-loop2
 loop-holds c =
     let a = c .before .before .args in
     (omega arith, c .if1 .left, front-none (chainWord (a .c)) (a .words .now))
 
-chain-word-requires : tie.Need-chain-word-requires Inv-loop μ-loop
+chain-word-requires : tie.Need-chain-word-requires Inv-loop μ-loop Inv-loop2 μ-loop2
 chain-word-requires c κs = omega arith
 
-mul-words : tie.Need-mul-words Inv-loop μ-loop
+mul-words : tie.Need-mul-words Inv-loop μ-loop Inv-loop2 μ-loop2
 mul-words c = omega arith
 
-slice-write-words : tie.Need-slice-write-words Inv-loop μ-loop
+slice-write-words : tie.Need-slice-write-words Inv-loop μ-loop Inv-loop2 μ-loop2
 slice-write-words c =
     let l = c .before .before in
     let long = front-long _ (l .loop .i) _ (l .loop .words) (omega arith) (l .loop .inv .2) in
     omega arith
 
-add-i : tie.Need-add-i Inv-loop μ-loop
+add-i : tie.Need-add-i Inv-loop μ-loop Inv-loop2 μ-loop2
 add-i c = omega arith
 
-loop-less : tie.Need-loop-less Inv-loop μ-loop
+loop-less : tie.Need-loop-less Inv-loop μ-loop Inv-loop2 μ-loop2
 loop-less c = omega arith
 
-loop-again : tie.Need-loop-again Inv-loop μ-loop
+loop-again : tie.Need-loop-again Inv-loop μ-loop Inv-loop2 μ-loop2
 loop-again c =
     let l = c .before .before in
     let a = l .before .before .before .args in
     let long = l .loop .inv .1 in
     (omega arith, long, front-more (chainWord (a .c)) (l .loop .i) (a .words .now) (l .loop .words) (c .chain-word .result) (omega arith) (c .chain-word .ensures) (l .loop .inv .2))
 
-same-length : tie.Need-same-length Inv-loop μ-loop
+cast-words : tie.Need-cast-words Inv-loop μ-loop Inv-loop2 μ-loop2
+cast-words c = search needs
+
+slice-write-words-2 : tie.Need-slice-write-words-2 Inv-loop μ-loop Inv-loop2 μ-loop2
+slice-write-words-2 c =
+    let l = c .before .before .before in
+    let long = front-long _ (l .loop .i) _ (l .loop .words) (omega arith) (l .loop .inv .2) in
+    omega arith
+
+loop2-holds : tie.Need-loop2-holds Inv-loop μ-loop Inv-loop2 μ-loop2
+loop2-holds c =
+    let l = c .before .before .before .before in
+    let long = front-long _ (l .loop .i) _ (l .loop .words) (omega arith) (l .loop .inv .2) in
+    let enough = l .loop .inv .1 in
+    (omega arith, rw length-set (omega arith), refl, λ d ws m e r. r)
+
+array-read-words : tie.Need-array-read-words Inv-loop μ-loop Inv-loop2 μ-loop2
+array-read-words c = omega arith
+
+cast-words-2 : tie.Need-cast-words-2 Inv-loop μ-loop Inv-loop2 μ-loop2
+cast-words-2 c = search needs
+
+add-words : tie.Need-add-words Inv-loop μ-loop Inv-loop2 μ-loop2
+add-words c = omega arith
+
+mul-words-2 : tie.Need-mul-words-2 Inv-loop μ-loop Inv-loop2 μ-loop2
+mul-words-2 c = omega arith
+
+slice-write-words-3 : tie.Need-slice-write-words-3 Inv-loop μ-loop Inv-loop2 μ-loop2
+slice-write-words-3 c =
+    let long = c .before .loop2 .inv .1 in
+    let same = c .before .loop2 .inv .2 in
+    omega arith
+
+add-t : tie.Need-add-t Inv-loop μ-loop Inv-loop2 μ-loop2
+add-t c = omega arith
+
+loop2-less : tie.Need-loop2-less Inv-loop μ-loop Inv-loop2 μ-loop2
+loop2-less c = omega arith
+
+loop2-again : tie.Need-loop2-again Inv-loop μ-loop Inv-loop2 μ-loop2
+loop2-again c =
+    let l = c .before in (
+      omega arith,
+      l .loop2 .inv .1,
+      length-set (l .loop2 .words) (169 + l .loop2 .t) _ ∙ l .loop2 .inv .2,
+      λ d ws m e r. ap (λ (fs : List ℕ). set (l .loop2 .words) (169 + l .loop2 .t) (getD fs (l .loop2 .t) 0)) e
+          ∙ filter-more ws d (l .loop2 .t) (l .loop2 .words) (omega arith) m (l .loop2 .inv .3 d ws m e r),
+    )
+
+same-length : tie.Need-same-length Inv-loop μ-loop Inv-loop2 μ-loop2
 same-length c =
     let l = c .before in
-    front-long _ (l .loop .i) _ (l .loop .words) (omega arith) (l .loop .inv .2)
+    let f = l .before .before .before .before .before in
+    l .loop2 .inv .2 ∙ length-set (f .loop .words) 168 _ ∙ front-long _ (f .loop .i) _ (f .loop .words) (omega arith) (f .loop .inv .2)
 
-returns-2 : tie.Need-returns-2 Inv-loop μ-loop
+returns-2 : tie.Need-returns-2 Inv-loop μ-loop Inv-loop2 μ-loop2
 returns-2 c =
     let l = c .before in
-    let a = l .before .before .before .args in
-    words-of-chain _ (a .c) (l .loop .i) (l .loop .words) (omega arith) (l .loop .inv .0) (l .loop .inv .1) (l .loop .inv .2)
+    let f = l .before .before .before .before .before in
+    let a = f .before .before .before .args in
+    let enough = f .loop .inv .1 in
+    words-of-chain _ (a .c) (l .loop2 .t) (l .loop2 .words) (omega arith) (l .loop2 .inv .0) enough
+    (l .loop2 .inv .3 (a .c) (a .words .now) enough refl (stood-more _ (a .c) (f .loop .i) (f .loop .words) (omega arith) (f .loop .inv .0) enough (f .loop .inv .2)))
 
 pub chain-out-spec : {M : Type 1} → statement M
 chain-out-spec =
@@ -63,6 +129,8 @@ chain-out-spec =
     (tie.spec
     Inv-loop
     μ-loop
+    Inv-loop2
+    μ-loop2
     returns
     loop-holds
     chain-word-requires
@@ -71,5 +139,16 @@ chain-out-spec =
     add-i
     loop-less
     loop-again
+    cast-words
+    slice-write-words-2
+    loop2-holds
+    array-read-words
+    cast-words-2
+    add-words
+    mul-words-2
+    slice-write-words-3
+    add-t
+    loop2-less
+    loop2-again
     same-length
     returns-2)

@@ -100,6 +100,7 @@ returns-6 c =
       le-ltb _ _ (b .before .if3 .left),
       le-ltb _ _ (b .if4 .left),
       le-ltb _ _ (d .if5 .left),
+      lt-ltb _ _ (b .before .before .before .before .before .before .pre),
       c .kernel-words .ensures,
     )
 

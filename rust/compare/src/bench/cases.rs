@@ -1,11 +1,13 @@
-//! The chains that are timed, by name.
+//! The chains that are timed, by name. Terms go in chain order where the name says no other.
 use straight::{plan, Chain, Kernel, Request};
 
-/// Offsets whose entries are -1, 0 and 1.
+/// Offsets whose entries are -1, 0 and 1, falling.
 fn neighbours(dims: u32, keep: impl Fn(&[i16]) -> bool) -> Vec<Vec<i16>> {
     (0..3usize.pow(dims))
+        .rev()
         .map(|number| {
             (0..dims)
+                .rev()
                 .map(|d| (number / 3usize.pow(d) % 3) as i16 - 1)
                 .collect::<Vec<i16>>()
         })
@@ -22,21 +24,37 @@ fn planned(sizes: &[u32], offsets: &[Vec<i16>], kernel: Kernel) -> Chain {
     plan(&Request::new(sizes, &offsets, kernel)).expect("the window is accepted")
 }
 
-/// Cases 1, 3, 4 and 5 of document 01.
-fn case(number: u8, kernel: Kernel) -> Chain {
-    let (sizes, offsets): (&[u32], _) = match number {
+/// Grid and offsets of cases 1, 3, 4 and 5 of document 01.
+fn window(number: u8) -> (&'static [u32], Vec<Vec<i16>>) {
+    match number {
         1 => (&[768, 1024], neighbours(2, |o| steps(o) <= 1)),
         3 => (&[768, 1024], neighbours(2, |_| true)),
         4 => (&[40, 32, 32], neighbours(3, |o| steps(o) <= 1)),
         5 => (&[40, 32, 32], neighbours(3, |o| steps(o) <= 2)),
         _ => unreachable!(),
-    };
+    }
+}
+
+fn case(number: u8, kernel: Kernel) -> Chain {
+    let (sizes, offsets) = window(number);
+    planned(sizes, &offsets, kernel)
+}
+
+/// Case 1 with its references as Listing 1 of document 003 names them: centre, left, right, up, down.
+fn listing_1(kernel: Kernel) -> Chain {
+    let offsets = [[0, 0], [0, -1], [0, 1], [-1, 0], [1, 0]].map(|offset| offset.to_vec());
+    planned(window(1).0, &offsets, kernel)
+}
+
+fn rising(number: u8, kernel: Kernel) -> Chain {
+    let (sizes, mut offsets) = window(number);
+    offsets.reverse();
     planned(sizes, &offsets, kernel)
 }
 
 /// `count` neighbours in a row of 100,000 cells, `apart` cells between two.
 pub fn row(count: i16, apart: i16, kernel: Kernel) -> Chain {
-    let offsets: Vec<Vec<i16>> = (0..count).map(|k| vec![k * apart]).collect();
+    let offsets: Vec<Vec<i16>> = (0..count).rev().map(|k| vec![k * apart]).collect();
     planned(&[100_000], &offsets, kernel)
 }
 
@@ -49,6 +67,17 @@ pub fn planned_chains() -> Vec<(String, Chain)> {
             chains.push((format!("case {number} {name}"), case(number, kernel)));
         }
     }
+    let ordered = [
+        (
+            "case 1 difference, as Listing 1 adds",
+            listing_1(Kernel::Difference),
+        ),
+        (
+            "case 5 difference, terms rising",
+            rising(5, Kernel::Difference),
+        ),
+    ];
+    chains.extend(ordered.map(|(name, chain)| (name.to_string(), chain)));
     chains
 }
 

@@ -37,7 +37,10 @@ impl Lent {
             words: zohmirka::Chain {
                 words: chain_words(&chain),
             },
-            cells: (0..total).map(|i| ((i % 1000) as f32).to_bits()).collect(),
+            // Differences whose squares are rounded, so that the order of the terms shows.
+            cells: (0..total)
+                .map(|i| ((i % 1000) as f32 * 0.37).to_bits())
+                .collect(),
             store: vec![0; capacity_sum(&chain) as usize],
             out: vec![0; total as usize * width],
             width,
@@ -158,7 +161,7 @@ fn per(nanos: f64, clocks: usize) -> String {
     format!("{:.2}", nanos / clocks as f64)
 }
 
-/// Planned chains: cases 1, 3, 4 and 5, raw and difference.
+/// Planned chains: cases 1, 3, 4 and 5, raw and difference, and differences in other orders.
 pub fn planned() {
     let mut table = Table::new(&[
         "case",

@@ -1,27 +1,17 @@
 use super::call::{call, Given, Lengths, Lent, BEHIND};
 use crate::dice::Dice;
 use crate::draft::Draft;
+use crate::native;
 use crate::round::{Differs, Round};
+use crate::tally::Function;
 use crate::words::{chain_of, chain_words, CHAIN_WORDS, STATE_WORDS};
 use straight::{judge_chain, Chain};
+use zohmirka::SHEET_BYTES;
 
-/// A chain's words with some of them changed, and words past the counts filled at random.
+const FILL: u8 = 0xA5;
+
 pub fn calls(round: &mut Round) -> Result<(), Differs> {
-    let dice = &mut round.dice;
-    let draft = Draft::random(dice);
-    let mut words = chain_words(&draft.chain().unwrap_or(Chain::blank())).to_vec();
-    if dice.one_in(2) {
-        past_counts(dice, &mut words);
-    }
-    for _ in 0..dice.below(3) {
-        change(dice, &mut words);
-    }
-    if dice.one_in(30) {
-        words.truncate(dice.below(CHAIN_WORDS));
-    }
-    if dice.one_in(10) {
-        words.extend((0..dice.below(20)).map(|_| dice.word()));
-    }
+    let words = any_words(&mut round.dice);
     let value = chain_of(&words);
     let chain = judge_chain(&value).map(|_| value);
     round.note_words("chain words", &words);
@@ -68,6 +58,59 @@ pub fn calls(round: &mut Round) -> Result<(), Differs> {
     Ok(())
 }
 
+/// Any words judged, and their sheet written.
+pub fn written(round: &mut Round) -> Result<(), Differs> {
+    let words = any_words(&mut round.dice);
+    let value = chain_of(&words);
+    round.note_words("chain words", &words);
+    let judged = judge_chain(&value).map_or_else(|r| r.number() as u32, |_| 0);
+    round.tally.count(Function::JudgeChain, judged);
+    round.same("judge_chain", &native::judge_chain(&words), &judged)?;
+
+    let needed = match judged {
+        0 => straight::sheet::chain_text(&value).len(),
+        _ => 0,
+    };
+    let dice = &mut round.dice;
+    let room = match dice.below(8) {
+        0 => dice.below(SHEET_BYTES),
+        1 => needed.saturating_sub(1),
+        2 => needed,
+        3 => 0,
+        _ => SHEET_BYTES,
+    };
+    round.note("sheet lent", || format!("{room} bytes"));
+    let mut wanted = [FILL; SHEET_BYTES + BEHIND];
+    let (refusal, bytes) = match straight::write_chain(&value, &mut wanted[..room]) {
+        Ok(bytes) => (0, bytes),
+        Err(refusal) => (refusal.number() as u32, 0),
+    };
+    let mut sheet = [FILL; SHEET_BYTES + BEHIND];
+    let got = native::write_chain(&words, &mut sheet[..room]);
+    round.tally.count(Function::WriteChain, refusal);
+    round.same("write_chain", &got, &native::Sheet { refusal, bytes })?;
+    round.same_at("write_chain: sheet", &sheet, &wanted)
+}
+
+/// A chain's words with some of them changed, and words past the counts filled at random.
+fn any_words(dice: &mut Dice) -> Vec<u32> {
+    let draft = Draft::random(dice);
+    let mut words = chain_words(&draft.chain().unwrap_or(Chain::blank())).to_vec();
+    if dice.one_in(2) {
+        past_counts(dice, &mut words);
+    }
+    for _ in 0..dice.below(3) {
+        change(dice, &mut words);
+    }
+    if dice.one_in(30) {
+        words.truncate(dice.below(CHAIN_WORDS));
+    }
+    if dice.one_in(10) {
+        words.extend((0..dice.below(20)).map(|_| dice.word()));
+    }
+    words
+}
+
 /// Fills the words that play no part.
 fn past_counts(dice: &mut Dice, words: &mut [u32]) {
     let dims = (words[0] as usize).min(4);
@@ -84,6 +127,8 @@ fn past_counts(dice: &mut Dice, words: &mut [u32]) {
     if words[165] < 3 {
         words[167] = dice.word();
     }
+    let terms = if words[168] == 0 { 0 } else { n };
+    words[169 + terms..].fill_with(|| dice.word());
     for k in 0..4 * n {
         // The high half of an entry.
         words[6 + k] |= (dice.word() & dice.word()) << 16;
@@ -91,7 +136,7 @@ fn past_counts(dice: &mut Dice, words: &mut [u32]) {
 }
 
 fn change(dice: &mut Dice, words: &mut [u32]) {
-    match dice.below(8) {
+    match dice.below(11) {
         0 => words[0] = dice.pick(&[0, 1, 2, 3, 4, 5, 255, 256, 257, u32::MAX]),
         1 => words[1 + dice.below(4)] = dice.pick(&[0, 1, 2, 5, 1024, 1_048_577, u32::MAX]),
         2 => words[5] = dice.pick(&[0, 1, 2, 31, 32, 33, 255, 256, 257, 258, u32::MAX]),
@@ -105,6 +150,19 @@ fn change(dice: &mut Dice, words: &mut [u32]) {
         }
         5 => words[165] = dice.pick(&[0, 1, 2, 3, 4, 255, 256, 257, u32::MAX]),
         6 => words[166 + dice.below(2)] = dice.float(),
+        7 => words[168] = dice.pick(&[0, 1, 2, 256, 1 << 31, u32::MAX]),
+        8 => {
+            let t = 169 + dice.below((words[5] as usize).clamp(1, 32));
+            words[t] = match dice.below(4) {
+                0 => words[5],
+                1 => words[t].wrapping_add(256),
+                _ => dice.pick(&[0, 1, 2, 31, 32, 255, 256, 1 << 16, u32::MAX]),
+            };
+        }
+        9 => {
+            let n = (words[5] as usize).clamp(1, 32);
+            words.swap(169 + dice.below(n), 169 + dice.below(n));
+        }
         _ => {
             let k = dice.below(words.len());
             words[k] = dice.word();

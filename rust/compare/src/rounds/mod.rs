@@ -1,5 +1,6 @@
 //! The kinds of rounds. A round is fixed by the seed and its number.
 mod any_chain;
+mod author;
 mod call;
 mod calls;
 mod sheets;
@@ -8,10 +9,12 @@ use crate::round::{Differs, Round};
 
 type Kind = fn(&mut Round) -> Result<(), Differs>;
 
-pub const KINDS: [(&str, Kind); 5] = [
+pub const KINDS: [(&str, Kind); 7] = [
     ("a request sheet planned", sheets::plan),
     ("a window by name beside its offsets", sheets::by_name),
     ("a chain sheet judged and read", sheets::chain),
     ("run calls on a chain", calls::calls),
     ("run calls on any words", any_chain::calls),
+    ("any words judged and written", any_chain::written),
+    ("a plan beside the author's loop", author::words),
 ];

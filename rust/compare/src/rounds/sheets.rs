@@ -90,7 +90,7 @@ pub fn chain(round: &mut Round) -> Result<(), Differs> {
         _ => draft.chain_text(),
     };
     spoil(dice, &mut text);
-    let room = dice.pick(&[CHAIN_WORDS, CHAIN_WORDS, CHAIN_WORDS - 1, 0, 200, 100]);
+    let room = dice.pick(&[CHAIN_WORDS, CHAIN_WORDS, CHAIN_WORDS - 1, 0, 240, 168]);
     round.note_text("chain", &text);
     round.note("words lent", || format!("{room}"));
 
@@ -105,7 +105,7 @@ pub fn chain(round: &mut Round) -> Result<(), Differs> {
         &want.map(|_| ()).map_err(|r| r.number() as u32),
     )?;
 
-    let mut wanted = [FILL_WORD; 208];
+    let mut wanted = [FILL_WORD; 248];
     let refusal = match &want {
         Err(refusal) => refusal.number() as u32,
         Ok(_) if room < CHAIN_WORDS => Refusal::ShortOutput.number() as u32,
@@ -114,7 +114,7 @@ pub fn chain(round: &mut Round) -> Result<(), Differs> {
             0
         }
     };
-    let mut words = [FILL_WORD; 208];
+    let mut words = [FILL_WORD; 248];
     let got = native::read_chain(&text, &mut words[..room]);
     round.tally.count(Function::ReadChain, refusal);
     round.same("read_chain", &got, &refusal)?;
@@ -122,9 +122,7 @@ pub fn chain(round: &mut Round) -> Result<(), Differs> {
     let safe = zohmirka::Chain::read(&text)
         .map(|c| c.words)
         .map_err(|r| r.number());
-    let want = want
-        .map(|c| chain_words(&c))
-        .map_err(|r| r.number() as u32);
+    let want = want.map(|c| chain_words(&c)).map_err(|r| r.number() as u32);
     round.same("safe read", &safe, &want)?;
     Ok(())
 }

@@ -8,12 +8,12 @@ use Rattle.nested.proofs.requests.request.Tie as tie
 grid-requires : tie.Need-grid-requires
 grid-requires c κs = search needs
 
-rising-requires : tie.Need-rising-requires
-rising-requires c κs = search needs
+listed-requires : tie.Need-listed-requires
+listed-requires c κs = search needs
 
 returns : tie.Need-returns
 unfolding requestOf
-returns c = rw (c .rising .ensures, c .before .grid .ensures) refl
+returns c = rw (c .listed .ensures, c .before .grid .ensures) refl
 
 pub request-spec : {M : Type 1} → statement M
-request-spec = tie.close (tie.spec grid-requires rising-requires returns)
+request-spec = tie.close (tie.spec grid-requires listed-requires returns)
