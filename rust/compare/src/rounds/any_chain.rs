@@ -72,13 +72,7 @@ pub fn written(round: &mut Round) -> Result<(), Differs> {
         _ => 0,
     };
     let dice = &mut round.dice;
-    let room = match dice.below(8) {
-        0 => dice.below(SHEET_BYTES),
-        1 => needed.saturating_sub(1),
-        2 => needed,
-        3 => 0,
-        _ => SHEET_BYTES,
-    };
+    let room = dice.room(SHEET_BYTES, needed);
     round.note("sheet lent", || format!("{room} bytes"));
     let mut wanted = [FILL; SHEET_BYTES + BEHIND];
     let (refusal, bytes) = match straight::write_chain(&value, &mut wanted[..room]) {

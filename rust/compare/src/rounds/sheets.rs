@@ -31,13 +31,7 @@ pub fn plan(round: &mut Round) -> Result<(), Differs> {
 
     let mut whole = [FILL; SHEET_BYTES + 8];
     let needed = planned(&text, &mut whole[..SHEET_BYTES]).unwrap_or(0);
-    let room = match dice.below(8) {
-        0 => dice.below(SHEET_BYTES),
-        1 => needed.saturating_sub(1),
-        2 => needed,
-        3 => 0,
-        _ => SHEET_BYTES,
-    };
+    let room = dice.room(SHEET_BYTES, needed);
     round.note_text("request", &text);
     round.note("sheet lent", || format!("{room} bytes"));
 
