@@ -16,7 +16,8 @@ use Rattle.model.specs.Sized.{Sized, Proper}
 use Rattle.model.specs.Values.{Trimmed, trimmed}
 use Rattle.model.specs.Iterations.{readsOf}
 use Rattle.model.specs.Judging.{repeats, needsCentre, lacksCentre, centred, badOrder, judged}
-use Rattle.model.specs.Planning.{falling, whichOf, authorsOrder, sorted, trimmedRequest, judgeRequest, planOf}
+use Rattle.model.specs.Steps.{falling, whichOf, authorsOrder, sorted}
+use Rattle.model.specs.Planning.{trimmedRequest, judgeRequest, planOf}
 use Rattle.model.specs.Kernels.{terms, centreOf, wordsAt, written, difference, scaled, blend}
 use Rattle.model.specs.Running.{filtersOf, termsOf, writesOf, writtenBy}
 use Rattle.model.specs.CallLists.{allWords, firingsMade}

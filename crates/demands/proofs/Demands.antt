@@ -3,6 +3,7 @@ use Rattle.demands.specs.Iterations.{Geometry}
 use Rattle.demands.specs.Demand3.{ListOfCalls, Demand3}
 use Rattle.demands.specs.Demand2.{Demand2}
 use Rattle.demands.specs.Plan.{PlanDemand}
+use Rattle.demands.specs.Steps.{PaperSteps}
 use Rattle.demands.specs.AuthorsOrder.{AuthorsOrder}
 use Rattle.demands.specs.Promises.{Promises}
 use Rattle.demands.specs.AnyState.{AnyStates}
@@ -12,6 +13,7 @@ use Rattle.demands.proofs.HandedOn.{hands-on}
 use Rattle.demands.proofs.Timing.{indexed, on-time, not-earlier}
 use Rattle.demands.proofs.Words.{demand-2}
 use Rattle.demands.proofs.Plans.{plan-demand}
+use Rattle.demands.proofs.Steps.{paper-steps}
 use Rattle.demands.proofs.AuthorsOrder.{authors-order}
 use Rattle.demands.proofs.Again.{makes-clock, called-again}
 use Rattle.demands.proofs.Pieces.{small-pieces}
@@ -23,6 +25,9 @@ grid-window-distances = geometry
 
 pub demand-2-plans : PlanDemand
 demand-2-plans = plan-demand
+
+pub planning-steps : PaperSteps
+planning-steps = paper-steps
 
 pub demand-2-runs : (q : ListOfCalls) → Demand2 q
 demand-2-runs = demand-2

@@ -7,16 +7,18 @@ use native.Mathlib.Omega.{arith}
 use lib.Dec.{ltb}
 use lib.ListN.{length, getD, drop}
 use Rattle.model.specs.Lists.{tabulate}
-use Rattle.model.specs.Values.{Trimmed, sizesOf, offsetOf, offsetsOf, capacitiesOf, orderOf, trimmedOf, trimmed, chainOf, blankChain, Same}
+use Rattle.model.specs.Values.{Trimmed, sizesOf, offsetOf, offsetsOf, capacitiesOf, orderOf, trimmedOf, onGrid, trimmed, chainOf, blankChain, Same}
 use Rattle.model.specs.Answers.{check, firstOf, byVerdict}
 use Rattle.model.specs.Judging.{judged, judgeChain}
-use Rattle.model.specs.Planning.{sorted, distances, trimmedRequest, judgeRequest, plannedChain, planOf}
+use Rattle.model.specs.Steps.{sorted, distances}
+use Rattle.model.specs.Planning.{trimmedRequest, judgeRequest, plannedChain, planOf}
 use Rattle.model.specs.Frames.{framed}
 use Rattle.model.specs.Numbers.{wordBytes}
 use Rattle.model.specs.Writing.{gridLine, offsetLine, capacityLine, orderLines, kernelLine, chainLines, sheetOf, writeVerdict, Written, writeOf}
 use Rattle.model.specs.declared.Grid.{Grid}
 use Rattle.model.specs.declared.Window.{Window}
 use Rattle.model.specs.declared.Kernel.{Kernel}
+use Rattle.model.specs.declared.Kernel.the-variants as kernel
 use Rattle.model.specs.declared.Order.{Order}
 use Rattle.model.specs.declared.Request.{Request}
 use Rattle.model.specs.declared.Chain.{Chain}
@@ -80,10 +82,12 @@ apart c d s n e = true≢false (sym s ∙ ap (λ (t : Trimmed). t .ordered) e �
 
 same-requests : (r q : Request) → RequestsAgree r q → SameRequest r q
 unfolding trimmedRequest
-same-requests r q a = both _ _ (ap (λ (t : Trimmed). distances (sorted t)) (both [] [] refl))
+same-requests r q a =
+    both (r .kernel) (q .kernel) (distances (sorted (onGrid (r .grid) (r .window)))) (distances (sorted (onGrid (q .grid) (q .window)))) (a .kernel)
+    (ap (λ (t : Trimmed). distances (sorted t)) (both kernel.Raw kernel.Raw [] [] refl refl))
   where
-    both : (xs ys : List ℕ) → xs ≡ ys → trimmedOf (r .grid) (r .window) xs false [] (r .kernel) ≡ trimmedOf (q .grid) (q .window) ys false [] (q .kernel)
-    both xs ys e = trimmed-alike (r .grid) (q .grid) (r .window) (q .window) xs ys false false [] [] (r .kernel) (q .kernel) (a .grid) (a .window) e refl refl (a .kernel)
+    both : (k l : Kernel) (xs ys : List ℕ) → k ≡ l → xs ≡ ys → trimmedOf (r .grid) (r .window) xs false [] k ≡ trimmedOf (q .grid) (q .window) ys false [] l
+    both k l xs ys f e = trimmed-alike (r .grid) (q .grid) (r .window) (q .window) xs ys false false [] [] k l (a .grid) (a .window) e refl refl f
 
 -- What is written of a chain, from what plays a part.
 linesFrom : Trimmed → List (List ℕ)

@@ -9,7 +9,8 @@ use Rattle.model.specs.Values.{Trimmed, sizesOf, offsetsOf, trimmed}
 use Rattle.model.specs.Iterations.{iterationsOf, readsOf, distanceOf}
 use Rattle.model.specs.Judging.{judgeChain}
 use Rattle.model.specs.Running.{layout}
-use Rattle.model.specs.Planning.{distances, trimmedRequest, judgeRequest, sorted, planOf}
+use Rattle.model.specs.Steps.{distances, sorted}
+use Rattle.model.specs.Planning.{trimmedRequest, judgeRequest, planOf}
 use Rattle.model.specs.declared.Request.{Request}
 use Rattle.model.specs.declared.Verdict.the-variants as verdict
 use Rattle.model.proofs.ListLaws.{getD-tabulate}
@@ -25,7 +26,7 @@ use Rattle.run_laws.proofs.Plans.{sorted-proper, no-repeats, request-proper, pl
 use Rattle.demands.specs.Plan.{PlanRight, PlanDemand}
 
 -- Positions that fall by these steps fall by their sum.
-steps-sum : (at : ℕ → ℕ) (steps : List ℕ) → ((k : ℕ) → k < length steps → at k ≡ at (suc k) + getD steps k 0) → at 0 ≡ at (length steps) + sum steps
+pub steps-sum : (at : ℕ → ℕ) (steps : List ℕ) → ((k : ℕ) → k < length steps → at k ≡ at (suc k) + getD steps k 0) → at 0 ≡ at (length steps) + sum steps
 unfolding sum
 steps-sum at [] f = omega arith
 steps-sum at (s ∷ ss) f = omega (arith, f 0 (omega arith), steps-sum (λ k. at (suc k)) ss (λ k h. f (suc k) (omega arith)))

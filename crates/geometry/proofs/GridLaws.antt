@@ -11,6 +11,8 @@ use Rattle.model.specs.Lists.{tabulate, product, any}
 use Rattle.model.specs.Geometry.{cellCount}
 use Rattle.model.specs.Values.{sizesOf}
 use Rattle.model.proofs.Tests.{neither}
+use Rattle.model.proofs.CheckLaws.{few-dims}
+use Rattle.model.proofs.CheckLaws as counts
 use Rattle.model.specs.Judging.{mostCells, badDims, badSizes, badGrid, badCount}
 use Rattle.model.specs.declared.Grid.{Grid}
 use Rattle.model.specs.declared.Window.{Window}
@@ -80,7 +82,7 @@ module _ (g : Grid) (e : badGrid (g .dims) (sizesOf g) ≡ false) where
   parts = neither (eqb (g .dims) 0 || ltb 4 (g .dims)) (any (λ s. eqb s 0) (sizesOf g) || ltb mostCells (cellCount (sizesOf g))) e
 
   pub few-dimensions : g .dims ≤ 4
-  few-dimensions = ltb-false 4 (g .dims) (neither (eqb (g .dims) 0) (ltb 4 (g .dims)) (parts .0) .1)
+  few-dimensions = few-dims (g .dims) (sizesOf g) e
 
   pub sizes-above : (d : ℕ) → d < g .dims → 1 ≤ numberAt (g .sizes) d
   unfolding sizesOf
@@ -91,9 +93,7 @@ module _ (g : Grid) (e : badGrid (g .dims) (sizesOf g) ≡ false) where
 
 -- What 4, where it passes, says of a window.
 pub some-references : (w : Window) → badCount (w .count) ≡ false → 0 < w .count
-unfolding badCount
-some-references w e = omega (arith, eqb-false (w .count) 0 (neither (eqb (w .count) 0) (ltb 32 (w .count)) e .0))
+some-references w e = counts.some-references (w .count) e
 
 pub few-references : (w : Window) → badCount (w .count) ≡ false → w .count ≤ 32
-unfolding badCount
-few-references w e = ltb-false 32 (w .count) (neither (eqb (w .count) 0) (ltb 32 (w .count)) e .1)
+few-references w e = counts.few-references (w .count) e

@@ -1,17 +1,17 @@
 -- Laws of the checks in their groups.
-use Prim.Native.Nat.{ℕ, _-_, _<_}
+use Prim.Native.Nat.{ℕ}
 use mathlib.Core.Bool.{Bool, false, cond}
-use mathlib.Core.List.{List, _++_, append-assoc}
+use mathlib.Core.List.{List, [], _∷_, _++_}
 use mathlib.Core.Path.{_≡_, refl, sym, _∙_, ap}
 use native.Mathlib.Omega.{arith}
 use lib.Dec.{ltb}
 use borrow.Author.Tests.{eqb-false}
-use Rattle.model.specs.Lists.{tabulate}
+use Rattle.model.specs.Lists.{sum}
 use Rattle.model.specs.Geometry.{iterationCount}
 use Rattle.model.specs.Kernels.{centreOf}
-use Rattle.model.specs.Values.{Trimmed, sizesOf, offsetOf, offsetsOf, capacitiesOf, orderOf, trimmed}
-use Rattle.model.specs.Answers.{firstOf, byVerdict}
-use Rattle.model.specs.Judging.{badGrid, badCount, repeats, noIteration, tooLarge, centred, badOrder, windowChecks, kernelChecks, chainChecks, valueChecks, judged, judgeChain}
+use Rattle.model.specs.Values.{sizesOf, offsetOf, offsetsOf, onGrid, capacitiesOf, orderOf, trimmed}
+use Rattle.model.specs.Answers.{check, firstOf, byVerdict}
+use Rattle.model.specs.Judging.{mostPlaces, badCount, noIteration, tooLarge, centred, badOrder, windowChecks, kernelChecks, chainChecks, valueChecks, judged, judgeWindow, judgeBehind, judgeChain}
 use Rattle.model.specs.declared.Grid.{Grid}
 use Rattle.model.specs.declared.Window.{Window}
 use Rattle.model.specs.declared.Kernel.{Kernel}
@@ -22,102 +22,41 @@ use Rattle.model.specs.declared.Verdict.{Verdict}
 use Rattle.model.specs.declared.Verdict.the-variants as verdict
 use Rattle.model.proofs.ListLaws.{length-tabulate}
 use Rattle.model.proofs.CheckLaws.{then-checks, both-pass, WindowPasses, window-passes}
-use Rattle.geometry.specs.Parts.{numberAt}
 use Rattle.geometry.specs.Windows.{centreIn}
-use Rattle.shape.specs.Shapes.{shapeOf, onGrid, surveyOf}
+use Rattle.shape.specs.Shapes.{shapeOf, surveyOf}
 use Rattle.shape.specs.declared.Survey.{Survey}
 use Rattle.geometry.proofs.OffsetLaws.{below-count}
-use Rattle.shape.proofs.Answers.{centre-is, shape-is}
-use Rattle.judging.specs.Checks.{judgedKernel, judgedWindow, tooLargeIn, judgedRest, examinedOf}
+use Rattle.shape.proofs.Answers.{centre-is, shape-is, survey-verdict}
+use Rattle.judging.specs.Checks.{judgedRest, examinedOf}
 
--- 9 and 14 are looked at where 3 to 8 pass.
-module _ (t : Trimmed) where
-  by-capacities : judged t
-      ≡ byVerdict (firstOf (windowChecks t ++ kernelChecks (t .kernel) (centred (t .offsets)))) (firstOf (chainChecks (t .capacities) (t .count) (t .order))) verdict.Refused
-  unfolding judged valueChecks
-  by-capacities =
-      ap firstOf (sym (append-assoc (windowChecks t) (kernelChecks (t .kernel) (centred (t .offsets))) (chainChecks (t .capacities) (t .count) (t .order))))
-      ∙ then-checks (windowChecks t ++ kernelChecks (t .kernel) (centred (t .offsets))) (chainChecks (t .capacities) (t .count) (t .order))
-
-  pub judged-refused : (x : Refusal) → firstOf (windowChecks t ++ kernelChecks (t .kernel) (centred (t .offsets))) ≡ verdict.Refused x → verdict.Refused x ≡ judged t
-  judged-refused x e = sym (rw e at by-capacities)
-
-  pub judged-capacities : firstOf (windowChecks t ++ kernelChecks (t .kernel) (centred (t .offsets))) ≡ verdict.Accepted
-      → firstOf (chainChecks (t .capacities) (t .count) (t .order)) ≡ judged t
-  judged-capacities e = sym (rw e at by-capacities)
-
--- 9 is looked at where 7 and 8 pass, then 14.
+-- 14 is looked at where 7, 8 and 9 pass, and 9 goes by the sum of the capacities.
 module _ (k : Kernel) (b : Bool) (capacities : List ℕ) (n : ℕ) (order : List ℕ) where
-  by-kernel-first : judgedRest k b capacities n order
-      ≡ byVerdict (judgedKernel k b) (cond (tooLarge capacities) (verdict.Refused refusal.TooLarge) (cond (badOrder n order) (verdict.Refused refusal.BadOrder) verdict.Accepted)) verdict.Refused
-  unfolding judgedRest judgedKernel chainChecks firstOf
-  by-kernel-first = then-checks (kernelChecks k b) (chainChecks capacities n order)
+  by-total : judgedRest k b capacities n order
+      ≡ byVerdict (judgeBehind k b (sum capacities)) (cond (badOrder n order) (verdict.Refused refusal.BadOrder) verdict.Accepted) verdict.Refused
+  unfolding judgedRest judgeBehind kernelChecks chainChecks tooLarge firstOf
+  by-total = then-checks (kernelChecks k b ++ (check (ltb mostPlaces (sum capacities)) refusal.TooLarge ∷ [])) (check (badOrder n order) refusal.BadOrder ∷ [])
 
-  pub rest-refused : (x : Refusal) → judgedKernel k b ≡ verdict.Refused x → verdict.Refused x ≡ judgedRest k b capacities n order
-  rest-refused x e = sym (rw e at by-kernel-first)
+  pub rest-refused : (x : Refusal) → judgeBehind k b (sum capacities) ≡ verdict.Refused x → verdict.Refused x ≡ judgedRest k b capacities n order
+  rest-refused x e = sym (rw e at by-total)
 
-  pub rest-chain : (large bad : Bool) → judgedKernel k b ≡ verdict.Accepted → tooLarge capacities ≡ large → badOrder n order ≡ bad
-      → cond large (verdict.Refused refusal.TooLarge) (cond bad (verdict.Refused refusal.BadOrder) verdict.Accepted) ≡ judgedRest k b capacities n order
-  rest-chain large bad e f g = sym (rw (e, f, g) at by-kernel-first)
+  pub rest-order : (bad : Bool) → judgeBehind k b (sum capacities) ≡ verdict.Accepted → badOrder n order ≡ bad
+      → cond bad (verdict.Refused refusal.BadOrder) verdict.Accepted ≡ judgedRest k b capacities n order
+  rest-order bad e f = sym (rw (e, f) at by-total)
 
--- 9 of an array, where 4 lets the count pass.
-pub too-large-is : (count : ℕ) (capacities : List ℕ) → badCount count ≡ false → tooLargeIn count capacities ≡ tooLarge (tabulate (count - 1) (numberAt capacities))
-unfolding tooLargeIn
-too-large-is count capacities e = rw e
-
--- What a survey answers is the first of 3 to 6.
 module _ (g : Grid) (w : Window) where
-  pub survey-verdict : surveyOf g w .verdict ≡ firstOf (windowChecks (onGrid g w))
-  unfolding surveyOf
-  survey-verdict = go (firstOf (windowChecks (onGrid g w))) refl
-    where
-      go : (v : Verdict) → firstOf (windowChecks (onGrid g w)) ≡ v → surveyOf g w .verdict ≡ firstOf (windowChecks (onGrid g w))
-      go verdict.Accepted e = rw e
-      go (verdict.Refused x) e = rw e
-
-  survey-centre : firstOf (windowChecks (onGrid g w)) ≡ verdict.Accepted → surveyOf g w .centre ≡ centreOf (offsetsOf (g .dims) w)
+  survey-centre : judgeWindow g w ≡ verdict.Accepted → surveyOf g w .centre ≡ centreOf (offsetsOf (g .dims) w)
   unfolding surveyOf
   survey-centre e = rw e
 
   pub survey-count : surveyOf g w .verdict ≡ verdict.Accepted → badCount (w .count) ≡ false
-  survey-count e = window-passes (onGrid g w) (sym survey-verdict ∙ e) .count
+  survey-count e = window-passes (onGrid g w) (sym (survey-verdict g w) ∙ e) .count
 
   -- There is a centre exactly if its number is below the count.
   survey-centred : surveyOf g w .verdict ≡ verdict.Accepted → ltb (surveyOf g w .centre) (w .count) ≡ centred (offsetsOf (g .dims) w)
   unfolding offsetsOf
   survey-centred e =
-      ap (λ (m : ℕ). ltb m (w .count)) (survey-centre (sym survey-verdict ∙ e))
+      ap (λ (m : ℕ). ltb m (w .count)) (survey-centre (sym (survey-verdict g w) ∙ e))
       ∙ ap (ltb (centreOf (offsetsOf (g .dims) w))) (sym (length-tabulate (w .count) (offsetOf (g .dims) w))) ∙ below-count (offsetsOf (g .dims) w)
-
-  -- 7 and 8 are looked at where 3 to 6 pass.
-  module _ (k : Kernel) where
-    by-kernel : judgedWindow g w k ≡ byVerdict (surveyOf g w .verdict) (judgedKernel k (centred (offsetsOf (g .dims) w))) verdict.Refused
-    unfolding judgedWindow judgedKernel
-    by-kernel = rw survey-verdict (then-checks (windowChecks (onGrid g w)) (kernelChecks k (centred (offsetsOf (g .dims) w))))
-
-    pub window-refused : (x : Refusal) → surveyOf g w .verdict ≡ verdict.Refused x → verdict.Refused x ≡ judgedWindow g w k
-    window-refused x e = sym (rw e at by-kernel)
-
-    pub window-kernel : (v : Verdict) → surveyOf g w .verdict ≡ verdict.Accepted → v ≡ judgedKernel k (ltb (surveyOf g w .centre) (w .count)) → v ≡ judgedWindow g w k
-    window-kernel v e d = d ∙ ap (judgedKernel k) (survey-centred e) ∙ sym (rw e at by-kernel)
-
-module _ (g : Grid) (w : Window) (k : Kernel) (e : judgedWindow g w k ≡ verdict.Accepted) where
-  parts : WindowPasses (onGrid g w)
-  unfolding judgedWindow
-  parts = window-passes (onGrid g w) (both-pass (windowChecks (onGrid g w)) (kernelChecks k (centred (offsetsOf (g .dims) w))) e .0)
-
-  pub accepted-grid : badGrid (g .dims) (sizesOf g) ≡ false
-  accepted-grid = parts .grid
-
-  pub accepted-count : badCount (w .count) ≡ false
-  accepted-count = parts .count
-
-  pub accepted-distinct : repeats (offsetsOf (g .dims) w) ≡ false
-  accepted-distinct = parts .distinct
-
-  pub accepted-iterations : 0 < iterationCount (sizesOf g) (offsetsOf (g .dims) w)
-  unfolding noIteration
-  accepted-iterations = omega (arith, eqb-false (iterationCount (sizesOf g) (offsetsOf (g .dims) w)) 0 (parts .iterates))
 
 -- A chain: its window is judged, then the rest.
 module _ (c : Chain) where

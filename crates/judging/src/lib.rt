@@ -1,23 +1,22 @@
-// Judging a chain, or a grid, a window and a kernel, that are handed over as values: by 3 to 9, lowest first, then 14.
+// Judging a chain that is handed over as a value, by 3 to 9, lowest first, then 14; and a request behind the steps of its plan.
 use model::Chain;
-use model::Grid;
 use model::Kernel;
 use model::Order;
 use model::Refusal;
 use model::Verdict;
 use model::Window;
 use shape::Shape;
-use values::wide;
 ghost use mathlib.Core.Path.{_≡_};
 ghost use mathlib.Core.Bool.{false};
-ghost use Prim.Native.Nat.{_-_, _≤_, _<_};
-ghost use Rattle.model.specs.Lists.{tabulate, sum};
-ghost use Rattle.model.specs.Judging.{badCount, lacksCentre, badOrder, judgeChain};
+ghost use Prim.Native.Nat.{_-_, _≤_};
+ghost use Rattle.model.specs.Lists.{tabulate};
+ghost use Rattle.model.specs.Judging.{badCount, lacksCentre, badOrder, judgeBehind, judgeChain};
 ghost use Rattle.model.specs.Values.{orderOf};
 ghost use Rattle.model.specs.Answers.{byVerdict};
 ghost use Rattle.model.specs.declared.Verdict.the-variants.{Accepted, Refused};
 ghost use Rattle.geometry.specs.Parts.{numberAt};
-ghost use Rattle.judging.specs.Checks.{judgedKernel, judgedWindow, tooLargeIn, judgedRest, examinedOf};
+ghost use Rattle.geometry.specs.Windows.{hasCentre};
+ghost use Rattle.judging.specs.Checks.{judgedRest, examinedOf};
 
 // 7: difference or blend without a centre.
 fn lacks_centre(kernel: Kernel, centred: bool) -> bool
@@ -29,9 +28,9 @@ fn lacks_centre(kernel: Kernel, centred: bool) -> bool
     false
 }
 
-// 7 and 8, where the window has a centre or has none.
-fn judge_kernel(kernel: Kernel, centred: bool) -> Verdict
-    ensures { λ r. ⌜ r ≡ judgedKernel kernel centred ⌝ }
+// 7, 8 and 9, where 3 to 6 let pass, the window has a centre or has none, and the capacities sum to `total`.
+fn judge_total(kernel: Kernel, centred: bool, total: u64) -> Verdict
+    ensures { λ r. ⌜ r ≡ judgeBehind kernel centred total ⌝ }
 {
     if lacks_centre(kernel, centred) {
         return Verdict::Refused(Refusal::NoCentre);
@@ -39,18 +38,28 @@ fn judge_kernel(kernel: Kernel, centred: bool) -> Verdict
     if kernel::bad_factor(kernel) {
         return Verdict::Refused(Refusal::BadFactor);
     }
+    if 16384 < total {
+        return Verdict::Refused(Refusal::TooLarge);
+    }
     Verdict::Accepted
 }
 
-// The first of 3 to 8 that turns grid, window and kernel back.
-pub fn judge(grid: Grid, window: Window, kernel: Kernel) -> Verdict
-    ensures { λ r. ⌜ r ≡ judgedWindow grid window kernel ⌝ }
+// What 3 to 6 found of a request's window before it was planned; where they let pass, 7 and 8, and 9 by the total of its distances.
+pub fn judge_planned(
+    found: Verdict,
+    dims: u8,
+    window: Window,
+    kernel: Kernel,
+    total: u64,
+) -> Verdict
+    ensures { λ r. ⌜ r ≡ byVerdict found (judgeBehind kernel (hasCentre dims window) total) Refused ⌝ }
 {
-    let survey = shape::survey_of(grid, window);
-    let verdict = survey.verdict;
-    match verdict {
+    match found {
         Verdict::Refused(x) => Verdict::Refused(x),
-        Verdict::Accepted => judge_kernel(kernel, survey.centre < window.count),
+        Verdict::Accepted => {
+            let centred = geometry::has_centre(dims, window);
+            judge_total(kernel, centred, total)
+        }
     }
 }
 
@@ -59,34 +68,6 @@ fn number(k: u8) -> usize
     ensures { λ r. ⌜ r ≡ k ⌝ }
 {
     k as usize
-}
-
-// The sum of the capacities of a chain of `count` references.
-fn sum_of(capacities: &[u32; 31], count: u8) -> u64
-    requires { ⌜ (0 < count) × (count ≤ 32) ⌝ }
-    ensures { λ r. ⌜ r ≡ sum (tabulate (count - 1) (numberAt (now (capacities .entry)))) ⌝ }
-{
-    let last = count as usize - 1;
-    let mut sum: u64 = 0;
-    let mut k: usize = 0;
-    while k < last {
-        sum = sum + wide(capacities[k]);
-        k += 1;
-    }
-    sum
-}
-
-// 9: the capacities of a chain of `count` references sum above 16,384.
-pub fn too_large(capacities: &[u32; 31], count: u8) -> bool
-    ensures { λ r. ⌜ r ≡ tooLargeIn count (now (capacities .entry)) ⌝ }
-{
-    if count == 0 {
-        return false;
-    }
-    if 32 < count {
-        return false;
-    }
-    16384 < sum_of(capacities, count)
 }
 
 // 14: the first n numbers are not each of 0 .. n - 1 once.
@@ -133,12 +114,10 @@ fn judge_rest(
     requires { ⌜ badCount count ≡ false ⌝ }
     ensures { λ r. ⌜ r ≡ judgedRest kernel centred (tabulate (count - 1) (numberAt (now (capacities .entry)))) count (orderOf count order) ⌝ }
 {
-    match judge_kernel(kernel, centred) {
+    let total = plan_steps::total::total(capacities, count);
+    match judge_total(kernel, centred, total) {
         Verdict::Refused(x) => Verdict::Refused(x),
         Verdict::Accepted => {
-            if too_large(capacities, count) {
-                return Verdict::Refused(Refusal::TooLarge);
-            }
             if bad_order(order, count) {
                 return Verdict::Refused(Refusal::BadOrder);
             }

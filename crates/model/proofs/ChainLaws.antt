@@ -1,17 +1,19 @@
 -- A chain that is made of what plays a part has that part.
 use Prim.Native.Nat.{ℕ, _+_, _-_, _*_, _/_, _%_, _≤_, _<_}
 use mathlib.Core.Bool.{Bool, true, false, cond}
-use mathlib.Core.List.{[]}
+use mathlib.Core.List.{List, []}
 use mathlib.Core.Path.{_≡_, refl, sym, _∙_, ap₂}
 use native.Mathlib.Nat.{mul-add-div, mul-add-mod-self-left, div-eq-of-lt, mod-eq-of-lt}
 use native.Mathlib.Omega.{arith}
 use lib.ListN.{length, getD}
-use lib.IntN.{pos}
+use lib.IntN.{ℤ, pos}
 use Rattle.model.specs.Lists.{tabulate}
 use Rattle.model.specs.Sized.{Sized}
-use Rattle.model.specs.Values.{Trimmed, sizesOf, entryOf, offsetOf, offsetsOf, capacitiesOf, orderOf, trimmed, Same, chainOf}
+use Rattle.model.specs.Values.{Trimmed, sizesOf, entryOf, offsetOf, offsetsOf, capacitiesOf, orderOf, trimmed, Same, windowOf, capacityArray, chainOf}
 use Rattle.model.specs.declared.Chain.{Chain}
+use Rattle.model.specs.declared.Grid.{Grid}
 use Rattle.model.specs.declared.Order.{Order}
+use Rattle.model.specs.declared.Window.{Window}
 use Rattle.model.proofs.ListLaws.{length-tabulate, getD-tabulate, tabulate-back}
 
 -- Entry d of reference k's offset stands at 4 k + d.
@@ -21,6 +23,20 @@ reference-of k d h = omega (arith, mul-add-div {m = 4} (omega arith) k d, div-eq
 entry-of : (k d : ℕ) → d < 4 → (4 * k + d) % 4 ≡ d
 entry-of k d h = mul-add-mod-self-left 4 k d ∙ mod-eq-of-lt h
 
+-- Offsets and capacities in their arrays stand there as they were.
+pub offsets-back : (dims n : ℕ) (os : List (List ℤ)) → length os ≡ n → ((k : ℕ) → k < n → length (getD os k []) ≡ dims) → dims ≤ 4 → n ≤ 32 → offsetsOf dims (windowOf n os) ≡ os
+unfolding offsetsOf offsetOf
+offsets-back dims n os count sized few most =
+    tabulate-back [] os n _ count (λ k h. tabulate-back (pos 0) (getD os k []) dims _ (sized k h) (entry k h))
+  where
+    entry : (k : ℕ) → k < n → (d : ℕ) → d < dims → entryOf (windowOf n os) k d ≡ getD (getD os k []) d (pos 0)
+    entry k h d b =
+        getD-tabulate 128 _ (4 * k + d) (pos 0) (omega arith)
+        ∙ ap₂ (λ (k d : ℕ). getD (getD os k []) d (pos 0)) (reference-of k d (omega arith)) (entry-of k d (omega arith))
+
+pub capacities-back : (n : ℕ) (xs : List ℕ) → length xs ≡ n → n ≤ 31 → tabulate n (λ k. getD (capacityArray xs) k 0) ≡ xs
+capacities-back n xs count most = tabulate-back 0 xs n _ count (λ k h. getD-tabulate 31 _ k 0 (omega arith))
+
 module _ (t : Trimmed) where
   chain-sizes : length (t .sizes) ≡ t .dims → t .dims ≤ 4 → sizesOf (chainOf t .grid) ≡ t .sizes
   unfolding sizesOf chainOf
@@ -28,18 +44,12 @@ module _ (t : Trimmed) where
 
   chain-offsets : length (t .sizes) ≡ t .dims → length (t .offsets) ≡ t .count → Sized (t .sizes) (t .offsets) → t .dims ≤ 4 → t .count ≤ 32
       → offsetsOf (t .dims) (chainOf t .window) ≡ t .offsets
-  unfolding offsetsOf offsetOf chainOf
-  chain-offsets dims count sized few most =
-      tabulate-back [] (t .offsets) (t .count) _ count (λ k h. tabulate-back (pos 0) (getD (t .offsets) k []) (t .dims) _ (sized k (omega arith) ∙ dims) (entry k h))
-    where
-      entry : (k : ℕ) → k < t .count → (d : ℕ) → d < t .dims → entryOf (chainOf t .window) k d ≡ getD (getD (t .offsets) k []) d (pos 0)
-      entry k h d b =
-          getD-tabulate 128 _ (4 * k + d) (pos 0) (omega arith)
-          ∙ ap₂ (λ (k d : ℕ). getD (getD (t .offsets) k []) d (pos 0)) (reference-of k d (omega arith)) (entry-of k d (omega arith))
+  unfolding chainOf
+  chain-offsets dims count sized few most = offsets-back (t .dims) (t .count) (t .offsets) count (λ k h. sized k (omega arith) ∙ dims) few most
 
   chain-capacities : length (t .capacities) ≡ t .count - 1 → t .count ≤ 32 → capacitiesOf (chainOf t) ≡ t .capacities
   unfolding capacitiesOf chainOf
-  chain-capacities fifos most = tabulate-back 0 (t .capacities) (t .count - 1) _ fifos (λ k h. getD-tabulate 31 _ k 0 (omega arith))
+  chain-capacities fifos most = capacities-back (t .count - 1) (t .capacities) fifos (omega arith)
 
   chain-order : length (t .order) ≡ cond (t .ordered) (t .count) 0 → t .count ≤ 32 → orderOf (t .count) (chainOf t .order) ≡ t .order
   unfolding orderOf chainOf tabulate
@@ -73,12 +83,20 @@ length-order n o = go (o .stood)
     go true = length-tabulate n _
     go false = refl
 
+-- A window has as many offsets as it counts, and each has an entry for every dimension of the grid.
+pub offsets-count : (dims : ℕ) (w : Window) → length (offsetsOf dims w) ≡ w .count
+unfolding offsetsOf
+offsets-count dims w = length-tabulate (w .count) (offsetOf dims w)
+
+pub offsets-sized : (g : Grid) (w : Window) → Sized (sizesOf g) (offsetsOf (g .dims) w)
+unfolding sizesOf offsetOf offsetsOf
+offsets-sized g w k h =
+    let b = rw length-tabulate at h in
+    rw (getD-tabulate (w .count) (offsetOf (g .dims) w) k [] b) (length-tabulate (g .dims) _ ∙ sym (length-tabulate (g .dims) _))
+
 -- A chain's normal form is the same chain.
 pub same-normal : (c : Chain) → c .grid .dims ≤ 4 → c .window .count ≤ 32 → Same (chainOf (trimmed c)) c
-unfolding trimmed sizesOf offsetOf offsetsOf capacitiesOf
+unfolding trimmed sizesOf capacitiesOf
 same-normal c few most =
-    trimmed-chain (trimmed c) (length-tabulate (c .grid .dims) _) (length-tabulate (c .window .count) _)
-    (λ k h.
-    let b = rw length-tabulate at h in
-    rw (getD-tabulate (c .window .count) (offsetOf (c .grid .dims) (c .window)) k [] b) (length-tabulate (c .grid .dims) _ ∙ sym (length-tabulate (c .grid .dims) _)))
+    trimmed-chain (trimmed c) (length-tabulate (c .grid .dims) _) (offsets-count (c .grid .dims) (c .window)) (offsets-sized (c .grid) (c .window))
     (length-tabulate (c .window .count - 1) _) (length-order (c .window .count) (c .order)) few most

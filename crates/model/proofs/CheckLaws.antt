@@ -1,16 +1,19 @@
 -- Laws of checks in an order, and what the checks of a value say where none of them holds.
-use Prim.Native.Nat.{ℕ}
+use Prim.Native.Nat.{ℕ, _≤_, _<_}
 use mathlib.Core.Bool.{Bool, true, false, cond}
 use mathlib.Core.List.{List, [], _∷_, _++_}
 use mathlib.Core.Path.{_≡_, refl, sym, _∙_}
 use native.Mathlib.Omega.{arith}
+use lib.Dec.{eqb, ltb}
+use borrow.Author.Tests.{eqb-false, ltb-false}
 use Rattle.model.specs.Values.{Trimmed}
 use Rattle.model.specs.Answers.{Check, check, firstOf, byVerdict}
-use Rattle.model.specs.Judging.{badGrid, badCount, repeats, noIteration, centred, lacksCentre, badFactor, tooLarge, badOrder, windowChecks, kernelChecks, chainChecks, valueChecks}
+use Rattle.model.specs.Judging.{badDims, badSizes, badGrid, badCount, repeats, noIteration, centred, lacksCentre, badFactor, tooLarge, badOrder, windowChecks, kernelChecks, chainChecks, valueChecks}
 use Rattle.model.specs.declared.Kernel.{Kernel}
 use Rattle.model.specs.declared.Refusal.{Refusal}
 use Rattle.model.specs.declared.Verdict.{Verdict}
 use Rattle.model.specs.declared.Verdict.the-variants as verdict
+use Rattle.model.proofs.Tests.{neither}
 
 -- Where nothing is answered, the first condition does not hold, nor does any other.
 pub passes : (b : Bool) (r : Refusal) (cs : List Check) → firstOf (check b r ∷ cs) ≡ verdict.Accepted → (b ≡ false) × (firstOf cs ≡ verdict.Accepted)
@@ -51,6 +54,19 @@ window-passes t e =
     let p5 = passes _ _ _ (p4 .1) in
     let p6 = passes _ _ _ (p5 .1) in
     record { grid = p3 .0; count = p4 .0; distinct = p5 .0; iterates = p6 .0 }
+
+-- What 3 and 4, where they pass, say of the counts.
+pub few-dims : (dims : ℕ) (sizes : List ℕ) → badGrid dims sizes ≡ false → dims ≤ 4
+unfolding badGrid badDims
+few-dims dims sizes e = ltb-false 4 dims (neither (eqb dims 0) (ltb 4 dims) (neither (badDims dims) (badSizes sizes) e .0) .1)
+
+pub some-references : (n : ℕ) → badCount n ≡ false → 0 < n
+unfolding badCount
+some-references n e = omega (arith, eqb-false n 0 (neither (eqb n 0) (ltb 32 n) e .0))
+
+pub few-references : (n : ℕ) → badCount n ≡ false → n ≤ 32
+unfolding badCount
+few-references n e = ltb-false 32 n (neither (eqb n 0) (ltb 32 n) e .1)
 
 pub record KernelPasses (k : Kernel) (centred : Bool) : Type 0 where
   pub centre : lacksCentre k centred ≡ false

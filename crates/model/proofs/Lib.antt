@@ -14,6 +14,7 @@ pub mod SortLaws
 pub mod TermLaws
 pub mod ChainLaws
 pub mod CheckLaws
+pub mod StepLaws
 pub mod KernelLaws
 pub mod NameLaws
 pub mod FirstChecks

@@ -12,7 +12,8 @@ use Rattle.model.specs.Values.{sizesOf, offsetOf, offsetsOf, capacitiesO
 use Rattle.model.specs.Iterations.{cellsOf, iterationsOf, readsOf, distanceOf}
 use Rattle.model.specs.Answers.{numberOf, verdictNumber, outcomeCase, outcomeCounts, answerCounts, answerNumber, firstOf}
 use Rattle.model.specs.Judging.{badDims, badSizes, badGrid, badCount, repeats, noIteration, needsCentre, lacksCentre, notFinite, badFactor, tooLarge, twice, badOrder, windowChecks, kernelChecks, chainChecks, valueChecks, judged}
-use Rattle.model.specs.Planning.{insert, falling, whichOf, authorsOrder, distances, trimmedRequest, judgeRequest, sorted, plannedChain, planOf}
+use Rattle.model.specs.Steps.{insert, falling, whichOf, authorsOrder, distances, sorted}
+use Rattle.model.specs.Planning.{trimmedRequest, judgeRequest, plannedChain, planOf}
 use Rattle.model.specs.Kernels.{wordsAt, terms, written, width, centreOf}
 use Rattle.model.specs.Clock.{turn, limit, turns, ready, fires, next, moves}
 use Rattle.model.specs.Store.{firstPlace, placeIn, presented, stored}

@@ -8,13 +8,15 @@ use lib.Ieee.{Float, nan, inf, fin}
 use Rattle.model.specs.Lists.{sum, any}
 use Rattle.model.specs.Vectors.{equal, isZero}
 use Rattle.model.specs.Geometry.{cellCount, iterationCount}
-use Rattle.model.specs.Values.{Trimmed, trimmed}
+use Rattle.model.specs.Values.{Trimmed, trimmed, onGrid}
 use Rattle.model.specs.Answers.{Check, check, firstOf}
 use Rattle.model.specs.declared.Chain.{Chain}
+use Rattle.model.specs.declared.Grid.{Grid}
 use Rattle.model.specs.declared.Kernel.{Kernel}
 use Rattle.model.specs.declared.Kernel.the-variants as kernel
 use Rattle.model.specs.declared.Refusal.the-variants as refusal
 use Rattle.model.specs.declared.Verdict.{Verdict}
+use Rattle.model.specs.declared.Window.{Window}
 
 abbrev pub mostCells : ℕ
 mostCells = 1048576
@@ -92,6 +94,10 @@ windowChecks t =
     ∷ check (noIteration (t .sizes) (t .offsets)) refusal.NoIteration
     ∷ []
 
+-- (what they answer by themselves)
+abbrev pub judgeWindow : Grid → Window → Verdict
+judgeWindow g w = firstOf (windowChecks (onGrid g w))
+
 -- 7 and 8, of a kernel, where the window has a centre or has none,
 unfoldable pub kernelChecks : Kernel → (centred : Bool) → List Check
 kernelChecks k centred = check (lacksCentre k centred) refusal.NoCentre ∷ check (badFactor k) refusal.BadFactor ∷ []
@@ -107,6 +113,10 @@ valueChecks t = windowChecks t ++ (kernelChecks (t .kernel) (centred (t .offsets
 -- The first of 3 to 9 and 14 whose condition holds.
 unfoldable pub judged : Trimmed → Verdict
 judged t = firstOf (valueChecks t)
+
+-- The first of 7, 8 and 9, where 3 to 6 let pass and the sum of the capacities is known.
+unfoldable pub judgeBehind : Kernel → (centred : Bool) → (total : ℕ) → Verdict
+judgeBehind k centred total = firstOf (kernelChecks k centred ++ (check (ltb mostPlaces total) refusal.TooLarge ∷ []))
 
 unfoldable pub judgeChain : Chain → Verdict
 judgeChain c = judged (trimmed c)

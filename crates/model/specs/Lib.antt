@@ -7,6 +7,7 @@ pub mod Values
 pub mod Iterations
 pub mod Answers
 pub mod Judging
+pub mod Steps
 pub mod Planning
 pub mod Kernels
 pub mod Clock
@@ -27,6 +28,7 @@ pub mod Programs
 pub mod FirstChecks
 pub mod Cases
 pub mod JudgingCases
+pub mod StepCases
 pub mod RunCases
 pub mod KernelCases
 pub mod SheetCases

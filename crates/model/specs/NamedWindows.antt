@@ -8,7 +8,7 @@ use lib.IntN.{ℤ, pos}
 use lib.ListN.{length, take, getD, replicate}
 use Rattle.model.specs.Vectors.{−1, same, before}
 use Rattle.model.specs.Values.{blankWindow, withReference}
-use Rattle.model.specs.Planning.{insert, falling}
+use Rattle.model.specs.Steps.{insert, falling}
 use Rattle.model.specs.declared.Triple.{Triple}
 use Rattle.model.specs.declared.Window.{Window}
 

@@ -1,11 +1,9 @@
 -- The two listings that document 01 prints, and other short inputs of the programs with what they write, by computation.
-use Prim.Native.Nat.{ℕ, suc, _+_, _-_, _*_}
+use Prim.Native.Nat.{_+_, _-_}
 use Prim.Native.String.{String, _++_}
 use mathlib.Core.Path.{_≡_, refl}
 use mathlib.Core.Bool.{Bool, true, _&&_}
 use mathlib.Core.List.{List, [], _∷_, flatMap}
-use lib.Dec.{eqb}
-use lib.ListN.{length, take, drop, replicate}
 use lib.Ieee.{ofBits, toBits, add, sub, mul}
 use Rattle.model.specs.Lists.{tabulate, upTo, without, sum, product, greatest, all, any}
 use Rattle.model.specs.Vectors.{same, above, plus, equal, before, isZero}
@@ -15,13 +13,14 @@ use Rattle.model.specs.Values.{sizesOf, offsetOf, offsetsOf, capacitiesO
 use Rattle.model.specs.Iterations.{cellsOf, iterationsOf, readsOf, distanceOf}
 use Rattle.model.specs.Answers.{numberOf, verdictNumber, firstOf}
 use Rattle.model.specs.Judging.{badDims, badSizes, badGrid, badCount, repeats, noIteration, needsCentre, lacksCentre, notFinite, badFactor, tooLarge, twice, badOrder, windowChecks, kernelChecks, chainChecks, valueChecks, judged, judgeChain}
-use Rattle.model.specs.Planning.{insert, falling, whichOf, authorsOrder, distances, trimmedRequest, judgeRequest, sorted, plannedChain}
+use Rattle.model.specs.Steps.{insert, falling, whichOf, authorsOrder, distances, sorted}
+use Rattle.model.specs.Planning.{trimmedRequest, judgeRequest, plannedChain}
 use Rattle.model.specs.Kernels.{sumFrom, sumOf, centreOf, wordsAt, terms, squared, difference, scaled, blend, written, width}
 use Rattle.model.specs.Clock.{fresh, ready, fires, turn, limit, turns, next, moves}
 use Rattle.model.specs.Store.{firstPlace, placeIn, presented, stored}
 use Rattle.model.specs.Running.{layout, words, clocked, look, call, filtersOf, termsOf, writesOf, writtenBy, widthOf}
 use Rattle.model.specs.Lines.{linesOf}
-use Rattle.model.specs.Frames.{isDigit, valueOf, digitOf, whole, bytesOf, digitsOf, framed, padded, seenOf}
+use Rattle.model.specs.Frames.{isDigit, valueOf, digitOf, whole, bytesOf, digitsOf, framed, padded}
 use Rattle.model.specs.Numbers.{halfAt, wordAt, halfBytes, wordBytes, signed, pattern}
 use Rattle.model.specs.Reading.{badKernel, badForm, malformed, nextInRequest, nextInChain, miscounted, among, misplaced, badLength, sizesIn, lineChecks, lineVerdict}
 use Rattle.model.specs.NamedWindows.{windows, isName, namedOf, badName, withReferences, windowNamed}

@@ -18,7 +18,8 @@ use Rattle.model.specs.Values.{sizesOf, offsetOf, offsetsOf, capacitiesO
 use Rattle.model.specs.Iterations.{distanceOf}
 use Rattle.model.specs.Answers.{numberOf, verdictNumber, firstOf, byVerdict}
 use Rattle.model.specs.Judging.{badDims, badSizes, badGrid, badCount, repeats, noIteration, needsCentre, lacksCentre, notFinite, badFactor, tooLarge, twice, badOrder, windowChecks, kernelChecks, chainChecks, valueChecks, judged, judgeChain}
-use Rattle.model.specs.Planning.{insert, falling, whichOf, authorsOrder, sorted, distances, trimmedRequest, judgeRequest}
+use Rattle.model.specs.Steps.{insert, falling, whichOf, authorsOrder, sorted, distances}
+use Rattle.model.specs.Planning.{trimmedRequest, judgeRequest}
 use Rattle.model.specs.Lines.{linesOf}
 use Rattle.model.specs.Frames.{isDigit, valueOf, digitOf, whole, bytesOf, digitsOf, framed, padded, seenOf}
 use Rattle.model.specs.Numbers.{halfAt, wordAt, halfBytes, wordBytes, signed, pattern}

@@ -70,13 +70,27 @@ trimmed c = trimmedOf (c .grid) (c .window) (capacitiesOf c) (c .order .stood) (
 abbrev pub Same : Chain → Chain → Type 0
 Same c d = trimmed c ≡ trimmed d
 
+-- A window on a grid as a value, with no capacities and no order, and raw.
+abbrev pub onGrid : Grid → Window → Trimmed
+onGrid g w = trimmedOf g w [] false [] kernel.Raw
+
+-- Offsets, capacities and an order's filters in their arrays, with 0 past the last.
+abbrev pub windowOf : (n : ℕ) → List (List ℤ) → Window
+windowOf n offsets = record { count = n; offsets = tabulate 128 (λ i. getD (getD offsets (i / 4) []) (i % 4) (pos 0)) }
+
+abbrev pub capacityArray : List ℕ → List ℕ
+capacityArray capacities = tabulate 31 (λ k. getD capacities k 0)
+
+abbrev pub filterArray : List ℕ → List ℕ
+filterArray order = tabulate 32 (λ t. getD order t 0)
+
 -- The chain of which this plays a part, with 0 past its counts: a chain's normal form.
 unfoldable pub chainOf : Trimmed → Chain
 chainOf t = record {
   grid = record { dims = t .dims; sizes = tabulate 4 (λ d. getD (t .sizes) d 0) };
-  window = record { count = t .count; offsets = tabulate 128 (λ i. getD (getD (t .offsets) (i / 4) []) (i % 4) (pos 0)) };
-  capacities = tabulate 31 (λ k. getD (t .capacities) k 0);
-  order = record { stood = t .ordered; filters = tabulate 32 (λ i. getD (t .order) i 0) };
+  window = windowOf (t .count) (t .offsets);
+  capacities = capacityArray (t .capacities);
+  order = record { stood = t .ordered; filters = filterArray (t .order) };
   kernel = t .kernel;
 }
 

@@ -5,7 +5,8 @@ use Rattle.model.specs.Lists.{tabulate, upTo}
 use Rattle.model.specs.Values.{Trimmed}
 use Rattle.model.specs.Iterations.{readsOf}
 use Rattle.model.specs.Kernels.{terms, centreOf, written}
-use Rattle.model.specs.Planning.{falling, whichOf, trimmedRequest}
+use Rattle.model.specs.Steps.{falling, whichOf}
+use Rattle.model.specs.Planning.{trimmedRequest}
 use Rattle.model.specs.Running.{writtenBy}
 use Rattle.model.specs.declared.Request.{Request}
 

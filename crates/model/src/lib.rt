@@ -109,6 +109,18 @@ pub enum Verdict {
     Refused(Refusal),
 }
 
+// What the three steps of planning give (document 003, section 3.3), of a grid and a window that 3 to 6 let pass; where one of these refuses, there is no reference, and the numbers are 0.
+pub struct Steps {
+    pub verdict: Verdict,
+    // The offsets sorted, and for each of the author's references the filter that holds it.
+    pub window: Window,
+    pub filters: [u8; 32],
+    // The reuse distances of neighbours.
+    pub distances: [u32; 31],
+    // Their sum.
+    pub total: u64,
+}
+
 // What planning answers; where it refuses, the chain is the blank one.
 pub struct Planned {
     pub verdict: Verdict,

@@ -1,7 +1,1 @@
-pub mod FallingLaws
-pub mod OrderLaws
-pub mod InsertLaws
-pub mod ArrangeLaws
-pub mod HeldLaws
-pub mod DistanceLaws
 pub mod PlanLaws

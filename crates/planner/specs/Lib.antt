@@ -1,2 +1,1 @@
-pub mod Order
 pub mod Plans

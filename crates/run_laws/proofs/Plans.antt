@@ -1,15 +1,13 @@
 -- The planned chain of a request that no number turns back: what it is, and that it is accepted.
-use Prim.Native.Nat.{_≤_}
 use mathlib.Core.Bool.{false}
 use mathlib.Core.List.{[]}
 use mathlib.Core.Path.{_≡_, refl, _∙_, ap}
-use lib.Dec.{eqb, ltb}
-use borrow.Author.Tests.{ltb-false}
 use Rattle.model.specs.Vectors.{isZero}
 use Rattle.model.specs.Values.{Trimmed, trimmed, noOrder, sizesOf}
 use Rattle.model.specs.Answers.{firstOf}
-use Rattle.model.specs.Judging.{badDims, badSizes, badGrid, repeats, noIteration, badOrder, windowChecks, chainChecks, valueChecks, judged, judgeChain}
-use Rattle.model.specs.Planning.{falling, authorsOrder, distances, trimmedRequest, judgeRequest, sorted, plannedChain, planOf}
+use Rattle.model.specs.Judging.{repeats, noIteration, badOrder, windowChecks, chainChecks, valueChecks, judged, judgeChain}
+use Rattle.model.specs.Steps.{falling, authorsOrder, distances, sorted}
+use Rattle.model.specs.Planning.{trimmedRequest, judgeRequest, plannedChain, planOf}
 use Rattle.model.specs.declared.Request.{Request}
 use Rattle.model.specs.declared.Verdict.the-variants as verdict
 use Rattle.model.proofs.ListLaws.{length-tabulate}
@@ -17,8 +15,7 @@ use Rattle.model.proofs.Distances.{same-count}
 use Rattle.model.proofs.SortLaws.{length-falling, falling-each, falling-no-other, sized-falling, any-falling, repeats-falling}
 use Rattle.model.proofs.ChainLaws.{trimmed-chain}
 use Rattle.model.proofs.TermLaws.{length-authors, authors-good}
-use Rattle.model.proofs.Tests.{neither}
-use Rattle.model.proofs.CheckLaws.{value-passes}
+use Rattle.model.proofs.CheckLaws.{value-passes, few-dims}
 use Rattle.model.specs.Sized.{Proper}
 use Rattle.run_laws.proofs.Accepts.{trimmed-proper, accepted}
 
@@ -40,13 +37,7 @@ sorted-proper t p = record {
   terms = length-authors (t .offsets) ∙ p .references;
 }
 
--- What 3 and 5 say of a value that no number turns back.
-few-dims : (t : Trimmed) → judged t ≡ verdict.Accepted → t .dims ≤ 4
-unfolding judged badGrid badDims
-few-dims t e =
-    let grid = neither (badDims (t .dims)) (badSizes (t .sizes)) (value-passes t e .window .grid) in
-    ltb-false 4 (t .dims) (neither (eqb (t .dims) 0) (ltb 4 (t .dims)) (grid .0) .1)
-
+-- What 5 says of a value that no number turns back.
 pub no-repeats : (t : Trimmed) → judged t ≡ verdict.Accepted → repeats (t .offsets) ≡ false
 unfolding judged
 no-repeats t e = value-passes t e .window .distinct
@@ -65,11 +56,11 @@ request-proper r =
 module _ (r : Request) (ok : judgeRequest r ≡ verdict.Accepted) where
   -- The planned chain's lists are the request's, with the offsets sorted.
   pub planned-lists : trimmed (plannedChain r) ≡ sorted (trimmedRequest r)
-  unfolding judgeRequest plannedChain trimmedRequest sorted sizesOf
+  unfolding judgeRequest judged plannedChain trimmedRequest sorted sizesOf
   planned-lists =
       let p = sorted-proper (trimmedRequest r) (request-proper r) in
       trimmed-chain (sorted (trimmedRequest r)) (length-tabulate (r .grid .dims) _) (p .references) (p .entries) (p .fifos) (p .terms)
-      (few-dims (trimmedRequest r) ok) (accepted (trimmedRequest r) ok .few)
+      (few-dims (r .grid .dims) (sizesOf (r .grid)) (value-passes (trimmedRequest r) ok .window .grid)) (accepted (trimmedRequest r) ok .few)
 
   pub planned-judged : judged (sorted (trimmedRequest r)) ≡ verdict.Accepted
   unfolding judged judgeRequest

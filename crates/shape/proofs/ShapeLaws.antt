@@ -1,18 +1,16 @@
 -- Laws that lead from the arrays to a window's shape.
 use Prim.Native.Nat.{ℕ, zero, suc, _+_, _*_, _<_, _≤_}
-use mathlib.Core.Bool.{Bool, true, false, not, cond, _&&_, and-false}
+use mathlib.Core.Bool.{true, false}
 use mathlib.Core.List.{List, [], _∷_}
 use mathlib.Core.Path.{_≡_, refl, sym, _∙_, ap, ap₂}
 use native.Mathlib.Nat.{le-trans}
 use native.Mathlib.Omega.{arith}
-use lib.Dec.{eqb}
 use lib.IntN.{ℤ}
 use lib.ListN.{length, getD, List·getD-eq-default}
-use borrow.Author.Tests.{eqb-true, eq-eqb, ne-eqb}
+use borrow.Author.Tests.{eq-eqb, ne-eqb}
 use Rattle.model.specs.Lists.{tabulate, sum, product}
 use Rattle.model.specs.Vectors.{above, plus}
-use Rattle.model.specs.Geometry.{cellCount, place, position, firstEntry, otherEntries, least, lows, extent, extents, iterationCount, indices, iteration, reads}
-use Rattle.model.specs.Sized.{Sized}
+use Rattle.model.specs.Geometry.{cellCount, place, position, firstEntry, otherEntries, least, lows, extent, extents, iterationCount, iteration, reads}
 use Rattle.model.specs.Windows.{relative}
 use Rattle.model.specs.Values.{sizesOf, offsetOf, offsetsOf}
 use Rattle.model.specs.Judging.{mostCells, badGrid, badCount, noIteration}
@@ -21,8 +19,9 @@ use Rattle.model.specs.declared.Window.{Window}
 use Rattle.model.proofs.ListLaws.{length-tabulate, getD-tabulate}
 use Rattle.model.proofs.PlaceLaws.{first-indices}
 use Rattle.model.proofs.Distances.{reads-sum, below-cells}
+use Rattle.model.proofs.ChainLaws.{offsets-sized}
 use Rattle.geometry.specs.Parts.{part, numberAt, entryAt, entriesIn, Filled, Lows, placeBy, Small}
-use Rattle.shape.specs.Shapes.{sound, iterationsIn, stride, shapeFor, blankShape, shapeOf}
+use Rattle.shape.specs.Shapes.{sound, stride, shapeFor, blankShape, shapeOf}
 use Rattle.shape.specs.declared.Shape.{Shape}
 use Rattle.geometry.proofs.PartLaws.{tabulate-same, map-tabulate, part-all}
 use Rattle.geometry.proofs.FillLaws.{filled-all}
@@ -51,14 +50,6 @@ pub relative-by-dimension : (n : ℕ) (f g : ℕ → ℤ) → relative (tabulate
 unfolding relative tabulate
 relative-by-dimension zero f g = refl
 relative-by-dimension (suc n) f g = ap (_∷_ (above (f 0) (g 0))) (relative-by-dimension n (λ i. f (suc i)) (λ i. g (suc i)))
-
--- Each offset has an entry for each dimension.
-pub sized : (g : Grid) (w : Window) → Sized (sizesOf g) (offsetsOf (g .dims) w)
-unfolding sizesOf offsetsOf offsetOf
-sized g w k h =
-    let l = rw length-tabulate at h in
-    ap length (getD-tabulate (w .count) (λ i. tabulate (g .dims) (entryAt (w .offsets) i)) k [] l)
-    ∙ length-tabulate (g .dims) (entryAt (w .offsets) k) ∙ sym (length-tabulate (g .dims) (numberAt (g .sizes)))
 
 -- Past the last reference nothing is read.
 nothing-read : (sizes : List ℕ) (offsets : List (List ℤ)) (k : ℕ) → length offsets ≤ k → reads sizes offsets 0 k ≡ 0
@@ -145,12 +136,12 @@ module _ (g : Grid) (w : Window) (a : badGrid (g .dims) (sizesOf g) ≡ false) (
             omega (
               arith,
               counted-from-lows k h,
-              reads-sum (sizesOf g) (offsetsOf (g .dims) w) (sized g w) 0 k some (below k h),
+              reads-sum (sizesOf g) (offsetsOf (g .dims) w) (offsets-sized g w) 0 k some (below k h),
               first-indices (sizesOf g) (extents (sizesOf g) (offsetsOf (g .dims) w)),
             )
 
         pub place-small : (k : ℕ) → k < w .count → placeBy (g .dims) ls st (w .offsets) k ≤ mostCells
-        place-small k h = omega (arith, place-is k h, few-cells g a, below-cells (sizesOf g) (offsetsOf (g .dims) w) (sized g w) 0 k some (below k h))
+        place-small k h = omega (arith, place-is k h, few-cells g a, below-cells (sizesOf g) (offsetsOf (g .dims) w) (offsets-sized g w) 0 k some (below k h))
 
         pub places-are : (at : List ℕ) → Filled 32 0 (placeBy (g .dims) ls st (w .offsets)) (w .count) at
             → at ≡ tabulate 32 (λ k. reads (sizesOf g) (offsetsOf (g .dims) w) 0 k)
@@ -162,30 +153,10 @@ module _ (g : Grid) (w : Window) (a : badGrid (g .dims) (sizesOf g) ≡ false) (
 
 -- What is answered where 3, 4 or 6 turns grid and window back.
 module _ (g : Grid) (w : Window) where
-  not-sound-grid : badGrid (g .dims) (sizesOf g) ≡ true → sound g w ≡ false
-  unfolding sound
-  not-sound-grid e = rw e
-
-  not-sound-count : badCount (w .count) ≡ true → sound g w ≡ false
-  unfolding sound
-  not-sound-count e = rw (e, and-false)
-
-  pub blank-grid : badGrid (g .dims) (sizesOf g) ≡ true → blankShape ≡ shapeOf g w
-  unfolding shapeOf
-  blank-grid e = rw (not-sound-grid e)
-
-  pub blank-count : badCount (w .count) ≡ true → blankShape ≡ shapeOf g w
-  unfolding shapeOf
-  blank-count e = rw (not-sound-count e)
-
   module _ (a : badGrid (g .dims) (sizesOf g) ≡ false) (b : badCount (w .count) ≡ false) where
     is-sound : sound g w ≡ true
     unfolding sound
     is-sound = rw (a, b)
-
-    pub iterations-in : iterationCount (sizesOf g) (offsetsOf (g .dims) w) ≡ iterationsIn g w
-    unfolding iterationsIn
-    iterations-in = rw is-sound
 
     pub blank-iterations : iterationCount (sizesOf g) (offsetsOf (g .dims) w) ≡ 0 → blankShape ≡ shapeOf g w
     unfolding shapeOf noIteration
@@ -194,19 +165,6 @@ module _ (g : Grid) (w : Window) where
     pub whole-shape : (iterationCount (sizesOf g) (offsetsOf (g .dims) w) ≡ 0 → ⊥) → shapeFor (sizesOf g) (offsetsOf (g .dims) w) ≡ shapeOf g w
     unfolding shapeOf noIteration
     whole-shape h = rw (is-sound, ne-eqb (iterationCount (sizesOf g) (offsetsOf (g .dims) w)) 0 h)
-
--- A shape has as many iterations as there are.
-pub shape-iterations : (g : Grid) (w : Window) → shapeOf g w .iterations ≡ iterationsIn g w
-unfolding shapeOf iterationsIn shapeFor blankShape noIteration
-shape-iterations g w = go (sound g w) (eqb count 0) refl
-  where
-    count : ℕ
-    count = iterationCount (sizesOf g) (offsetsOf (g .dims) w)
-
-    go : (b m : Bool) → eqb count 0 ≡ m → cond (b && not m) (shapeFor (sizesOf g) (offsetsOf (g .dims) w)) blankShape .iterations ≡ cond b count 0
-    go false m e = refl
-    go true false e = refl
-    go true true e = sym (eqb-true count 0 e)
 
 -- A shape from its parts.
 pub shape-from : (sizes : List ℕ) (offsets : List (List ℤ)) (cells iterations : ℕ) (xs st at : List ℕ)

@@ -1,17 +1,16 @@
 -- What this crate's public functions answer, on any value: the model's definitions where 3 and 4 let the value pass, and a fixed answer elsewhere.
 use Prim.Native.Nat.{ℕ, zero, suc}
-use mathlib.Core.Bool.{Bool, false, not, cond, _&&_}
+use mathlib.Core.Bool.{Bool, not, cond, _&&_}
 use mathlib.Core.List.{List, [], _∷_}
 use lib.IntN.{ℤ}
 use lib.ListN.{getD}
 use Rattle.model.specs.Lists.{tabulate}
 use Rattle.model.specs.Geometry.{cellCount, extents, iterationCount, reads}
-use Rattle.model.specs.Answers.{firstOf, byVerdict}
-use Rattle.model.specs.Values.{Trimmed, sizesOf, offsetsOf, trimmedOf}
-use Rattle.model.specs.Judging.{badGrid, badCount, noIteration, windowChecks}
+use Rattle.model.specs.Answers.{byVerdict}
+use Rattle.model.specs.Values.{sizesOf, offsetsOf}
+use Rattle.model.specs.Judging.{badGrid, badCount, noIteration, judgeWindow}
 use Rattle.model.specs.Kernels.{centreOf}
 use Rattle.model.specs.declared.Grid.{Grid}
-use Rattle.model.specs.declared.Kernel.the-variants as kernel
 use Rattle.model.specs.declared.Refusal.{Refusal}
 use Rattle.model.specs.declared.Verdict.the-variants as verdict
 use Rattle.model.specs.declared.Window.{Window}
@@ -21,10 +20,6 @@ use Rattle.shape.specs.declared.Survey.{Survey}
 -- Neither 3 nor 4.
 unfoldable pub sound : Grid → Window → Bool
 sound g w = not (badGrid (g .dims) (sizesOf g)) && not (badCount (w .count))
-
--- How many iterations there are; 0 where 3 or 4 turns grid and window back.
-unfoldable pub iterationsIn : Grid → Window → ℕ
-iterationsIn g w = cond (sound g w) (iterationCount (sizesOf g) (offsetsOf (g .dims) w)) 0
 
 -- How many cells lie between two neighbours in dimension d: "strides are those of the whole grid".
 unfoldable pub stride : List ℕ → (d : ℕ) → ℕ
@@ -53,10 +48,6 @@ shapeOf g w =
     let whole = shapeFor sizes offsets in
     cond (sound g w && not (noIteration sizes offsets)) whole blankShape
 
--- A window on a grid as a value, with no capacities and no order, and raw.
-abbrev pub onGrid : Grid → Window → Trimmed
-onGrid g w = trimmedOf g w [] false [] kernel.Raw
-
 abbrev pub unsurveyedOf : Refusal → Survey
 unsurveyedOf x = record { verdict = verdict.Refused x; centre = 0; shape = blankShape }
 
@@ -64,4 +55,4 @@ unsurveyedOf x = record { verdict = verdict.Refused x; centre = 0; shape = blank
 unfoldable pub surveyOf : Grid → Window → Survey
 surveyOf g w =
     let offsets = offsetsOf (g .dims) w in
-    byVerdict (firstOf (windowChecks (onGrid g w))) (record { verdict = verdict.Accepted; centre = centreOf offsets; shape = shapeFor (sizesOf g) offsets }) unsurveyedOf
+    byVerdict (judgeWindow g w) (record { verdict = verdict.Accepted; centre = centreOf offsets; shape = shapeFor (sizesOf g) offsets }) unsurveyedOf

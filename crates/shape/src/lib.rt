@@ -15,7 +15,7 @@ ghost use Rattle.model.specs.Values.{sizesOf};
 ghost use Rattle.model.specs.Judging.{mostCells, badGrid, badCount};
 ghost use Rattle.geometry.specs.Parts.{part, numberAt, entriesIn, Filled, Lows, placeBy, Small, Falls};
 ghost use Rattle.geometry.specs.Windows.{repeatsIn};
-ghost use Rattle.shape.specs.Shapes.{iterationsIn, blankShape, shapeOf, unsurveyedOf, surveyOf};
+ghost use Rattle.shape.specs.Shapes.{blankShape, shapeOf, unsurveyedOf, surveyOf};
 
 // A window on a grid as numbers. All are 0 where 3, 4 or 6 turns the two back.
 pub struct Shape {
@@ -233,28 +233,6 @@ fn shape_in(grid: Grid, count: u8, offsets: &[i16; 128]) -> Shape
         strides,
         at,
     }
-}
-
-// The shape of a window on a grid.
-pub fn shape_of(grid: Grid, window: Window) -> Shape
-    ensures { λ r. ⌜ r ≡ shapeOf grid window ⌝ }
-{
-    if geometry::bad_grid(grid) {
-        return blank();
-    }
-    if geometry::bad_count(window) {
-        return blank();
-    }
-    let offsets = window.offsets;
-    shape_in(grid, window.count, &offsets)
-}
-
-// How many iterations there are; 0 where 3 or 4 turns the two back.
-pub fn iterations(grid: Grid, window: Window) -> u32
-    ensures { λ r. ⌜ r ≡ iterationsIn grid window ⌝ }
-{
-    let shape = shape_of(grid, window);
-    shape.iterations
 }
 
 // Whether each position is above the next.

@@ -17,7 +17,8 @@ use Rattle.model.specs.Numbers.{signed}
 use Rattle.model.specs.Geometry.{cellCount}
 use Rattle.model.specs.Values.{Trimmed, offsetOf, offsetsOf, chainOf, blankChain, requestOf}
 use Rattle.model.specs.Judging.{mostCells, badDims, badSizes, badGrid, judged}
-use Rattle.model.specs.Planning.{falling, sorted, trimmedRequest, judgeRequest, plannedChain, planOf}
+use Rattle.model.specs.Steps.{falling, sorted}
+use Rattle.model.specs.Planning.{trimmedRequest, judgeRequest, plannedChain, planOf}
 use Rattle.model.specs.declared.Chain.{Chain}
 use Rattle.model.specs.declared.Verdict.the-variants as verdict
 use Rattle.model.proofs.CheckLaws.{value-passes}

@@ -5,6 +5,7 @@ pub mod damage;
 pub mod dice;
 pub mod draft;
 pub mod native;
+pub mod plans;
 pub mod round;
 pub mod rounds;
 pub mod tally;

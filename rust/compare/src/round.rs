@@ -60,6 +60,15 @@ impl<'a> Round<'a> {
         Err(Differs(what.to_string()))
     }
 
+    /// What is asked of one answer by itself.
+    pub fn holds(&mut self, what: &str, holds: bool) -> Result<(), Differs> {
+        if holds {
+            return Ok(());
+        }
+        self.note("DOES NOT HOLD", || what.to_string());
+        Err(Differs(what.to_string()))
+    }
+
     /// The same of words or bytes; tells the first place where they differ.
     pub fn same_at<T: PartialEq + std::fmt::UpperHex>(
         &mut self,

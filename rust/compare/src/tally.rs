@@ -10,6 +10,12 @@ pub struct Tally {
     /// Those whose terms go in an order other than the chain's.
     pub ordered: u64,
     pub clocks: u64,
+    /// Requests whose steps were looked at, by the number that planning answers.
+    pub steps: [u64; NUMBERS + 1],
+    /// Those whose distances sum above the limit.
+    pub above: u64,
+    /// The iterations in which they were looked at.
+    pub iterations: u64,
 }
 
 #[derive(Clone, Copy)]
@@ -46,6 +52,9 @@ impl Tally {
             firings: [[0; 4]; 4],
             ordered: 0,
             clocks: 0,
+            steps: [0; NUMBERS + 1],
+            above: 0,
+            iterations: 0,
         }
     }
 
@@ -63,6 +72,13 @@ impl Tally {
             self.ordered += report.firings as u64;
         }
         self.clocks += report.clocks as u64;
+    }
+
+    /// Steps of a request that planning answers by this number, looked at in so many iterations.
+    pub fn count_steps(&mut self, refusal: u32, above: bool, iterations: usize) {
+        self.steps[refusal as usize] += 1;
+        self.above += above as u64;
+        self.iterations += iterations as u64;
     }
 
     pub fn print(&self) {
@@ -100,6 +116,16 @@ impl Tally {
             "{} of them in an order other than the chain's",
             self.ordered
         );
+        println!(
+            "steps of {} requests in {} iterations: {} planned, refused by 7 {}, 8 {}, 9 {}; {} sums above the limit",
+            self.steps.iter().sum::<u64>(),
+            self.iterations,
+            self.steps[0],
+            self.steps[7],
+            self.steps[8],
+            self.steps[9],
+            self.above
+        );
     }
 
     /// What should have come up and did not.
@@ -123,6 +149,11 @@ impl Tally {
         }
         if self.ordered == 0 {
             missing.push("no kernel added in an order other than the chain's".to_string());
+        }
+        for number in [0, 7, 8, 9] {
+            if self.steps[number] == 0 {
+                missing.push(format!("no steps of a request answered {number}"));
+            }
         }
         missing
     }

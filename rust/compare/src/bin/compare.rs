@@ -1,6 +1,9 @@
 //! Compares the library with `straight` on random and damaged input.
 //!
 //! COMPARE_SEED: the seed; the clock where there is none. COMPARE_ROUNDS: how many rounds. COMPARE_ROUND: this round alone, its input written to a file.
+//! COMPARE_PLANS: no comparison with `straight`; so many random requests planned by the library alone, their counts and a digest printed, to be compared by `diff`
+//! with what another build of the library prints (ZOHMIRKA_LIB names its folder); the seed is 0 where there is none.
+use compare::plans;
 use compare::round::{Differs, Round};
 use compare::rounds::KINDS;
 use compare::saved;
@@ -39,6 +42,10 @@ fn record(seed: u64, at: u64) -> Result<(), Differs> {
 }
 
 fn main() {
+    if let Some(requests) = number("COMPARE_PLANS") {
+        plans::print(number("COMPARE_SEED").unwrap_or(0), requests);
+        return;
+    }
     let seed = number("COMPARE_SEED").unwrap_or_else(|| {
         let now = SystemTime::now().duration_since(UNIX_EPOCH);
         now.expect("the clock is set").as_nanos() as u64 % 1_000_000_007

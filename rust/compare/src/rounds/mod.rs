@@ -4,12 +4,13 @@ mod author;
 mod call;
 mod calls;
 mod sheets;
+mod steps;
 
 use crate::round::{Differs, Round};
 
 type Kind = fn(&mut Round) -> Result<(), Differs>;
 
-pub const KINDS: [(&str, Kind); 7] = [
+pub const KINDS: [(&str, Kind); 8] = [
     ("a request sheet planned", sheets::plan),
     ("a window by name beside its offsets", sheets::by_name),
     ("a chain sheet judged and read", sheets::chain),
@@ -17,4 +18,5 @@ pub const KINDS: [(&str, Kind); 7] = [
     ("run calls on any words", any_chain::calls),
     ("any words judged and written", any_chain::written),
     ("a plan beside the author's loop", author::words),
+    ("a plan beside its steps", steps::steps),
 ];

@@ -128,7 +128,7 @@ fn planned(text: &[u8], sheet: &mut [u8]) -> Result<usize, Refusal> {
     straight::write_chain(&chain, sheet)
 }
 
-fn number<T>(answer: &Result<T, Refusal>) -> u32 {
+pub fn number<T>(answer: &Result<T, Refusal>) -> u32 {
     match answer {
         Ok(_) => 0,
         Err(refusal) => refusal.number() as u32,

@@ -1,0 +1,96 @@
+-- The three steps of planning (document 003, section 3.3), each by itself, of every grid and window that 3 to 6 let pass: so also of a request that 7, 8 or 9 turns back.
+use Prim.Native.Nat.{ℕ, suc, _+_, _-_, _<_}
+use mathlib.Core.Bool.{true}
+use mathlib.Core.List.{List, []}
+use mathlib.Core.Path.{_≡_}
+use lib.IntN.{ℤ}
+use lib.ListN.{getD}
+use Rattle.model.specs.Lists.{tabulate, sum}
+use Rattle.model.specs.Vectors.{plus, before}
+use Rattle.model.specs.Windows.{Members}
+use Rattle.model.specs.Values.{offsetsOf, onGrid}
+use Rattle.model.specs.Iterations.{positionOf, isIterationOf}
+use Rattle.model.specs.Answers.{byVerdict}
+use Rattle.model.specs.Judging.{centred, judgeWindow, judgeBehind}
+use Rattle.model.specs.Steps.{stepsOf}
+use Rattle.model.specs.Planning.{planOf, chainBy}
+use Rattle.model.specs.declared.Grid.{Grid}
+use Rattle.model.specs.declared.Request.{Request}
+use Rattle.model.specs.declared.Steps.{Steps}
+use Rattle.model.specs.declared.Window.{Window}
+use Rattle.model.specs.declared.Verdict.the-variants as verdict
+
+module _ (g : Grid) (w : Window) where
+  abbrev pub steps : Steps
+  steps = stepsOf g w
+
+  -- The author's reference i, and the sorted reference k.
+  abbrev pub given : ℕ → List ℤ
+  given i = getD (offsetsOf (g .dims) w) i []
+
+  abbrev pub arranged : ℕ → List ℤ
+  arranged k = getD (offsetsOf (g .dims) (steps .window)) k []
+
+  -- The position that the sorted reference k reads in the iteration v.
+  abbrev pub readBy : (v : List ℤ) (k : ℕ) → ℕ
+  readBy v k = positionOf (onGrid g w) (plus v (arranged k))
+
+  abbrev pub distance : ℕ → ℕ
+  distance k = getD (steps .distances) k 0
+
+  -- Section 3.3.2: "sort the data access offsets .. in the descending lexicographic order when we map them to data filters"
+  pub record Sorted : Type 0 where
+    -- The offsets are the request's, as many, each once,
+    pub count : steps .window .count ≡ w .count
+    pub each : Members (offsetsOf (g .dims) w) (offsetsOf (g .dims) (steps .window))
+    pub no-other : Members (offsetsOf (g .dims) (steps .window)) (offsetsOf (g .dims) w)
+    -- in strictly falling order;
+    pub falls : (k : ℕ) → suc k < w .count → before (arranged (suc k)) (arranged k) ≡ true
+    -- the author's reference i is held by the filter that is named.
+    pub held : (i : ℕ) → i < w .count → (getD (steps .filters) i 0 < w .count) × (arranged (getD (steps .filters) i 0) ≡ given i)
+
+  -- Section 3.3.2: "the .. reuse distances of all the pairs of adjacent array references"
+  pub record Distances : Type 0 where
+    -- In every iteration of the request the pair's positions differ by the distance,
+    pub every : (v : List ℤ) (k : ℕ) → isIterationOf (onGrid g w) v ≡ true → suc k < w .count → readBy v k ≡ readBy v (suc k) + distance k
+    -- which is at least 1.
+    pub some : (k : ℕ) → suc k < w .count → 0 < distance k
+
+  -- Section 3.3.3: "the sum of the sizes of all the reuse FIFOs"
+  abbrev pub Summed : Type 0
+  Summed = steps .total ≡ sum (tabulate (w .count - 1) distance)
+
+  -- On a rectangle it "is equal to the maximum reuse distance between array reference A_0 and A_{n-1}".
+  abbrev pub FirstToLast : Type 0
+  FirstToLast = (v : List ℤ) → isIterationOf (onGrid g w) v ≡ true → readBy v 0 ≡ readBy v (w .count - 1) + steps .total
+
+abbrev pub StepOne : Type 0
+StepOne = (g : Grid) (w : Window) → judgeWindow g w ≡ verdict.Accepted → Sorted g w
+
+abbrev pub StepTwo : Type 0
+StepTwo = (g : Grid) (w : Window) → judgeWindow g w ≡ verdict.Accepted → Distances g w
+
+abbrev pub StepThree : Type 0
+StepThree = (g : Grid) (w : Window) → judgeWindow g w ≡ verdict.Accepted → Summed g w
+
+abbrev pub OnRectangles : Type 0
+OnRectangles = (g : Grid) (w : Window) → judgeWindow g w ≡ verdict.Accepted → FirstToLast g w
+
+-- A plan is these steps, then what refuses, then the chain.
+pub record PlannedBySteps (r : Request) (s : Steps) : Type 0 where
+  -- 3 to 6 come before the steps, 7 and 8 behind them, and 9 goes by their total;
+  pub found : s .verdict ≡ judgeWindow (r .grid) (r .window)
+  pub refused : planOf r .verdict ≡ byVerdict (s .verdict) (judgeBehind (r .kernel) (centred (offsetsOf (r .grid .dims) (r .window))) (s .total)) verdict.Refused
+  -- the chain has their window, their distances for its capacities, and their filters for its order.
+  pub chain : planOf r .verdict ≡ verdict.Accepted → planOf r .chain ≡ chainBy (r .grid) (r .kernel) s
+
+abbrev pub PlansBySteps : Type 0
+PlansBySteps = (r : Request) → PlannedBySteps r (stepsOf (r .grid) (r .window))
+
+-- All of them.
+pub record PaperSteps : Type 0 where
+  pub sorted : StepOne
+  pub distances : StepTwo
+  pub total : StepThree
+  pub first-to-last : OnRectangles
+  pub plans : PlansBySteps

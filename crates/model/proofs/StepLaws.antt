@@ -1,0 +1,168 @@
+-- Laws of the three steps of planning (document 003, section 3.3), of every grid and window that 3 to 6 let pass.
+use Prim.Native.Nat.{ℕ, suc, _+_, _-_, _≤_, _<_}
+use mathlib.Core.Bool.{Bool, true}
+use mathlib.Core.List.{List, [], _++_}
+use mathlib.Core.Path.{_≡_, refl, sym, _∙_, ap}
+use native.Mathlib.Omega.{arith}
+use lib.ListN.{length, getD}
+use lib.IntN.{ℤ}
+use Rattle.model.specs.Lists.{tabulate, sum, any}
+use Rattle.model.specs.Vectors.{plus, before}
+use Rattle.model.specs.Geometry.{position, iterationCount, iteration, reads, distance}
+use Rattle.model.specs.Values.{Trimmed, sizesOf, offsetsOf, onGrid, windowOf, capacityArray, filterArray, chainOf, blankChain}
+use Rattle.model.specs.Iterations.{iterationsOf, distanceOf}
+use Rattle.model.specs.Answers.{firstOf, byVerdict}
+use Rattle.model.specs.Judging.{tooLarge, twice, badOrder, centred, windowChecks, kernelChecks, chainChecks, valueChecks, judged, judgeWindow, judgeBehind}
+use Rattle.model.specs.Steps.{falling, authorsOrder, sorted, distances, total, stepsOf, refusedSteps}
+use Rattle.model.specs.Planning.{trimmedRequest, judgeRequest, plannedChain, planOf, chainBy}
+use Rattle.model.specs.declared.Grid.{Grid}
+use Rattle.model.specs.declared.Kernel.{Kernel}
+use Rattle.model.specs.declared.Planned.{Planned}
+use Rattle.model.specs.declared.Refusal.{Refusal}
+use Rattle.model.specs.declared.Request.{Request}
+use Rattle.model.specs.declared.Steps.{Steps}
+use Rattle.model.specs.declared.Verdict.{Verdict}
+use Rattle.model.specs.declared.Verdict.the-variants as verdict
+use Rattle.model.specs.declared.Window.{Window}
+use Rattle.model.proofs.ListLaws.{length-tabulate, getD-tabulate}
+use Rattle.model.proofs.Distances as window
+use Rattle.model.proofs.Iterations.{some-iteration}
+use Rattle.model.proofs.SortLaws.{length-falling, falling-each, falling-no-other, sized-falling, falling-falls}
+use Rattle.model.proofs.ChainLaws.{offsets-count, offsets-sized, offsets-back, capacities-back}
+use Rattle.model.proofs.CheckLaws.{then-checks, both-pass, WindowPasses, window-passes, few-dims, few-references}
+
+-- 9 of the distances is 9 of their sum; a request has no order, so there is no 14.
+by-total : (k : Kernel) (centred : Bool) (n : ℕ) (t : Trimmed) → firstOf (kernelChecks k centred ++ chainChecks (distances t) n []) ≡ judgeBehind k centred (total t)
+unfolding judgeBehind total chainChecks kernelChecks tooLarge badOrder twice any firstOf
+by-total k centred n t = refl
+
+module _ (g : Grid) (w : Window) where
+  abbrev sizes : List ℕ
+  sizes = sizesOf g
+
+  -- The author's offsets, and these sorted.
+  abbrev given : List (List ℤ)
+  given = offsetsOf (g .dims) w
+
+  abbrev arranged : List (List ℤ)
+  arranged = falling given
+
+  -- What the steps answer, by what comes before them.
+  pub steps-verdict : stepsOf g w .verdict ≡ judgeWindow g w
+  unfolding stepsOf
+  steps-verdict = go (judgeWindow g w) refl
+    where
+      go : (v : Verdict) → judgeWindow g w ≡ v → stepsOf g w .verdict ≡ judgeWindow g w
+      go verdict.Accepted e = rw e
+      go (verdict.Refused x) e = rw e
+
+  pub steps-refused : (x : Refusal) → judgeWindow g w ≡ verdict.Refused x → stepsOf g w ≡ refusedSteps x
+  unfolding stepsOf
+  steps-refused x e = rw e
+
+  pub arranged-count : length arranged ≡ w .count
+  arranged-count = length-falling given ∙ offsets-count (g .dims) w
+
+  pub arranged-sized : (k : ℕ) → k < w .count → length (getD arranged k []) ≡ length sizes
+  arranged-sized k h = sized-falling sizes given (offsets-sized g w) k (omega (arith, arranged-count))
+
+  -- The sorted offsets have the same iterations, and read there what the author's do.
+  pub same-iterations : iterationCount sizes arranged ≡ iterationCount sizes given
+  same-iterations = window.same-count sizes arranged given (falling-no-other given) (falling-each given)
+
+  pub reads-there : (j k : ℕ) → position sizes (plus (iteration sizes given j) (getD arranged k [])) ≡ reads sizes arranged j k
+  unfolding reads
+  reads-there j k =
+      ap (λ (v : List ℤ). position sizes (plus v (getD arranged k []))) (sym (window.same-iteration sizes arranged given (falling-no-other given) (falling-each given) j))
+
+  module _ (e : judgeWindow g w ≡ verdict.Accepted) where
+    pub steps-taken : stepsOf g w ≡ (record {
+      verdict = verdict.Accepted;
+      window = windowOf (w .count) arranged;
+      filters = filterArray (authorsOrder given);
+      distances = capacityArray (distances (sorted (onGrid g w)));
+      total = total (sorted (onGrid g w));
+    })
+    unfolding stepsOf sorted
+    steps-taken = rw e
+
+    pub passed : WindowPasses (onGrid g w)
+    passed = window-passes (onGrid g w) e
+
+    few : w .count ≤ 32
+    few = few-references (w .count) (passed .count)
+
+    -- The offsets: in their array they are those sorted, each strictly before the one in front of it.
+    pub arranged-back : offsetsOf (g .dims) (windowOf (w .count) arranged) ≡ arranged
+    unfolding sizesOf
+    arranged-back =
+        offsets-back (g .dims) (w .count) arranged arranged-count (λ k h. arranged-sized k h ∙ length-tabulate (g .dims) _)
+        (few-dims (g .dims) sizes (passed .grid)) few
+
+    pub arranged-falls : (k : ℕ) → suc k < w .count → before (getD arranged (suc k) []) (getD arranged k []) ≡ true
+    arranged-falls k h = falling-falls sizes given (offsets-sized g w) (passed .distinct) k (omega (arith, arranged-count))
+
+    -- The distances: in every iteration the first of a pair reads behind the second, by its distance.
+    pub reads-fall : (j k : ℕ) → j < iterationCount sizes given → suc k < w .count → reads sizes arranged j (suc k) < reads sizes arranged j k
+    reads-fall j k h b =
+        window.falls sizes arranged (λ i l. arranged-sized i (omega (arith, arranged-count))) j k (suc k) (omega (arith, same-iterations)) (omega (arith, arranged-count)) (omega (arith, arranged-count)) .0
+        (arranged-falls k b)
+
+    pub reads-apart : (j k : ℕ) → j < iterationCount sizes given → suc k < w .count
+        → reads sizes arranged j k ≡ reads sizes arranged j (suc k) + distance sizes arranged k
+    reads-apart j k h b =
+        omega (
+          arith,
+          reads-fall j k h b,
+          window.same-distance sizes arranged (λ i l. arranged-sized i (omega (arith, arranged-count))) j k (omega (arith, same-iterations)) (omega (arith, arranged-count)),
+        )
+
+    pub some-given : 0 < iterationCount sizes given
+    unfolding iterationsOf
+    some-given = some-iteration (onGrid g w) (passed .iterates)
+
+    pub distance-there : (k : ℕ) → suc k < w .count → getD (capacityArray (distances (sorted (onGrid g w)))) k 0 ≡ distance sizes arranged k
+    unfolding distances distanceOf sorted
+    distance-there k h =
+        getD-tabulate 31 _ k 0 (omega (arith, few)) ∙ getD-tabulate (w .count - 1) (distance sizes arranged) k 0 (omega arith)
+
+    -- Their sum: that of as many as there are pairs.
+    pub distances-back : tabulate (w .count - 1) (λ k. getD (capacityArray (distances (sorted (onGrid g w)))) k 0) ≡ distances (sorted (onGrid g w))
+    unfolding distances sorted
+    distances-back = capacities-back (w .count - 1) (distances (sorted (onGrid g w))) (length-tabulate (w .count - 1) _) (omega (arith, few))
+
+-- A request is judged by what comes before the steps, then by 7 and 8, then by 9 of their total,
+module _ (r : Request) where
+  abbrev steps : Steps
+  steps = stepsOf (r .grid) (r .window)
+
+  abbrev hasCentre : Bool
+  hasCentre = centred (offsetsOf (r .grid .dims) (r .window))
+
+  pub judged-by-steps : judgeRequest r ≡ byVerdict (steps .verdict) (judgeBehind (r .kernel) hasCentre (steps .total)) verdict.Refused
+  unfolding judgeRequest judged valueChecks trimmedRequest windowChecks
+  judged-by-steps = then-checks (windowChecks (trimmedRequest r)) _ ∙ go (judgeWindow (r .grid) (r .window)) refl
+    where
+      go : (v : Verdict) → judgeWindow (r .grid) (r .window) ≡ v
+          → byVerdict (judgeWindow (r .grid) (r .window)) (firstOf (kernelChecks (r .kernel) hasCentre ++ chainChecks (distances (sorted (onGrid (r .grid) (r .window)))) (r .window .count) [])) verdict.Refused
+          ≡ byVerdict (steps .verdict) (judgeBehind (r .kernel) hasCentre (steps .total)) verdict.Refused
+      go verdict.Accepted e = rw (e, steps-taken (r .grid) (r .window) e) (by-total (r .kernel) hasCentre (r .window .count) (sorted (onGrid (r .grid) (r .window))))
+      go (verdict.Refused x) e = rw (e, steps-refused (r .grid) (r .window) x e)
+
+  pub request-passes : judgeRequest r ≡ verdict.Accepted → judgeWindow (r .grid) (r .window) ≡ verdict.Accepted
+  unfolding judgeRequest judged valueChecks trimmedRequest windowChecks
+  request-passes e = both-pass (windowChecks (trimmedRequest r)) _ e .0
+
+  pub plan-verdict : planOf r .verdict ≡ judgeRequest r
+  unfolding planOf
+  plan-verdict = go (judgeRequest r)
+    where
+      go : (v : Verdict) → byVerdict {A = Planned} v (record { verdict = verdict.Accepted; chain = plannedChain r }) (λ x. record { verdict = verdict.Refused x; chain = blankChain }) .verdict ≡ v
+      go verdict.Accepted = refl
+      go (verdict.Refused x) = refl
+
+  -- and its chain is made of their results.
+  module _ (e : judgeWindow (r .grid) (r .window) ≡ verdict.Accepted) where
+    pub chain-by-steps : plannedChain r ≡ chainBy (r .grid) (r .kernel) steps
+    unfolding plannedChain trimmedRequest sorted chainOf
+    chain-by-steps = rw (steps-taken (r .grid) (r .window) e)

@@ -1,0 +1,114 @@
+-- The three steps of planning on grids and windows (document 003, section 3.3): one table, computed, the expected side worked out by hand.
+use Prim.Native.Nat.{ℕ, _-_}
+use mathlib.Core.List.{List, [], _∷_, map}
+use mathlib.Core.Path.{_≡_, refl}
+use lib.IntN.{ℤ, pos}
+use lib.Ieee.{ofBits}
+use lib.ListN.{length, getD}
+use Rattle.model.specs.Lists.{tabulate, sum, product, greatest, any}
+use Rattle.model.specs.Vectors.{−1, same, above, plus, equal, before, isZero}
+use Rattle.model.specs.Geometry.{cellCount, place, natural, position, firstEntry, otherEntries, leastFrom, least, lows, extent, extents, iterationCount, indices, fromLows, iteration, reads, distance}
+use Rattle.model.specs.Values.{sizesOf, offsetOf, offsetsOf, windowOf}
+use Rattle.model.specs.Iterations.{distanceOf}
+use Rattle.model.specs.Answers.{numberOf, verdictNumber, firstOf}
+use Rattle.model.specs.Judging.{badDims, badSizes, badGrid, badCount, repeats, noIteration, needsCentre, lacksCentre, notFinite, badFactor, tooLarge, twice, badOrder, windowChecks, kernelChecks, chainChecks, valueChecks, judged}
+use Rattle.model.specs.Steps.{insert, falling, whichOf, authorsOrder, sorted, distances, total, stepsOf}
+use Rattle.model.specs.Planning.{trimmedRequest, judgeRequest}
+use Rattle.model.specs.Kernels.{float}
+use Rattle.model.specs.declared.Grid.{Grid}
+use Rattle.model.specs.declared.Window.{Window}
+use Rattle.model.specs.declared.Kernel.{Kernel}
+use Rattle.model.specs.declared.Kernel.the-variants as kernel
+
+-- The number that turns the steps back, 0 for none; the sorted offsets, the filter of each of the author's references, the distances and their sum.
+pub record Results : Type 0 where
+  pub number : ℕ
+  pub offsets : List (List ℤ)
+  pub filters : List ℕ
+  pub distances : List ℕ
+  pub total : ℕ
+
+-- A grid's sizes, offsets in the author's order and a kernel, which the steps do not look at; the number that turns the request back; the results.
+pub record Case : Type 0 where
+  pub sizes : List ℕ
+  pub given : List (List ℤ)
+  pub kernel : Kernel
+  pub request : ℕ
+  pub results : Results
+
+pub record Answers : Type 0 where
+  pub request : ℕ
+  pub results : Results
+
+unfoldable pub answered : Case → Answers
+answered c =
+    let g : Grid = record { dims = length (c .sizes); sizes = c .sizes } in
+    let w : Window = windowOf (length (c .given)) (c .given) in
+    let s = stepsOf g w in
+    record {
+      request = verdictNumber (judgeRequest (record { grid = g; window = w; kernel = c .kernel }));
+      results = record {
+        number = verdictNumber (s .verdict);
+        offsets = offsetsOf (g .dims) (s .window);
+        filters = tabulate (s .window .count) (λ t. getD (s .filters) t 0);
+        distances = tabulate (s .window .count - 1) (λ k. getD (s .distances) k 0);
+        total = s .total;
+      };
+    }
+
+unfoldable pub expected : Case → Answers
+expected c = record { request = c .request; results = c .results }
+
+abbrev case : List ℕ → List (List ℤ) → Kernel → (request : ℕ) → List (List ℤ) → (filters distances : List ℕ) → (total : ℕ) → Case
+case sizes given k request offsets filters distances total = record {
+  sizes = sizes;
+  given = given;
+  kernel = k;
+  request = request;
+  results = record { number = 0; offsets = offsets; filters = filters; distances = distances; total = total };
+}
+
+abbrev refused : List ℕ → List (List ℤ) → (number : ℕ) → Case
+refused sizes given number = record {
+  sizes = sizes;
+  given = given;
+  kernel = kernel.Raw;
+  request = number;
+  results = record { number = number; offsets = []; filters = []; distances = []; total = 0 };
+}
+
+-- An offset in one dimension and in two.
+abbrev at : ℤ → List ℤ
+at x = x ∷ []
+
+abbrev point : ℤ → ℤ → List ℤ
+point y x = y ∷ x ∷ []
+
+unfoldable pub cases : List Case
+cases =
+    -- Document 003's own example, case 1 of document 01: Listing 1's references, centre, left, right, up, down; Table 2's sizes; "the total size is 2048"
+    case (768 ∷ 1024 ∷ []) (point (pos 0) (pos 0) ∷ point (pos 0) −1 ∷ point (pos 0) (pos 1) ∷ point −1 (pos 0) ∷ point (pos 1) (pos 0) ∷ []) kernel.Difference 0
+    (point (pos 1) (pos 0) ∷ point (pos 0) (pos 1) ∷ point (pos 0) (pos 0) ∷ point (pos 0) −1 ∷ point −1 (pos 0) ∷ []) (2 ∷ 3 ∷ 1 ∷ 4 ∷ 0 ∷ []) (1023 ∷ 1 ∷ 1 ∷ 1023 ∷ []) 2048
+    -- Three references whose order is not its own inverse, with distances that differ
+    ∷ case (9 ∷ []) (at (pos 0) ∷ at (pos 5) ∷ at (pos 3) ∷ []) kernel.Raw 0 (at (pos 5) ∷ at (pos 3) ∷ at (pos 0) ∷ []) (2 ∷ 0 ∷ 1 ∷ []) (2 ∷ 3 ∷ []) 5
+    -- No neighbours
+    ∷ case (1 ∷ []) (at (pos 0) ∷ []) kernel.Raw 0 (at (pos 0) ∷ []) (0 ∷ []) [] 0
+    -- Requests that 7, 8 and 9 turn back have the three results too
+    ∷ case (9 ∷ []) (at (pos 1) ∷ at (pos 4) ∷ []) kernel.Difference 7 (at (pos 4) ∷ at (pos 1) ∷ []) (1 ∷ 0 ∷ []) (3 ∷ []) 3
+    ∷ case (9 ∷ []) (at (pos 1) ∷ at (pos 4) ∷ []) (kernel.Scaled (float 0x7F800000)) 8 (at (pos 4) ∷ at (pos 1) ∷ []) (1 ∷ 0 ∷ []) (3 ∷ []) 3
+    ∷ case (40000 ∷ []) (at (pos 0) ∷ at (pos 30000) ∷ at (pos 10000) ∷ []) kernel.Raw 9 (at (pos 30000) ∷ at (pos 10000) ∷ at (pos 0) ∷ []) (2 ∷ 0 ∷ 1 ∷ []) (20000 ∷ 10000 ∷ []) 30000
+    ∷ case (20000 ∷ []) (at (pos 0) ∷ at (pos 16385) ∷ []) kernel.Raw 9 (at (pos 16385) ∷ at (pos 0) ∷ []) (1 ∷ 0 ∷ []) (16385 ∷ []) 16385
+    -- 3 to 6 turn the steps back, lowest first
+    ∷ refused (0 ∷ []) [] 3
+    ∷ refused (5 ∷ []) [] 4
+    ∷ refused (2 ∷ []) (at (pos 0) ∷ at (pos 2) ∷ at (pos 0) ∷ []) 5
+    ∷ refused (2 ∷ []) (at −1 ∷ at (pos 1) ∷ []) 6
+    ∷ []
+
+pub table : map answered cases ≡ map expected cases
+unfolding answered expected cases ofBits tabulate sum product greatest any same above plus equal before isZero
+    cellCount place natural position firstEntry otherEntries leastFrom least lows extent extents iterationCount indices fromLows iteration reads distance distanceOf
+    sizesOf offsetOf offsetsOf numberOf verdictNumber firstOf
+    badDims badSizes badGrid badCount repeats noIteration needsCentre lacksCentre notFinite badFactor tooLarge twice badOrder windowChecks kernelChecks chainChecks valueChecks judged
+    insert falling whichOf authorsOrder sorted distances total stepsOf trimmedRequest judgeRequest
+table = refl

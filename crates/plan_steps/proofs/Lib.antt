@@ -1,0 +1,6 @@
+pub mod OrderLaws
+pub mod InsertLaws
+pub mod ArrangeLaws
+pub mod HeldLaws
+pub mod DistanceLaws
+pub mod StepLaws

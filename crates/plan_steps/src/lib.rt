@@ -1,0 +1,73 @@
+// The three steps of planning, in the order of document 003, section 3.3: the offsets sorted (sorting.rt), the distances of neighbours (distances.rt), their sum (total.rt).
+mod distances;
+mod sorting;
+pub mod total;
+
+use model::Grid;
+use model::Refusal;
+use model::Steps;
+use model::Verdict;
+use model::Window;
+ghost use mathlib.Core.Path.{_≡_};
+ghost use Rattle.model.specs.Judging.{judgeWindow};
+ghost use Rattle.model.specs.Steps.{refusedSteps, stepsOf};
+ghost use Rattle.model.specs.declared.Verdict.the-variants.{Accepted};
+ghost use Rattle.plan_steps.specs.Order.{FirstPositions};
+
+// The steps of a grid and a window that 3 to 6 let pass, where `at` has the position that each reference reads in the first iteration.
+fn taken(grid: Grid, window: Window, at: &[u32; 32]) -> Steps
+    requires { ⌜ (judgeWindow grid window ≡ Accepted) × FirstPositions grid window (now at) ⌝ }
+    ensures { λ r. ⌜ r ≡ stepsOf grid window ⌝ }
+{
+    let dims = grid.dims;
+    let count = window.count;
+    let n = count as usize;
+    let offsets = window.offsets;
+    // Section 3.3.2: the offsets sorted,
+    let order = sorting::order_of(&offsets, n, dims as usize);
+    let sorted = sorting::arranged(dims, window, &order);
+    let filters = sorting::held_by(&order, n);
+    // the distances of neighbours;
+    let distances = distances::distances(at, &order, n);
+    // section 3.3.3: their sum.
+    let total = total::total(&distances, count);
+    Steps {
+        verdict: Verdict::Accepted,
+        window: sorted,
+        filters,
+        distances,
+        total,
+    }
+}
+
+// What is answered where one of 3 to 6 refuses.
+fn refused(x: Refusal) -> Steps
+    ensures { λ r. ⌜ r ≡ refusedSteps x ⌝ }
+{
+    Steps {
+        verdict: Verdict::Refused(x),
+        window: Window {
+            count: 0,
+            offsets: [0i16; 128],
+        },
+        filters: [0u8; 32],
+        distances: [0u32; 31],
+        total: 0,
+    }
+}
+
+// The three results, of every grid and window that 3 to 6 let pass, also of those that 7, 8 or 9 turns back with a kernel; else the first of 3 to 6 that refuses.
+pub fn steps(grid: Grid, window: Window) -> Steps
+    ensures { λ r. ⌜ r ≡ stepsOf grid window ⌝ }
+{
+    let survey = shape::survey_of(grid, window);
+    let verdict = survey.verdict;
+    match verdict {
+        Verdict::Refused(x) => refused(x),
+        Verdict::Accepted => {
+            let shape = survey.shape;
+            let at = shape.at;
+            taken(grid, window, &at)
+        }
+    }
+}
