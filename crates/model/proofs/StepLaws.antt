@@ -102,7 +102,7 @@ module _ (g : Grid) (w : Window) where
     pub arranged-falls : (k : ℕ) → suc k < w .count → before (getD arranged (suc k) []) (getD arranged k []) ≡ true
     arranged-falls k h = falling-falls sizes given (offsets-sized g w) (passed .distinct) k (omega (arith, arranged-count))
 
-    -- The distances: in every iteration the first of a pair reads behind the second, by its distance.
+    -- The distances: in every iteration the first of a pair reads a later position than the second, by its distance.
     pub reads-fall : (j k : ℕ) → j < iterationCount sizes given → suc k < w .count → reads sizes arranged j (suc k) < reads sizes arranged j k
     reads-fall j k h b =
         window.falls sizes arranged (λ i l. arranged-sized i (omega (arith, arranged-count))) j k (suc k) (omega (arith, same-iterations)) (omega (arith, arranged-count)) (omega (arith, arranged-count)) .0
