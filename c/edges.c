@@ -1,6 +1,6 @@
-/* Tries what the header says beside what each function answers: slices of 0 elements whose pointer is NULL, windows by name, terms in the author's order, calls in several
- * threads at the same time, a store of any content, too few output places, and the stack that a call needs (with EDGES_STACK set it prints how much). Prints what does not
- * hold, and last `c/edges: ok` or `c/edges: failed`. */
+/* Tries what the header says beside what each function answers: slices of 0 elements whose pointer is NULL, windows by name, terms in the author's order, smaller boxes,
+ * chains of earlier versions, calls in several threads at the same time, a store of any content, too few output places, and the stack that a call needs (with EDGES_STACK
+ * set it prints how much). Prints what does not hold, and last `c/edges: ok` or `c/edges: failed`. */
 #define _POSIX_C_SOURCE 200809L
 #include "zohmirka.h"
 
@@ -116,11 +116,78 @@ static void orders(void) {
     answer = zohmirka_write_chain(chain, ZOHMIRKA_CHAIN_WORDS, wrote, sizeof wrote);
     expect(answer.refusal == 0 && answer.bytes == strlen(without) && memcmp(wrote, without, answer.bytes) == 0, "write_chain: an order that did not stand");
     expect(zohmirka_read_chain(bytes(without), strlen(without), chain, ZOHMIRKA_CHAIN_WORDS) == 0, "read: without an order");
-    for (int i = ZOHMIRKA_CHAIN_ORDER_STOOD; i < ZOHMIRKA_CHAIN_WORDS; i++) expect(chain[i] == 0, "read: words of no order");
+    for (int i = ZOHMIRKA_CHAIN_ORDER_STOOD; i < ZOHMIRKA_CHAIN_WORDS; i++) expect(chain[i] == 0, "read: words of no order and no box");
     /* The sheet of a chain of one reference, and no request. */
     const char *alone = "010100000003\n020000\n0600\n0400\n";
     answer = zohmirka_plan(bytes(alone), strlen(alone), wrote, sizeof wrote);
     expect(answer.refusal == 2 && zohmirka_judge(bytes(alone), strlen(alone)) == 0, "an order in a request sheet");
+}
+
+/* A whole run of 20 cells, 1 to 20; the words of its first two firings are these. */
+static int runs_to(const uint32_t *chain, uint32_t cells, uint32_t firings, const uint32_t words[10]) {
+    uint32_t state[ZOHMIRKA_STATE_WORDS] = {0}, store[10] = {0}, out[30] = {0}, lent[20];
+    for (uint32_t i = 0; i < 20; i++) lent[i] = i + 1;
+    struct zohmirka_report r = zohmirka_run_chain(chain, ZOHMIRKA_CHAIN_WORDS, state, ZOHMIRKA_STATE_WORDS, store, 10, lent, 20, out, 30, UINT32_MAX);
+    return is(r, 0, ZOHMIRKA_DONE, cells, firings, cells) && memcmp(out, words, 10 * sizeof *words) == 0;
+}
+
+/* A request's box in a planned chain, other boxes and none in its words, and 15. */
+static void boxes(void) {
+    const char *request = "01020000000400000005\n0701\n0800000001000000010000000200000003\n0400\n";
+    const char *sheet = "01020000000400000005\n0200010000\n0200000001\n0200000000\n020000FFFF\n02FFFF0000\n0800000001000000010000000200000003\n"
+                        "0300000004\n0300000001\n0300000001\n0300000004\n060001020304\n0400\n";
+    const char *without = "01020000000400000005\n0200010000\n0200000001\n0200000000\n020000FFFF\n02FFFF0000\n"
+                          "0300000004\n0300000001\n0300000001\n0300000004\n060001020304\n0400\n";
+    const char *outside = "01020000000400000005\n0701\n0800000001000000010000000200000004\n0400\n";
+    static const uint32_t row[10] = {13, 9, 8, 7, 3, 14, 10, 9, 8, 4}, column[10] = {14, 10, 9, 8, 4, 19, 15, 14, 13, 9};
+    static const uint32_t all[10] = {12, 8, 7, 6, 2, 13, 9, 8, 7, 3}, words[9] = {1, 1, 2, 0, 0, 1, 3, 0, 0};
+    uint8_t wrote[ZOHMIRKA_SHEET_BYTES];
+    uint32_t chain[ZOHMIRKA_CHAIN_WORDS];
+    struct zohmirka_sheet answer = zohmirka_plan(bytes(request), strlen(request), wrote, sizeof wrote);
+    expect(answer.refusal == 0 && answer.bytes == strlen(sheet) && memcmp(wrote, sheet, answer.bytes) == 0, "plan: the box");
+    answer = zohmirka_plan(bytes(outside), strlen(outside), wrote, sizeof wrote);
+    expect(answer.refusal == 15 && answer.bytes == 0 && memcmp(wrote, sheet, strlen(sheet)) == 0, "plan: a box that reaches outside");
+    expect(zohmirka_read_chain(bytes(sheet), strlen(sheet), chain, ZOHMIRKA_CHAIN_WORDS) == 0, "read: the box");
+    expect(memcmp(chain + ZOHMIRKA_CHAIN_BOX_STOOD, words, sizeof words) == 0, "read: words of the box");
+    expect(runs_to(chain, 14, 2, row), "a run over a box in one row");
+
+    uint32_t *lowest = chain + ZOHMIRKA_CHAIN_BOX_LOWEST, *highest = chain + ZOHMIRKA_CHAIN_BOX_HIGHEST;
+    lowest[1] = highest[1] = 3;
+    highest[0] = 2;
+    expect(runs_to(chain, 19, 2, column), "a run over a box in one column");
+    lowest[1] = 1;
+    expect(runs_to(chain, 19, 6, all), "a run over a full box");
+    lowest[1] = 0;
+    expect(zohmirka_judge_chain(chain, ZOHMIRKA_CHAIN_WORDS) == 15, "judge_chain: a box that reaches outside");
+    lowest[1] = 3;
+    highest[1] = 2;
+    expect(zohmirka_judge_chain(chain, ZOHMIRKA_CHAIN_WORDS) == 15, "judge_chain: a lowest above its highest");
+    lowest[1] = UINT32_C(0x80000000);
+    highest[1] = UINT32_C(0x7FFFFFFF);
+    expect(is(zohmirka_run_chain(chain, ZOHMIRKA_CHAIN_WORDS, NULL, 0, NULL, 0, NULL, 0, NULL, 0, 9), 15, ZOHMIRKA_REFUSED, 0, 0, 0), "run_chain: the widest box");
+    answer = zohmirka_write_chain(chain, ZOHMIRKA_CHAIN_WORDS, NULL, 0);
+    expect(answer.refusal == 15 && answer.bytes == 0, "write_chain: the widest box");
+    chain[ZOHMIRKA_CHAIN_BOX_STOOD] = 0;
+    expect(runs_to(chain, 19, 6, all), "a run without a box, whatever its words hold");
+    answer = zohmirka_write_chain(chain, ZOHMIRKA_CHAIN_WORDS, wrote, sizeof wrote);
+    expect(answer.refusal == 0 && answer.bytes == strlen(without) && memcmp(wrote, without, answer.bytes) == 0, "write_chain: a box that did not stand");
+}
+
+/* Words that earlier versions of the interface took for a chain. */
+static void earlier_versions(void) {
+    static const size_t lengths[2] = {168, 201};
+    uint32_t chain[ZOHMIRKA_CHAIN_WORDS], kept[ZOHMIRKA_CHAIN_WORDS], state[ZOHMIRKA_STATE_WORDS] = {0}, store[3], out[4];
+    uint8_t sheet[ZOHMIRKA_SHEET_BYTES];
+    expect(zohmirka_read_chain(bytes(SHEET), strlen(SHEET), chain, ZOHMIRKA_CHAIN_WORDS) == 0, "read");
+    for (int i = 0; i < 2; i++) {
+        size_t n = lengths[i];
+        memset(kept, 0x5A, sizeof kept);
+        expect(zohmirka_read_chain(bytes(SHEET), strlen(SHEET), kept, n) == 12 && kept[0] == UINT32_C(0x5A5A5A5A), "read: places of an earlier version");
+        expect(zohmirka_judge_chain(chain, n) == 3, "judge_chain: words of an earlier version");
+        expect(zohmirka_write_chain(chain, n, sheet, sizeof sheet).refusal == 3, "write_chain: words of an earlier version");
+        expect(is(zohmirka_run_chain(chain, n, state, ZOHMIRKA_STATE_WORDS, store, 3, CELLS, 5, out, 4, 9), 3, ZOHMIRKA_REFUSED, 0, 0, 0),
+               "run_chain: words of an earlier version");
+    }
 }
 
 /* Raw of two references needs two places. */
@@ -136,17 +203,18 @@ static void few_places(void) {
     expect(is(r, 0, ZOHMIRKA_DONE, 2, 2, 2) && out[0] == 4 && out[1] == 1 && out[2] == 5 && out[3] == 2, "enough places: the run goes on, whatever the store held at first");
 }
 
-/* 40 by 40 cells, and a window of 7 rows of 5 references without its corners: 31 of them. */
+/* 40 by 40 cells, and a window of 7 rows of 5 references without its corners: 31 of them. All iterations are rows 3 to 36, columns 2 to 37. */
 enum { ROWS = 40, FIRINGS = 34 * 36 };
 static const char *const KERNELS[4] = {"0400\n", "0401\n", "04023D000000\n", "04033F0000003C800000\n"};
 
-static void wide_request(char *text, const char *kernel) {
+static void wide_request(char *text, const char *kernel, int boxed) {
     text += sprintf(text, "0102%08X%08X\n", (unsigned)ROWS, (unsigned)ROWS);
     for (int y = -3; y <= 3; y++) {
         for (int x = -2; x <= 2; x++) {
             if (x * x + y * y != 13) text += sprintf(text, "02%04X%04X\n", (unsigned)(uint16_t)y, (unsigned)(uint16_t)x);
         }
     }
+    if (boxed) text += sprintf(text, "08%08X%08X%08X%08X\n", 3u, 36u, 2u, 37u);
     strcpy(text, kernel);
 }
 
@@ -161,7 +229,7 @@ __attribute__((noinline)) static const char *stack_here(void) {
     return (const char *)__builtin_frame_address(0);
 }
 
-/* Plans, judges, reads and runs a chain, whole or in pieces, by its sheet or by its words; a sum over the words that it writes. */
+/* Plans, judges, reads and runs a chain, without a box or in a full one, in pieces, by its sheet or by its words; a sum over the words that it writes. */
 static void *runs(void *lent) {
     struct job *job = lent;
     static const uint32_t refused_words[1] = {0};
@@ -171,7 +239,7 @@ static void *runs(void *lent) {
     uint32_t *store = malloc(ZOHMIRKA_STORE_WORDS * sizeof *store), *cells = malloc(ROWS * ROWS * sizeof *cells), *out = malloc(4096 * sizeof *out);
     for (uint32_t i = 0; i < ROWS * ROWS; i++) cells[i] = 0x3F800000u + i * 2654435761u % 0x00800000u;
     memset(store, job->piece, ZOHMIRKA_STORE_WORDS * sizeof *store);
-    wide_request(request, KERNELS[job->kernel]);
+    wide_request(request, KERNELS[job->kernel], job->piece % 4 >= 2);
     job->top = stack_here();
     struct zohmirka_sheet planned = zohmirka_plan(bytes(request), strlen(request), sheet, sizeof sheet);
     job->wrong |= planned.refusal != 0 || zohmirka_version() != ZOHMIRKA_VERSION;
@@ -221,7 +289,7 @@ static void threads(void) {
 static void stack(void) {
     enum { SIZE = 1 << 20 };
     size_t most = 0;
-    for (int i = 0; i < 8; i++) {
+    for (int i = 0; i < 16; i++) {
         void *lent;
         if (posix_memalign(&lent, 4096, SIZE) != 0) exit(2);
         char *low = lent;
@@ -249,6 +317,8 @@ int main(void) {
     null_slices();
     names();
     orders();
+    boxes();
+    earlier_versions();
     few_places();
     threads();
     stack();

@@ -14,7 +14,8 @@
  * Numbers: 1 a malformed line, 2 a line out of its order or missing, 3 dimension count, sizes or number of cells, 4 number of references, 5 two equal offsets,
  * 6 no iteration, 7 difference or blend without a centre, 8 a factor that is infinite or not a number, 9 capacities summing above 16,384, 10 a store that is too
  * short, 11 a state that is too short or whose counters do not fit the chain, 12 what is to be written is longer than the slice lent for it, 13 (request sheets) a
- * byte that names no window, or one whose dimensions are not the grid's, 14 (chains) an order that stood and does not hold each filter number once.
+ * byte that names no window, or one whose dimensions are not the grid's, 14 (chains; looked at after 9) an order that stood and does not hold each filter number
+ * once, 15 (looked at after 6) a box that stood and has a lowest index above its highest, or an iteration that reads outside the grid.
  */
 #ifndef ZOHMIRKA_H
 #define ZOHMIRKA_H
@@ -27,13 +28,13 @@ extern "C" {
 #endif
 
 /* The version of this interface. */
-#define ZOHMIRKA_VERSION 2
+#define ZOHMIRKA_VERSION 3
 
 /* No call needs more bytes of stack, what it calls included. Measured, not proved. */
 #define ZOHMIRKA_STACK_BYTES 16384
 
 /* No chain sheet has more bytes. */
-#define ZOHMIRKA_SHEET_BYTES 1074
+#define ZOHMIRKA_SHEET_BYTES 1141
 /* No chain that is accepted needs more words of store. */
 #define ZOHMIRKA_STORE_WORDS 16384
 /* No firing writes more words. Raw writes as many as there are references, the other kernels write one. */
@@ -42,7 +43,7 @@ extern "C" {
 /* A state is 33 words: the input counters of filters 0 to 31, then the firings made. All are 0 when fresh. */
 #define ZOHMIRKA_STATE_WORDS 33
 
-/* A chain is 201 words:
+/* A chain is 210 words:
  *   0           the dimension count
  *   1 to 4      the sizes, slowest dimension first
  *   5           the number of references, n
@@ -52,8 +53,12 @@ extern "C" {
  *   166, 167    scaled: the factor's bits, and 0; blend: the bits of a and of b; else 0 and 0
  *   168         1 if the author's order stood, else 0
  *   169 to 200  the author's order: the filter number of each term in turn
- * Words past the counts are 0, and so are those of an order that did not stand: then terms are added in chain order. */
-#define ZOHMIRKA_CHAIN_WORDS 201
+ *   201         1 if a box stood, else 0
+ *   202 to 205  the lowest index of the box's iterations in each dimension, 32 bits in two's complement
+ *   206 to 209  the highest index, the same way
+ * Words past the counts are 0, and so are those of an order or a box that did not stand: then terms are added in chain order, and a run covers all iterations.
+ * Version 1 had the first 168 words, version 2 the first 201. */
+#define ZOHMIRKA_CHAIN_WORDS 210
 
 /* Where the parts of a chain begin. */
 enum {
@@ -65,7 +70,10 @@ enum {
     ZOHMIRKA_CHAIN_KERNEL = 165,
     ZOHMIRKA_CHAIN_FACTORS = 166,
     ZOHMIRKA_CHAIN_ORDER_STOOD = 168,
-    ZOHMIRKA_CHAIN_ORDER = 169
+    ZOHMIRKA_CHAIN_ORDER = 169,
+    ZOHMIRKA_CHAIN_BOX_STOOD = 201,
+    ZOHMIRKA_CHAIN_BOX_LOWEST = 202,
+    ZOHMIRKA_CHAIN_BOX_HIGHEST = 206
 };
 
 /* How a call ends. */
@@ -95,13 +103,14 @@ struct zohmirka_report {
 uint32_t zohmirka_version(void);
 
 /* Plans: the chain sheet of a request sheet goes to the first places of `sheet`, later places stay. The order of the references in the request goes with it, and
- * the kernel adds its terms in it. Refusals: 1 to 9 and 13 of the request, then 12 if the chain sheet has more bytes than `sheet`. */
+ * the kernel adds its terms in it; the request's box, where one stood, is copied. Refusals: 1 to 9, 13 and 15 of the request, then 12 if the chain sheet has more
+ * bytes than `sheet`. */
 struct zohmirka_sheet zohmirka_plan(const uint8_t *request, size_t request_len, uint8_t *sheet, size_t sheet_len);
 
-/* Judges a chain sheet, which ends with its `04` line: 1 to 9 or 14, or 0 if it is accepted. */
+/* Judges a chain sheet, which ends with its `04` line: 1 to 9, 14 or 15, or 0 if it is accepted. */
 uint32_t zohmirka_judge(const uint8_t *sheet, size_t sheet_len);
 
-/* A run call on the chain of a sheet. Refusals: 1 to 9 of the sheet, then 14, then 10, then 11.
+/* A run call on the chain of a sheet. Refusals: 1 to 9, 14 and 15 of the sheet, then 10, then 11.
  *   state      33 words or more: all 0 before the first call, then as the last call left them; later words play no part and stay
  *   store      as many words as the capacities' sum or more: of any content before the first call, then as the last call left them; later words play no part and stay
  *   cells      cells of the stream, the first one at the position that word 0 of the state says
@@ -111,22 +120,22 @@ uint32_t zohmirka_judge(const uint8_t *sheet, size_t sheet_len);
 struct zohmirka_report zohmirka_run(const uint8_t *sheet, size_t sheet_len, uint32_t *state, size_t state_len, uint32_t *store, size_t store_len,
                                     const uint32_t *cells, size_t cells_len, uint32_t *out, size_t out_len, uint32_t allowance);
 
-/* Reads a chain sheet: its chain goes to the first 201 places of `chain`, later places stay. Refusals: 1 to 9 of the sheet, then 14, then 12 if `chain` has fewer
+/* Reads a chain sheet: its chain goes to the first 210 places of `chain`, later places stay. Refusals: 1 to 9, 14 and 15 of the sheet, then 12 if `chain` has fewer
  * places. */
 uint32_t zohmirka_read_chain(const uint8_t *sheet, size_t sheet_len, uint32_t *chain, size_t chain_len);
 
 /* A run call on a chain given as words, for many short calls: no sheet is read. On what zohmirka_read_chain wrote of a sheet it does what zohmirka_run does on that
- * sheet. Any other words are a chain too. Refusals: 3 to 9 of the chain, then 14, then 10, then 11. Fewer than 201 words are refused by 3; later words play no part;
- * counts and filter numbers above 255 count as 255; of an entry the low 16 bits count; a kernel above 3 is refused by 8; an order stood if word 168 is not 0, else its
- * words play no part. */
+ * sheet. Any other words are a chain too. Refusals: 3 to 9, 14 and 15 of the chain, then 10, then 11. Fewer than 210 words are refused by 3, the 168 and 201 words
+ * of earlier versions too; later words play no part; counts and filter numbers above 255 count as 255; of an entry the low 16 bits count; a kernel above 3 is refused
+ * by 8; an order stood if word 168 is not 0, and a box if word 201 is not 0, else its words play no part. */
 struct zohmirka_report zohmirka_run_chain(const uint32_t *chain, size_t chain_len, uint32_t *state, size_t state_len, uint32_t *store, size_t store_len,
                                           const uint32_t *cells, size_t cells_len, uint32_t *out, size_t out_len, uint32_t allowance);
 
-/* Judges a chain given as words, as zohmirka_run_chain takes them: 3 to 9 or 14, or 0 if it is accepted. */
+/* Judges a chain given as words, as zohmirka_run_chain takes them: 3 to 9, 14 or 15, or 0 if it is accepted. */
 uint32_t zohmirka_judge_chain(const uint32_t *chain, size_t chain_len);
 
 /* Writes the sheet of a chain given as words, as zohmirka_run_chain takes them: it goes to the first places of `sheet`, later places stay. Of what zohmirka_read_chain
- * wrote of a sheet it is that sheet. Refusals: 3 to 9 of the chain, then 14, then 12 if the chain sheet has more bytes than `sheet`. */
+ * wrote of a sheet it is that sheet. Refusals: 3 to 9, 14 and 15 of the chain, then 12 if the chain sheet has more bytes than `sheet`. */
 struct zohmirka_sheet zohmirka_write_chain(const uint32_t *chain, size_t chain_len, uint8_t *sheet, size_t sheet_len);
 
 #ifdef __cplusplus

@@ -11,6 +11,8 @@ use model::Verdict;
 use nested::requests::request;
 use nested::windows::Loops;
 use nested::windows::flat;
+use nested::windows::over_box;
+use nested::windows::small;
 use nested::windows::solid;
 use std::num::wrapping_add_usize;
 use values::wide_usize;
@@ -100,8 +102,10 @@ fn end(done: bool, firings: usize, clocks: usize) {
 // Which outcomes were met on the way.
 fn met(spent: bool, starved: bool, full: bool) {
     text(b"; met");
-    text_if(spent, b" Spent,");
-    text_if(starved, b" Starved,");
+    text_if(spent, b" Spent");
+    text_if(spent & (starved | full), b",");
+    text_if(starved, b" Starved");
+    text_if(starved & full, b",");
     text_if(full, b" Full");
 }
 
@@ -240,6 +244,52 @@ fn solid_cases(cells: &[u32], out: &mut [u32]) {
     );
 }
 
+// Case 1 between two rows: all columns of rows 383 to 385.
+fn flat_box(cells: &[u32], out: &mut [u32]) {
+    let l = over_box(flat(0), 0, 1, 383, 386, 1, 1023);
+    case(
+        b"case 1 in a box: rows 383 to 385\n",
+        l,
+        b"000 00- 00+ 0-0 0+0",
+        b"0+0 00+ 000 00- 0-0",
+        cells,
+        out,
+    );
+}
+
+fn solid_box(cells: &[u32], out: &mut [u32]) {
+    let l = over_box(solid(6), 19, 21, 5, 9, 2, 30);
+    case(
+        b"case 4 in a box: planes 19 and 20, rows 5 to 8, columns 2 to 29\n",
+        l,
+        b"00- 00+ 0-0 0+0 -00 +00 000",
+        b"+00 0+0 00+ 000 00- 0-0 -00",
+        cells,
+        out,
+    );
+}
+
+fn small_boxes(cells: &[u32], out: &mut [u32]) {
+    let l = over_box(small(0), 0, 1, 1, 2, 2, 4);
+    case(
+        b"4 by 5 in a box: row 1, columns 2 and 3\n",
+        l,
+        b"000 00- 00+ 0-0 0+0",
+        b"0+0 00+ 000 00- 0-0",
+        cells,
+        out,
+    );
+    let l = over_box(small(0), 0, 1, 1, 3, 3, 4);
+    case(
+        b"4 by 5 in a box: rows 1 and 2, column 3\n",
+        l,
+        b"000 00- 00+ 0-0 0+0",
+        b"0+0 00+ 000 00- 0-0",
+        cells,
+        out,
+    );
+}
+
 // The smaller grid takes the first `count` cells.
 fn on_front(count: usize, cells: &[u32], out: &mut [u32]) {
     if cells.len() < count {
@@ -248,8 +298,19 @@ fn on_front(count: usize, cells: &[u32], out: &mut [u32]) {
     solid_cases(&cells[..count], out);
 }
 
-// Cases 1 to 5.
+// Runs of a box. Here too smaller grids take the first cells.
+fn boxes(cells: &[u32], out: &mut [u32]) {
+    if cells.len() < 40960 {
+        return;
+    }
+    flat_box(cells, out);
+    solid_box(&cells[..40960], out);
+    small_boxes(&cells[..20], out);
+}
+
+// Cases 1 to 5, and boxes.
 pub(crate) fn cases(cells: &[u32; 786432], out: &mut [u32; 786432]) {
     flat_cases(cells, out);
     on_front(40960, cells, out);
+    boxes(cells, out);
 }

@@ -11,10 +11,10 @@ use lib.ListN.{length, getD, length-map}
 use lib.IntN.{ℤ}
 use Rattle.model.specs.Lists.{tabulate, upTo, without, any}
 use Rattle.model.specs.Vectors.{plus, isZero}
-use Rattle.model.specs.Geometry.{position, reads}
+use Rattle.model.specs.Geometry.{position}
 use Rattle.model.specs.Sized.{Sized, Proper}
 use Rattle.model.specs.Values.{Trimmed, trimmed}
-use Rattle.model.specs.Iterations.{readsOf}
+use Rattle.model.specs.Iterations.{positionOf, iterationOf, readsOf}
 use Rattle.model.specs.Judging.{repeats, needsCentre, lacksCentre, centred, badOrder, judged}
 use Rattle.model.specs.Steps.{falling, whichOf, authorsOrder, sorted}
 use Rattle.model.specs.Planning.{trimmedRequest, judgeRequest, planOf}
@@ -28,7 +28,7 @@ use Rattle.model.specs.declared.Kernel.the-variants as kernel
 use Rattle.model.specs.declared.Request.{Request}
 use Rattle.model.specs.declared.Verdict.the-variants as verdict
 use Rattle.model.proofs.ListLaws.{length-tabulate, getD-tabulate, tabulate-back}
-use Rattle.model.proofs.Distances.{same-iteration}
+use Rattle.model.proofs.SameWindows.{same-iteration}
 use Rattle.model.proofs.CheckLaws.{value-passes}
 use Rattle.model.proofs.SortLaws.{length-falling, falling-each, falling-no-other}
 use Rattle.model.proofs.TermLaws.{order-once, order-each, good-order, number-at, length-authors, authors-below, authors-hold, which-below, which-stands, authors-centre-below, centre-held, same-centre}
@@ -66,13 +66,13 @@ same-others c d (suc n) f g vs ws t e =
 
 -- ---- a window in the author's order and in falling order
 
-module _ (sizes : List ℕ) (os : List (List ℤ)) (n : ℕ) (count : length os ≡ n) (stream : ℕ → ℕ) (j : ℕ) where
-  -- The words of the author's references, and those of the filters.
+module _ (sizes : List ℕ) (os : List (List ℤ)) (n : ℕ) (count : length os ≡ n) (stream : ℕ → ℕ) (u v : List ℤ) (same : u ≡ v) where
+  -- The words of the author's references, and those of the filters, in one iteration.
   author : List ℕ
-  author = tabulate n (λ k. stream (reads sizes os j k))
+  author = tabulate n (λ k. stream (position sizes (plus v (getD os k []))))
 
   chain : List ℕ
-  chain = tabulate n (λ k. stream (reads sizes (falling os) j k))
+  chain = tabulate n (λ k. stream (position sizes (plus u (getD (falling os) k []))))
 
   order : ℕ → ℕ
   order i = getD (authorsOrder os) i 0
@@ -82,19 +82,17 @@ module _ (sizes : List ℕ) (os : List (List ℤ)) (n : ℕ) (count : length os 
   order-is = sym (tabulate-back 0 (authorsOrder os) n (λ i. getD (authorsOrder os) i 0) (length-authors os ∙ count) (λ i h. refl))
 
   -- A cell is read by the same offset, wherever it stands.
-  read-alike : (k l : ℕ) → getD (falling os) k [] ≡ getD os l [] → reads sizes (falling os) j k ≡ reads sizes os j l
-  unfolding reads
-  read-alike k l e =
-      ap₂ (λ (v o : List ℤ). position sizes (plus v o)) (same-iteration sizes (falling os) os (falling-no-other os) (falling-each os) j) e
+  read-alike : (k l : ℕ) → getD (falling os) k [] ≡ getD os l [] → position sizes (plus u (getD (falling os) k [])) ≡ position sizes (plus v (getD os l []))
+  read-alike k l e = ap₂ (λ (w o : List ℤ). position sizes (plus w o)) same e
 
   -- The filter that byte i names is presented the word of the author's reference i,
   held : (i : ℕ) → i < n → getD chain (order i) 0 ≡ getD author i 0
   unfolding author chain order
   held i h =
       let b : i < length os = omega (arith, count) in
-      getD-tabulate n (λ k. stream (reads sizes (falling os) j k)) (order i) 0 (omega (arith, authors-below os i b, count))
+      getD-tabulate n (λ k. stream (position sizes (plus u (getD (falling os) k [])))) (order i) 0 (omega (arith, authors-below os i b, count))
       ∙ ap stream (read-alike (order i) i (authors-hold os i b))
-      ∙ sym (getD-tabulate n (λ k. stream (reads sizes os j k)) i 0 h)
+      ∙ sym (getD-tabulate n (λ k. stream (position sizes (plus v (getD os k [])))) i 0 h)
 
   -- and filter k that of the author's reference whose offset it holds.
   holds : (k : ℕ) → k < n → getD author (whichOf os (getD (falling os) k [])) 0 ≡ getD chain k 0
@@ -103,9 +101,9 @@ module _ (sizes : List ℕ) (os : List (List ℤ)) (n : ℕ) (count : length os 
       let b : k < length (falling os) = omega (arith, length-falling os, count) in
       let l = whichOf os (getD (falling os) k []) in
       let c : l < length os = which-below os (getD (falling os) k []) (falling-no-other os k b) in
-      getD-tabulate n (λ k. stream (reads sizes os j k)) l 0 (omega (arith, count))
+      getD-tabulate n (λ k. stream (position sizes (plus v (getD os k [])))) l 0 (omega (arith, count))
       ∙ ap stream (sym (read-alike k l (sym (which-stands os (getD (falling os) k []) c))))
-      ∙ sym (getD-tabulate n (λ k. stream (reads sizes (falling os) j k)) k 0 h)
+      ∙ sym (getD-tabulate n (λ k. stream (position sizes (plus u (getD (falling os) k [])))) k 0 h)
 
   -- Raw: in chain order.
   raw-words : wordsAt (upTo n) chain ≡ wordsAt (map (whichOf os) (falling os)) author
@@ -204,10 +202,11 @@ sorted-writes : (t : Trimmed) → Proper t → judged t ≡ verdict.Accepted →
     → wordsOf (sorted t) stream j
     ≡ written (t .kernel) (centreOf (t .offsets)) (terms (t .kernel) (centreOf (t .offsets)) (upTo (t .count))) (map (whichOf (t .offsets)) (falling (t .offsets)))
     (tabulate (t .count) (λ k. stream (readsOf t j k)))
-unfolding judged sorted wordsOf writtenBy termsOf filtersOf writesOf readsOf author chain
+unfolding judged sorted wordsOf writtenBy termsOf filtersOf writesOf readsOf positionOf author chain
 sorted-writes t p e stream j =
     let q = value-passes t e in
-    written-alike (t .sizes) (t .offsets) (t .count) (p .references) stream j (p .entries) (q .window .distinct) (t .kernel) (q .kernel .centre)
+    written-alike (t .sizes) (t .offsets) (t .count) (p .references) stream (iterationOf (sorted t) j) (iterationOf t j)
+    (same-iteration (sorted t) t refl (falling-no-other (t .offsets)) (falling-each (t .offsets)) refl j) (p .entries) (q .window .distinct) (t .kernel) (q .kernel .centre)
 
 loop : (r : Request) → judgeRequest r ≡ verdict.Accepted → (stream : ℕ → ℕ) (j : ℕ) → wordsOf (trimmed (planOf r .chain)) stream j ≡ loopOf r stream j
 unfolding judgeRequest planOf loopOf

@@ -1,3 +1,4 @@
+pub mod FullBox
 pub mod Iterations
 pub mod Finishing
 pub mod HandedOn

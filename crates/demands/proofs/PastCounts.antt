@@ -5,16 +5,20 @@ use mathlib.Core.List.{List, [], _∷_, _++_, map, flatMap}
 use mathlib.Core.Path.{_≡_, refl, sym, _∙_, ap, ap₂}
 use native.Mathlib.Omega.{arith}
 use lib.Dec.{ltb}
+use lib.IntN.{ℤ, pos}
 use lib.ListN.{length, getD, drop}
-use Rattle.model.specs.Lists.{tabulate}
-use Rattle.model.specs.Values.{Trimmed, sizesOf, offsetOf, offsetsOf, capacitiesOf, orderOf, trimmedOf, onGrid, trimmed, chainOf, blankChain, Same}
+use Rattle.model.specs.Lists.{tabulate, upTo}
+use Rattle.model.specs.Boxes.{Part}
+use Rattle.model.specs.Boxes.Part.{whole, box}
+use Rattle.model.specs.Values.{Trimmed, sizesOf, offsetOf, offsetsOf, partOf, capacitiesOf, orderOf, trimmedOf, onGrid, trimmed, chainOf, blankChain, Same}
 use Rattle.model.specs.Answers.{check, firstOf, byVerdict}
 use Rattle.model.specs.Judging.{judged, judgeChain}
 use Rattle.model.specs.Steps.{sorted, distances}
 use Rattle.model.specs.Planning.{trimmedRequest, judgeRequest, plannedChain, planOf}
 use Rattle.model.specs.Frames.{framed}
-use Rattle.model.specs.Numbers.{wordBytes}
-use Rattle.model.specs.Writing.{gridLine, offsetLine, capacityLine, orderLines, kernelLine, chainLines, sheetOf, writeVerdict, Written, writeOf}
+use Rattle.model.specs.Numbers.{wordBytes, wordPattern}
+use Rattle.model.specs.Writing.{gridLine, offsetLine, indexPair, boxLines, capacityLine, orderLines, kernelLine, chainLines, sheetOf, writeVerdict, Written, writeOf}
+use Rattle.model.specs.declared.Bounds.{Bounds}
 use Rattle.model.specs.declared.Grid.{Grid}
 use Rattle.model.specs.declared.Window.{Window}
 use Rattle.model.specs.declared.Kernel.{Kernel}
@@ -25,7 +29,8 @@ use Rattle.model.specs.declared.Chain.{Chain}
 use Rattle.model.specs.declared.Planned.{Planned}
 use Rattle.model.specs.declared.Refusal.the-variants as refusal
 use Rattle.model.specs.declared.Verdict.the-variants as verdict
-use Rattle.demands.specs.PastCounts.{GridsAgree, WindowsAgree, OrdersAgree, ChainsAgree, RequestsAgree, SameRequest, PastCounts}
+use Rattle.model.proofs.ListLaws.{getD-tabulate}
+use Rattle.demands.specs.PastCounts.{GridsAgree, WindowsAgree, BoundsAgree, OrdersAgree, ChainsAgree, RequestsAgree, SameRequest, PastCounts}
 
 -- Lists of equally many entries, the same at each place.
 module _ {A : Type 0} where
@@ -37,6 +42,11 @@ module _ {A : Type 0} where
   alike : (n m : ℕ) (f g : ℕ → A) → n ≡ m → ((k : ℕ) → k < n → f k ≡ g k) → tabulate n f ≡ tabulate m g
   alike n m f g e h = entries-alike n f g h ∙ ap (λ (l : ℕ). tabulate l g) e
 
+flat-alike : (n : ℕ) (h : ℕ → ℕ) (f g : ℕ → List ℕ) → ((k : ℕ) → k < n → f (h k) ≡ g (h k)) → flatMap f (tabulate n h) ≡ flatMap g (tabulate n h)
+unfolding tabulate flatMap
+flat-alike zero h f g e = refl
+flat-alike (suc n) h f g e = ap₂ _++_ (e 0 (omega arith)) (flat-alike n (λ i. h (suc i)) f g (λ k b. e (suc k) (omega arith)))
+
 sizes-alike : (g h : Grid) → GridsAgree g h → sizesOf g ≡ sizesOf h
 unfolding sizesOf
 sizes-alike g h a = alike (g .dims) (h .dims) _ _ (a .dims) (a .sizes)
@@ -45,13 +55,26 @@ offsets-alike : (n m : ℕ) (v w : Window) → n ≡ m → WindowsAgree n v w �
 unfolding offsetsOf offsetOf
 offsets-alike n m v w e a = alike (v .count) (w .count) _ _ (a .count) (λ k b. alike n m _ _ e (λ d c. a .entries k d b c))
 
-trimmed-alike : (g h : Grid) (v w : Window) (xs ys : List ℕ) (s t : Bool) (os ps : List ℕ) (k l : Kernel) → GridsAgree g h → WindowsAgree (g .dims) v w → xs ≡ ys → s ≡ t → os ≡ ps → k ≡ l
-    → trimmedOf g v xs s os k ≡ trimmedOf h w ys t ps l
-trimmed-alike g h v w xs ys s t os ps k l a b capacities stood order kernel = λ i. record {
+parts-alike : (n m : ℕ) (a b : Bounds) → n ≡ m → BoundsAgree n a b → partOf n a ≡ partOf m b
+unfolding partOf
+parts-alike n m a b e x = go (a .stood) (b .stood) refl (x .stood)
+  where
+    go : (s t : Bool) → a .stood ≡ s → s ≡ t
+        → cond s (box (tabulate n (λ d. getD (a .lowest) d (pos 0))) (tabulate n (λ d. getD (a .highest) d (pos 0)))) whole
+        ≡ cond t (box (tabulate m (λ d. getD (b .lowest) d (pos 0))) (tabulate m (λ d. getD (b .highest) d (pos 0)))) whole
+    go true true h d = ap₂ box (alike n m _ _ e (x .lowest h)) (alike n m _ _ e (x .highest h))
+    go false false h d = refl
+    go true false h d = absurd (true≢false d)
+    go false true h d = absurd (true≢false (sym d))
+
+trimmed-alike : (g h : Grid) (v w : Window) (p q : Bounds) (xs ys : List ℕ) (s t : Bool) (os ps : List ℕ) (k l : Kernel) → GridsAgree g h → WindowsAgree (g .dims) v w → BoundsAgree (g .dims) p q → xs ≡ ys → s ≡ t → os ≡ ps → k ≡ l
+    → trimmedOf g v p xs s os k ≡ trimmedOf h w q ys t ps l
+trimmed-alike g h v w p q xs ys s t os ps k l a b x capacities stood order kernel = λ i. record {
   dims = a .dims i;
   sizes = sizes-alike g h a i;
   count = b .count i;
   offsets = offsets-alike (g .dims) (h .dims) v w (a .dims) b i;
+  part = parts-alike (g .dims) (h .dims) p q (a .dims) x i;
   capacities = capacities i;
   ordered = stood i;
   order = order i;
@@ -71,8 +94,8 @@ orders-alike n m o p e a = go (o .stood) (p .stood) refl (a .stood)
 same-chains : (c d : Chain) → ChainsAgree c d → Same c d
 unfolding trimmed capacitiesOf
 same-chains c d a =
-    trimmed-alike (c .grid) (d .grid) (c .window) (d .window) (capacitiesOf c) (capacitiesOf d) (c .order .stood) (d .order .stood)
-    (orderOf (c .window .count) (c .order)) (orderOf (d .window .count) (d .order)) (c .kernel) (d .kernel) (a .grid) (a .window)
+    trimmed-alike (c .grid) (d .grid) (c .window) (d .window) (c .bounds) (d .bounds) (capacitiesOf c) (capacitiesOf d) (c .order .stood) (d .order .stood)
+    (orderOf (c .window .count) (c .order)) (orderOf (d .window .count) (d .order)) (c .kernel) (d .kernel) (a .grid) (a .window) (a .bounds)
     (alike (c .window .count - 1) (d .window .count - 1) _ _ (ap (λ (n : ℕ). n - 1) (a .window .count)) (a .capacities))
     (a .order .stood) (orders-alike (c .window .count) (d .window .count) (c .order) (d .order) (a .window .count) (a .order)) (a .kernel)
 
@@ -80,18 +103,45 @@ apart : (c d : Chain) → c .order .stood ≡ true → d .order .stood ≡ false
 unfolding trimmed
 apart c d s n e = true≢false (sym s ∙ ap (λ (t : Trimmed). t .ordered) e ∙ n)
 
+-- A box is not none.
+boxed : Part → Bool
+boxed whole = false
+boxed (box lowest highest) = true
+
+boxed-stood : (dims : ℕ) (b : Bounds) → boxed (partOf dims b) ≡ b .stood
+unfolding boxed partOf
+boxed-stood dims b = go (b .stood)
+  where
+    go : (t : Bool) → boxed (cond t (box (tabulate dims (λ d. getD (b .lowest) d (pos 0))) (tabulate dims (λ d. getD (b .highest) d (pos 0)))) whole) ≡ t
+    go true = refl
+    go false = refl
+
+box-apart : (c d : Chain) → c .bounds .stood ≡ true → d .bounds .stood ≡ false → Same c d → ⊥
+unfolding trimmed
+box-apart c d s n e =
+    true≢false (sym s ∙ sym (boxed-stood (c .grid .dims) (c .bounds)) ∙ ap (λ (t : Trimmed). boxed (t .part)) e ∙ boxed-stood (d .grid .dims) (d .bounds) ∙ n)
+
+box-asked : (r q : Request) → r .bounds .stood ≡ true → q .bounds .stood ≡ false → SameRequest r q → ⊥
+unfolding trimmedRequest
+box-asked r q s n e =
+    true≢false (sym s ∙ sym (boxed-stood (r .grid .dims) (r .bounds)) ∙ ap (λ (t : Trimmed). boxed (t .part)) e ∙ boxed-stood (q .grid .dims) (q .bounds) ∙ n)
+
 same-requests : (r q : Request) → RequestsAgree r q → SameRequest r q
 unfolding trimmedRequest
 same-requests r q a =
-    both (r .kernel) (q .kernel) (distances (sorted (onGrid (r .grid) (r .window)))) (distances (sorted (onGrid (q .grid) (q .window)))) (a .kernel)
+    both (r .kernel) (q .kernel) (distances (sorted (onGrid (r .grid) (r .window) (r .bounds)))) (distances (sorted (onGrid (q .grid) (q .window) (q .bounds)))) (a .kernel)
     (ap (λ (t : Trimmed). distances (sorted t)) (both kernel.Raw kernel.Raw [] [] refl refl))
   where
-    both : (k l : Kernel) (xs ys : List ℕ) → k ≡ l → xs ≡ ys → trimmedOf (r .grid) (r .window) xs false [] k ≡ trimmedOf (q .grid) (q .window) ys false [] l
-    both k l xs ys f e = trimmed-alike (r .grid) (q .grid) (r .window) (q .window) xs ys false false [] [] k l (a .grid) (a .window) e refl refl f
+    both : (k l : Kernel) (xs ys : List ℕ) → k ≡ l → xs ≡ ys → trimmedOf (r .grid) (r .window) (r .bounds) xs false [] k ≡ trimmedOf (q .grid) (q .window) (q .bounds) ys false [] l
+    both k l xs ys f e = trimmed-alike (r .grid) (q .grid) (r .window) (q .window) (r .bounds) (q .bounds) xs ys false false [] [] k l (a .grid) (a .window) (a .bounds) e refl refl f
 
 -- What is written of a chain, from what plays a part.
+boxFrom : (dims : ℕ) → Part → List (List ℕ)
+boxFrom dims whole = []
+boxFrom dims (box lowest highest) = (8 ∷ flatMap (λ d. wordBytes (wordPattern (getD lowest d (pos 0))) ++ wordBytes (wordPattern (getD highest d (pos 0)))) (upTo dims)) ∷ []
+
 linesFrom : Trimmed → List (List ℕ)
-linesFrom t = (1 ∷ t .dims ∷ flatMap wordBytes (t .sizes)) ∷ (map offsetLine (t .offsets) ++ (map capacityLine (t .capacities) ++ (cond (t .ordered) ((6 ∷ t .order) ∷ []) [] ++ (kernelLine (t .kernel) ∷ []))))
+linesFrom t = (1 ∷ t .dims ∷ flatMap wordBytes (t .sizes)) ∷ (map offsetLine (t .offsets) ++ (boxFrom (t .dims) (t .part) ++ (map capacityLine (t .capacities) ++ (cond (t .ordered) ((6 ∷ t .order) ∷ []) [] ++ (kernelLine (t .kernel) ∷ [])))))
 
 writtenFrom : Trimmed → List ℕ → Written
 writtenFrom t output =
@@ -101,9 +151,30 @@ writtenFrom t output =
     (record { answer = record { verdict = verdict.Accepted; bytes = length sheet }; output = sheet ++ drop (length sheet) output })
     (λ x. record { answer = record { verdict = verdict.Refused x; bytes = 0 }; output = output })
 
+box-from : (dims : ℕ) (b : Bounds) → boxLines dims b ≡ boxFrom dims (partOf dims b)
+unfolding boxLines indexPair boxFrom partOf upTo
+box-from dims b = go (b .stood)
+  where
+    pair : List ℤ → List ℤ → ℕ → List ℕ
+    pair ls hs d = wordBytes (wordPattern (getD ls d (pos 0))) ++ wordBytes (wordPattern (getD hs d (pos 0)))
+
+    low : List ℤ
+    low = tabulate dims (λ d. getD (b .lowest) d (pos 0))
+
+    high : List ℤ
+    high = tabulate dims (λ d. getD (b .highest) d (pos 0))
+
+    same : (d : ℕ) → d < dims → pair (b .lowest) (b .highest) d ≡ pair low high d
+    same d h =
+        ap₂ (λ (x y : ℤ). wordBytes (wordPattern x) ++ wordBytes (wordPattern y)) (sym (getD-tabulate dims _ d (pos 0) h)) (sym (getD-tabulate dims _ d (pos 0) h))
+
+    go : (t : Bool) → cond t ((8 ∷ flatMap (pair (b .lowest) (b .highest)) (upTo dims)) ∷ []) [] ≡ boxFrom dims (cond t (box low high) whole)
+    go true = ap (λ (bs : List ℕ). (8 ∷ bs) ∷ []) (flat-alike dims (λ k. k) (pair (b .lowest) (b .highest)) (pair low high) same)
+    go false = refl
+
 written-from : (c : Chain) (output : List ℕ) → writeOf c output ≡ writtenFrom (trimmed c) output
 unfolding writeOf writeVerdict sheetOf chainLines gridLine orderLines judgeChain trimmed linesFrom writtenFrom
-written-from c output = refl
+written-from c output = rw (box-from (c .grid .dims) (c .bounds))
 
 written-alike : (c d : Chain) → Same c d → (output : List ℕ) → writeOf c output ≡ writeOf d output
 written-alike c d e output = written-from c output ∙ ap (λ (t : Trimmed). writtenFrom t output) e ∙ sym (written-from d output)
@@ -125,4 +196,4 @@ unfolding judgeRequest
 judged-alike r q e = ap judged e
 
 pub past-counts : PastCounts
-past-counts = record { same-chains = same-chains; same-requests = same-requests; apart = apart; written = written-alike; judged = judged-alike; planned = planned-alike }
+past-counts = record { same-chains = same-chains; same-requests = same-requests; apart = apart; box-apart = box-apart; box-asked = box-asked; written = written-alike; judged = judged-alike; planned = planned-alike }

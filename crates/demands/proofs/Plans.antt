@@ -20,7 +20,7 @@ use Rattle.model.proofs.TermLaws.{length-authors, authors-below, authors-hold}
 use Rattle.model.specs.Sized.{Proper}
 use Rattle.run_laws.specs.Accepted.{Accepted}
 use Rattle.model.specs.Right.{Planned}
-use Rattle.run_laws.proofs.Accepts.{trimmed-proper, accepted}
+use Rattle.run_laws.proofs.Accepts.{trimmed-proper, accepted, fitting-of}
 use Rattle.run_laws.proofs.Layouts.{wants-read, planned-layout}
 use Rattle.run_laws.proofs.Plans.{sorted-proper, no-repeats, request-proper, planned-lists, planned-judged, plan-accepted}
 use Rattle.demands.specs.Plan.{PlanRight, PlanDemand}
@@ -65,6 +65,7 @@ module _ (r : Request) (ok : judgeRequest r ≡ verdict.Accepted) where
       record {
         dims = refl;
         sizes = refl;
+        part = refl;
         kernel = refl;
         count = refl;
         each = falling-each os;
@@ -76,7 +77,7 @@ module _ (r : Request) (ok : judgeRequest r ≡ verdict.Accepted) where
         every = every-iteration t proper good planned-pairs;
         total = total-distance t proper good planned-pairs;
         least = λ c same right.
-            fewest-places t (trimmed c) (same .sizes) (same .each) (same .no-other) proper (trimmed-proper c) right 0 (good .iterates) (good .some)
+            fewest-places t (trimmed c) (same .sizes) (same .each) (same .no-other) (same .part) (fitting-of t proper good) (trimmed-proper c) right 0 (good .iterates)
             (total-distance t proper good planned-pairs 0 (good .iterates));
       }
 

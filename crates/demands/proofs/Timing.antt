@@ -10,8 +10,8 @@ use Rattle.model.specs.Iterations.{iterationsOf, newestOf}
 use Rattle.model.specs.Clock.{Counters, fires, fresh}
 use Rattle.model.specs.Running.{layout}
 use Rattle.model.specs.CallLists.{FiresIn}
-use Rattle.model.proofs.Iterations.{newest-most, newest-read, same-newest}
-use Rattle.model.proofs.SameWindows.{same-count, same-iteration}
+use Rattle.model.proofs.Iterations.{newest-most, newest-read}
+use Rattle.model.proofs.SameWindows.{same-count, same-iteration, same-newest}
 use Rattle.flow.specs.Machine.{live, clock, Flows, Ran}
 use Rattle.flow.proofs.Laws.{live-yes, clock-live, still, step, join, not-early, just-in-time, fires-when, newest-first}
 use Rattle.model.specs.Right.{Planned}
@@ -19,6 +19,7 @@ use Rattle.demands.specs.Plan.{SameWindow}
 use Rattle.demands.specs.Demand3.{ListOfCalls, eventsOf, Indexed, OnTime, NotEarlier}
 use Rattle.model.specs.Sized.{Proper}
 use Rattle.run_laws.specs.Accepted.{Accepted}
+use Rattle.run_laws.proofs.Accepts.{fitting-of}
 use Rattle.run_laws.proofs.Layouts.{lawful, wants-read, right-flows, planned-right, planned-layout}
 use Rattle.run_laws.proofs.Traces.{Traced, at, fired-next}
 use Rattle.demands.proofs.Finishing.{setting, reached, numbered}
@@ -28,9 +29,9 @@ module _ (t : Trimmed) (proper : Proper t) (ok : Accepted t) where
   pub newest-wanted : (j : ℕ) → j < iterationsOf t → Flows (layout t) j → newestOf t j ≡ layout t .wants j 0
   unfolding layout
   newest-wanted j h flows =
-      let (k, b, e) = newest-read t proper j (ok .some) in
+      let (k, b, e) = newest-read t (fitting-of t proper ok) j in
       let first = newest-first (layout t) j flows k b in
-      let most = newest-most t proper j 0 (ok .some) in
+      let most = newest-most t (fitting-of t proper ok) j 0 (ok .some) in
       omega (arith, wants-read t proper ok j k h, wants-read t proper ok j 0 h)
 
   module _ {es : List Bool} {s : Counters} (traced : Traced (layout t) (fresh (layout t)) es s) where
@@ -55,7 +56,7 @@ module _ (t : Trimmed) (proper : Proper t) (ok : Accepted t) where
     unfolding layout
     newest-before u j f =
         let a = firing u j f in
-        let (k, b, e) = newest-read t proper j (ok .some) in
+        let (k, b, e) = newest-read t (fitting-of t proper ok) j in
         let on = join (layout t) (a .ran) (step (layout t) (a .live) (still (layout t) (clock (layout t) (a .now)))) in
         let n : clock (layout t) (a .now) .fired ≡ suc j =
         ap (λ (x : Counters). x .fired) (clock-live (layout t) (a .now) (a .live)) ∙ fired-next (layout t) (a .now) ∙ ap (λ (x : Bool). cond x (suc (a .now .fired)) (a .now .fired)) (a .fires) ∙ ap suc (a .fired) in
@@ -113,8 +114,8 @@ module _ (q : ListOfCalls) where
 
 pub not-earlier : (p q : ListOfCalls) → NotEarlier p q
 not-earlier p q = record {
-  same-count = λ same. same-count t u (same .sizes) (same .each) (same .no-other);
-  same-iteration = λ same. same-iteration t u (same .sizes) (same .each) (same .no-other);
+  same-count = λ same. same-count t u (same .sizes) (same .each) (same .no-other) (same .part);
+  same-iteration = λ same. same-iteration t u (same .sizes) (same .each) (same .no-other) (same .part);
   newest-first = first;
   planned-first = λ same planned j u v f g. rw (on-time p .clock planned j u f) (first same j v g);
 }
@@ -126,4 +127,4 @@ not-earlier p q = record {
     u = trimmed (q .chain)
 
     first : SameWindow t u → (j v : ℕ) → FiresIn (eventsOf q) v j → newestOf t j ≤ v
-    first same j v f = rw (same-newest t u (same .sizes) (same .each) (same .no-other) j) (newest-not-early q j v f)
+    first same j v f = rw (same-newest t u (same .sizes) (same .each) (same .no-other) (same .part) j) (newest-not-early q j v f)

@@ -72,7 +72,7 @@ module _ (q : ListOfCalls) where
     pub fired : Planned (trimmed (q .chain)) → (j : ℕ) → j < iterationsOf (trimmed (q .chain)) → ((u : ℕ) × FiresIn eventsOf u j) ↔ (newestOf (trimmed (q .chain)) j < clocksMade runsOf)
     pub clock : Planned (trimmed (q .chain)) → (j u : ℕ) → FiresIn eventsOf u j → u ≡ newestOf (trimmed (q .chain)) j
 
--- No chain of the same grid and window fires an iteration earlier than the planned one: "in that clock, later or never". Streams and calls of the two lists are as they like.
+-- No chain of the same grid, box and window fires an iteration earlier than the planned one: "in that clock, later or never". Streams and calls of the two lists are as they like.
 pub record NotEarlier (p q : ListOfCalls) : Type 0 where
   -- An index is that of one iteration, the same vector, in both lists.
   pub same-count : SameWindow (trimmed (p .chain)) (trimmed (q .chain)) → iterationsOf (trimmed (p .chain)) ≡ iterationsOf (trimmed (q .chain))

@@ -1,4 +1,4 @@
--- Iterations, distances and cells, and number 6 (document 01, "Grid, window, distances").
+-- Iterations, distances and cells, and numbers 6 and 15 (document 01, "Grid, window, distances"; document 02, request 4).
 use Prim.Native.Nat.{ℕ, suc, _+_, _-_, _<_}
 use mathlib.Core.Bool.{true, false}
 use mathlib.Core.List.{List}
@@ -6,20 +6,26 @@ use mathlib.Core.Logic.{_↔_}
 use mathlib.Core.Path.{_≡_}
 use lib.IntN.{ℤ}
 use Rattle.model.specs.Vectors.{before}
-use Rattle.model.specs.Values.{Trimmed, trimmed}
-use Rattle.model.specs.Iterations.{cellsOf, isCellOf, positionOf, isIterationOf, iterationsOf, iterationOf, readsOf, distanceOf}
+use Rattle.model.specs.Boxes.{between, crossed, badBox, fullBox}
+use Rattle.model.specs.Boxes.Part.{whole, box}
+use Rattle.model.specs.Values.{Trimmed, sizesOf, offsetsOf, partOf, trimmed, setBounds}
+use Rattle.model.specs.Iterations.{cellsOf, isCellOf, positionOf, isIterationOf, coversOf, iterationsOf, iterationOf, readsOf, distanceOf}
 use Rattle.model.specs.Answers.{verdictNumber}
 use Rattle.model.specs.Judging.{badGrid, badCount, repeats, noIteration, judged, judgeChain}
 use Rattle.model.specs.Planning.{trimmedRequest}
+use Rattle.model.specs.Running.{runOf}
+use Rattle.model.specs.declared.Bounds.{Bounds}
 use Rattle.model.specs.declared.Chain.{Chain}
 use Rattle.model.specs.declared.Request.{Request}
+use Rattle.model.specs.declared.State.{State}
 use Rattle.model.specs.declared.Verdict.the-variants as verdict
 
 module _ (t : Trimmed) where
-  -- Iterations 0, 1, 2, .. are exactly the vectors that "added to each offset stay inside the grid", each once, "in lexicographic order".
+  -- Iterations 0, 1, 2, .. of a run are exactly the vectors that "added to each offset stay inside the grid" and, where there is a box, lie in it, each once, "in lexicographic
+  -- order".
   pub record Enumerated : Type 0 where
-    pub each : (j : ℕ) → j < iterationsOf t → isIterationOf t (iterationOf t j) ≡ true
-    pub no-other : (v : List ℤ) → isIterationOf t v ≡ true → (j : ℕ) × (j < iterationsOf t) × (v ≡ iterationOf t j)
+    pub each : (j : ℕ) → j < iterationsOf t → coversOf t (iterationOf t j) ≡ true
+    pub no-other : (v : List ℤ) → coversOf t v ≡ true → (j : ℕ) × (j < iterationsOf t) × (v ≡ iterationOf t j)
     pub once : (i j : ℕ) → i < iterationsOf t → j < iterationsOf t → iterationOf t i ≡ iterationOf t j → i ≡ j
     pub in-order : (i j : ℕ) → i < j → j < iterationsOf t → before (iterationOf t i) (iterationOf t j) ≡ true
 
@@ -44,10 +50,35 @@ module _ (t : Trimmed) where
     pub condition : badCount (t .count) ≡ false → noIteration (t .sizes) (t .offsets) ≡ true ↔ Empty
     pub answer : badGrid (t .dims) (t .sizes) ≡ false → badCount (t .count) ≡ false → repeats (t .offsets) ≡ false → verdictNumber (judged t) ≡ 6 ↔ Empty
 
--- Iterations of every accepted chain, distances and cells of every chain, number 6 of every chain and every request.
+  -- "15, a lowest above its highest, or an iteration of the box that reads outside the grid": never without a box; of a box, where there is a reference, its condition fails exactly if
+  -- no lowest is above its highest and each vector of the box is an iteration, and for that the two corners decide; where 3 to 6 do not hold the answer is 15 exactly if it holds.
+  pub record Number15 : Type 0 where
+    pub none : t .part ≡ whole → badBox (t .sizes) (t .offsets) (t .part) ≡ false
+    pub condition : (lowest highest : List ℤ) → t .part ≡ box lowest highest → badCount (t .count) ≡ false
+        → badBox (t .sizes) (t .offsets) (t .part) ≡ false ↔ ((crossed lowest highest ≡ false) × ((v : List ℤ) → between lowest highest v ≡ true → isIterationOf t v ≡ true))
+    pub corners : (lowest highest : List ℤ) → t .part ≡ box lowest highest → badCount (t .count) ≡ false
+        → badBox (t .sizes) (t .offsets) (t .part) ≡ false ↔ ((crossed lowest highest ≡ false) × (isIterationOf t lowest ≡ true) × (isIterationOf t highest ≡ true))
+    pub answer : badGrid (t .dims) (t .sizes) ≡ false → badCount (t .count) ≡ false → repeats (t .offsets) ≡ false → noIteration (t .sizes) (t .offsets) ≡ false
+        → verdictNumber (judged t) ≡ 15 ↔ badBox (t .sizes) (t .offsets) (t .part) ≡ true
+
+-- A chain without a box, and the same chain with a box that is the full one.
+pub record Filling (c : Chain) (b : Bounds) : Type 0 where
+  pub absent : c .bounds .stood ≡ false
+  pub full : partOf (c .grid .dims) b ≡ fullBox (sizesOf (c .grid)) (offsetsOf (c .grid .dims) (c .window))
+
+-- A full box runs as none: an accepted chain is accepted with it too, and every call does the same in every word and clock.
+abbrev pub FullBoxRuns : Type 0
+FullBoxRuns = (c : Chain) (b : Bounds) → Filling c b → judgeChain c ≡ verdict.Accepted
+    → (judgeChain (setBounds b c) ≡ verdict.Accepted)
+    × ((s : State) (store lent output : List ℕ) (allowance : ℕ) → runOf (setBounds b c) s store lent output allowance ≡ runOf c s store lent output allowance)
+
+-- Iterations of every accepted chain, distances of every chain that 4 and 15 let pass, cells of every chain, numbers 6 and 15 of every chain and every request.
 pub record Geometry : Type 0 where
   pub iterations : (c : Chain) → judgeChain c ≡ verdict.Accepted → Enumerated (trimmed c)
-  pub distances : (c : Chain) → SameDistance (trimmed c)
+  pub distances : (c : Chain) → badCount (c .window .count) ≡ false → badBox (trimmed c .sizes) (trimmed c .offsets) (trimmed c .part) ≡ false → SameDistance (trimmed c)
   pub cells : (c : Chain) → Placed (trimmed c)
   pub chain-6 : (c : Chain) → Number6 (trimmed c)
   pub request-6 : (r : Request) → Number6 (trimmedRequest r)
+  pub chain-15 : (c : Chain) → Number15 (trimmed c)
+  pub request-15 : (r : Request) → Number15 (trimmedRequest r)
+  pub full-box : FullBoxRuns

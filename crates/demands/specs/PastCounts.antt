@@ -4,17 +4,19 @@ use Prim.Native.Nat.{ℕ, _-_, _<_}
 use mathlib.Core.Bool.{true, false}
 use mathlib.Core.List.{List}
 use mathlib.Core.Path.{_≡_}
+use lib.IntN.{pos}
 use lib.ListN.{getD}
 use Rattle.model.specs.Values.{entryOf, capacityOf, Same}
 use Rattle.model.specs.Planning.{trimmedRequest, judgeRequest, planOf}
 use Rattle.model.specs.Writing.{writeOf}
+use Rattle.model.specs.declared.Bounds.{Bounds}
 use Rattle.model.specs.declared.Grid.{Grid}
 use Rattle.model.specs.declared.Window.{Window}
 use Rattle.model.specs.declared.Order.{Order}
 use Rattle.model.specs.declared.Request.{Request}
 use Rattle.model.specs.declared.Chain.{Chain}
 
--- Two grids, two windows on a grid of some dimensions, two orders of n terms, two chains and two requests that differ only past their counts or in an absent part.
+-- Two grids, two windows and two boxes on a grid of some dimensions, two orders of n terms, two chains and two requests that differ only past their counts or in an absent part.
 pub record GridsAgree (g h : Grid) : Type 0 where
   pub dims : g .dims ≡ h .dims
   pub sizes : (d : ℕ) → d < g .dims → getD (g .sizes) d 0 ≡ getD (h .sizes) d 0
@@ -27,9 +29,15 @@ pub record OrdersAgree (n : ℕ) (o p : Order) : Type 0 where
   pub stood : o .stood ≡ p .stood
   pub filters : o .stood ≡ true → (i : ℕ) → i < n → getD (o .filters) i 0 ≡ getD (p .filters) i 0
 
+pub record BoundsAgree (dims : ℕ) (a b : Bounds) : Type 0 where
+  pub stood : a .stood ≡ b .stood
+  pub lowest : a .stood ≡ true → (d : ℕ) → d < dims → getD (a .lowest) d (pos 0) ≡ getD (b .lowest) d (pos 0)
+  pub highest : a .stood ≡ true → (d : ℕ) → d < dims → getD (a .highest) d (pos 0) ≡ getD (b .highest) d (pos 0)
+
 pub record ChainsAgree (c d : Chain) : Type 0 where
   pub grid : GridsAgree (c .grid) (d .grid)
   pub window : WindowsAgree (c .grid .dims) (c .window) (d .window)
+  pub bounds : BoundsAgree (c .grid .dims) (c .bounds) (d .bounds)
   pub capacities : (k : ℕ) → k < c .window .count - 1 → capacityOf c k ≡ capacityOf d k
   pub order : OrdersAgree (c .window .count) (c .order) (d .order)
   pub kernel : c .kernel ≡ d .kernel
@@ -37,6 +45,7 @@ pub record ChainsAgree (c d : Chain) : Type 0 where
 pub record RequestsAgree (r q : Request) : Type 0 where
   pub grid : GridsAgree (r .grid) (q .grid)
   pub window : WindowsAgree (r .grid .dims) (r .window) (q .window)
+  pub bounds : BoundsAgree (r .grid .dims) (r .bounds) (q .bounds)
   pub kernel : r .kernel ≡ q .kernel
 
 -- Two requests are the same.
@@ -49,6 +58,9 @@ pub record PastCounts : Type 0 where
   pub same-requests : (r q : Request) → RequestsAgree r q → SameRequest r q
   -- A written order, the chain order too, is not the same as none.
   pub apart : (c d : Chain) → c .order .stood ≡ true → d .order .stood ≡ false → Same c d → ⊥
+  -- "the record tells a written full box from none": any written box, in a chain and in a request.
+  pub box-apart : (c d : Chain) → c .bounds .stood ≡ true → d .bounds .stood ≡ false → Same c d → ⊥
+  pub box-asked : (r q : Request) → r .bounds .stood ≡ true → q .bounds .stood ≡ false → SameRequest r q → ⊥
   -- The same chain is written alike,
   pub written : (c d : Chain) → Same c d → (output : List ℕ) → writeOf c output ≡ writeOf d output
   -- the same request judged and planned alike.

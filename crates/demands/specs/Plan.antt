@@ -6,7 +6,7 @@ use mathlib.Core.Path.{_≡_}
 use lib.ListN.{length, getD}
 use Rattle.model.specs.Lists.{sum}
 use Rattle.model.specs.Windows.{Members}
-use Rattle.model.specs.Values.{Trimmed, sizesOf, offsetsOf, trimmed}
+use Rattle.model.specs.Values.{Trimmed, sizesOf, offsetsOf, partOf, trimmed}
 use Rattle.model.specs.Iterations.{iterationsOf, readsOf}
 use Rattle.model.specs.Judging.{judgeChain}
 use Rattle.model.specs.Planning.{judgeRequest, planOf}
@@ -15,17 +15,19 @@ use Rattle.model.specs.declared.Request.{Request}
 use Rattle.model.specs.declared.Verdict.the-variants as verdict
 use Rattle.model.specs.Right.{Right, Planned}
 
--- Values of the same grid and window: the same sizes, and the same offsets in any order; capacities, orders and kernels as they like.
+-- Values of the same grid, box and window: the same sizes, the same box or none, and the same offsets in any order; capacities, orders and kernels as they like.
 pub record SameWindow (t u : Trimmed) : Type 0 where
   pub sizes : t .sizes ≡ u .sizes
+  pub part : t .part ≡ u .part
   pub each : Members (t .offsets) (u .offsets)
   pub no-other : Members (u .offsets) (t .offsets)
 
 -- t: the planned chain of the request r, trimmed.
 pub record PlanRight (r : Request) (t : Trimmed) : Type 0 where
-  -- The grid and the kernel are the request's.
+  -- The grid, the box and the kernel are the request's: "Planning copies it", and where none stood there is none.
   pub dims : t .dims ≡ r .grid .dims
   pub sizes : t .sizes ≡ sizesOf (r .grid)
+  pub part : t .part ≡ partOf (r .grid .dims) (r .bounds)
   pub kernel : t .kernel ≡ r .kernel
   -- The offsets are the request's, as many, each once.
   pub count : t .count ≡ r .window .count
@@ -44,7 +46,7 @@ pub record PlanRight (r : Request) (t : Trimmed) : Type 0 where
   -- their sum is the reuse distance of the first and the last reference.
   pub total : (j : ℕ) → j < iterationsOf t
       → readsOf t j 0 ≡ readsOf t j (t .count - 1) + sum (t .capacities)
-  -- No chain of the same grid and window, accepted or not, whose order and capacities are right has fewer places.
+  -- No chain of the same grid, box and window, accepted or not, whose order and capacities are right has fewer places.
   pub least : (c : Chain) → SameWindow t (trimmed c) → Right (trimmed c) → sum (t .capacities) ≤ sum (trimmed c .capacities)
 
 -- What planning gives.

@@ -1,4 +1,4 @@
--- The three steps of planning (document 003, section 3.3), each by itself, of every grid and window that 3 to 6 let pass: so also of a request that 7, 8 or 9 turns back.
+-- The three steps of planning (document 003, section 3.3), each by itself, of every grid, window and box that 3 to 6 and 15 let pass: so also of a request that 7, 8 or 9 turns back.
 use Prim.Native.Nat.{ℕ, suc, _+_, _-_, _<_}
 use mathlib.Core.Bool.{true}
 use mathlib.Core.List.{List, []}
@@ -14,15 +14,16 @@ use Rattle.model.specs.Answers.{byVerdict}
 use Rattle.model.specs.Judging.{centred, judgeWindow, judgeBehind}
 use Rattle.model.specs.Steps.{stepsOf}
 use Rattle.model.specs.Planning.{planOf, chainBy}
+use Rattle.model.specs.declared.Bounds.{Bounds}
 use Rattle.model.specs.declared.Grid.{Grid}
 use Rattle.model.specs.declared.Request.{Request}
 use Rattle.model.specs.declared.Steps.{Steps}
 use Rattle.model.specs.declared.Window.{Window}
 use Rattle.model.specs.declared.Verdict.the-variants as verdict
 
-module _ (g : Grid) (w : Window) where
+module _ (g : Grid) (w : Window) (b : Bounds) where
   abbrev pub steps : Steps
-  steps = stepsOf g w
+  steps = stepsOf g w b
 
   -- The author's reference i, and the sorted reference k.
   abbrev pub given : ℕ → List ℤ
@@ -33,7 +34,7 @@ module _ (g : Grid) (w : Window) where
 
   -- The position that the sorted reference k reads in the iteration v.
   abbrev pub readBy : (v : List ℤ) (k : ℕ) → ℕ
-  readBy v k = positionOf (onGrid g w) (plus v (arranged k))
+  readBy v k = positionOf (onGrid g w b) (plus v (arranged k))
 
   abbrev pub distance : ℕ → ℕ
   distance k = getD (steps .distances) k 0
@@ -51,8 +52,8 @@ module _ (g : Grid) (w : Window) where
 
   -- Section 3.3.2: "the .. reuse distances of all the pairs of adjacent array references"
   pub record Distances : Type 0 where
-    -- In every iteration of the request the pair's positions differ by the distance,
-    pub every : (v : List ℤ) (k : ℕ) → isIterationOf (onGrid g w) v ≡ true → suc k < w .count → readBy v k ≡ readBy v (suc k) + distance k
+    -- In every iteration, inside the box and outside it, the pair's positions differ by the distance,
+    pub every : (v : List ℤ) (k : ℕ) → isIterationOf (onGrid g w b) v ≡ true → suc k < w .count → readBy v k ≡ readBy v (suc k) + distance k
     -- which is at least 1.
     pub some : (k : ℕ) → suc k < w .count → 0 < distance k
 
@@ -62,30 +63,30 @@ module _ (g : Grid) (w : Window) where
 
   -- On a rectangle it "is equal to the maximum reuse distance between array reference A_0 and A_{n-1}".
   abbrev pub FirstToLast : Type 0
-  FirstToLast = (v : List ℤ) → isIterationOf (onGrid g w) v ≡ true → readBy v 0 ≡ readBy v (w .count - 1) + steps .total
+  FirstToLast = (v : List ℤ) → isIterationOf (onGrid g w b) v ≡ true → readBy v 0 ≡ readBy v (w .count - 1) + steps .total
 
 abbrev pub StepOne : Type 0
-StepOne = (g : Grid) (w : Window) → judgeWindow g w ≡ verdict.Accepted → Sorted g w
+StepOne = (g : Grid) (w : Window) (b : Bounds) → judgeWindow g w b ≡ verdict.Accepted → Sorted g w b
 
 abbrev pub StepTwo : Type 0
-StepTwo = (g : Grid) (w : Window) → judgeWindow g w ≡ verdict.Accepted → Distances g w
+StepTwo = (g : Grid) (w : Window) (b : Bounds) → judgeWindow g w b ≡ verdict.Accepted → Distances g w b
 
 abbrev pub StepThree : Type 0
-StepThree = (g : Grid) (w : Window) → judgeWindow g w ≡ verdict.Accepted → Summed g w
+StepThree = (g : Grid) (w : Window) (b : Bounds) → judgeWindow g w b ≡ verdict.Accepted → Summed g w b
 
 abbrev pub OnRectangles : Type 0
-OnRectangles = (g : Grid) (w : Window) → judgeWindow g w ≡ verdict.Accepted → FirstToLast g w
+OnRectangles = (g : Grid) (w : Window) (b : Bounds) → judgeWindow g w b ≡ verdict.Accepted → FirstToLast g w b
 
 -- A plan is these steps, then what refuses, then the chain.
 pub record PlannedBySteps (r : Request) (s : Steps) : Type 0 where
-  -- 3 to 6 come before the steps, 7 and 8 behind them, and 9 goes by their total;
-  pub found : s .verdict ≡ judgeWindow (r .grid) (r .window)
+  -- 3 to 6 and 15 come before the steps, 7 and 8 behind them, and 9 goes by their total;
+  pub found : s .verdict ≡ judgeWindow (r .grid) (r .window) (r .bounds)
   pub refused : planOf r .verdict ≡ byVerdict (s .verdict) (judgeBehind (r .kernel) (centred (offsetsOf (r .grid .dims) (r .window))) (s .total)) verdict.Refused
-  -- the chain has their window, their distances for its capacities, and their filters for its order.
-  pub chain : planOf r .verdict ≡ verdict.Accepted → planOf r .chain ≡ chainBy (r .grid) (r .kernel) s
+  -- the chain has the request's box, their window, their distances for its capacities, and their filters for its order.
+  pub chain : planOf r .verdict ≡ verdict.Accepted → planOf r .chain ≡ chainBy (r .grid) (r .bounds) (r .kernel) s
 
 abbrev pub PlansBySteps : Type 0
-PlansBySteps = (r : Request) → PlannedBySteps r (stepsOf (r .grid) (r .window))
+PlansBySteps = (r : Request) → PlannedBySteps r (stepsOf (r .grid) (r .window) (r .bounds))
 
 -- All of them.
 pub record PaperSteps : Type 0 where

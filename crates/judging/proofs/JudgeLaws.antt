@@ -3,18 +3,17 @@ use Prim.Native.Nat.{ℕ}
 use mathlib.Core.Bool.{Bool, false, cond}
 use mathlib.Core.List.{List, [], _∷_, _++_}
 use mathlib.Core.Path.{_≡_, refl, sym, _∙_, ap}
-use native.Mathlib.Omega.{arith}
 use lib.Dec.{ltb}
-use borrow.Author.Tests.{eqb-false}
 use Rattle.model.specs.Lists.{sum}
-use Rattle.model.specs.Geometry.{iterationCount}
 use Rattle.model.specs.Kernels.{centreOf}
-use Rattle.model.specs.Values.{sizesOf, offsetOf, offsetsOf, onGrid, capacitiesOf, orderOf, trimmed}
+use Rattle.model.specs.Values.{offsetOf, offsetsOf, onGrid, capacitiesOf, orderOf, trimmed}
+use Rattle.model.specs.Iterations.{courseOf}
 use Rattle.model.specs.Answers.{check, firstOf, byVerdict}
-use Rattle.model.specs.Judging.{mostPlaces, badCount, noIteration, tooLarge, centred, badOrder, windowChecks, kernelChecks, chainChecks, valueChecks, judged, judgeWindow, judgeBehind, judgeChain}
+use Rattle.model.specs.Judging.{mostPlaces, badCount, tooLarge, centred, badOrder, windowChecks, kernelChecks, chainChecks, valueChecks, judged, judgeWindow, judgeBehind, judgeChain}
 use Rattle.model.specs.declared.Grid.{Grid}
 use Rattle.model.specs.declared.Window.{Window}
 use Rattle.model.specs.declared.Kernel.{Kernel}
+use Rattle.model.specs.declared.Bounds.{Bounds}
 use Rattle.model.specs.declared.Chain.{Chain}
 use Rattle.model.specs.declared.Refusal.{Refusal}
 use Rattle.model.specs.declared.Refusal.the-variants as refusal
@@ -23,10 +22,10 @@ use Rattle.model.specs.declared.Verdict.the-variants as verdict
 use Rattle.model.proofs.ListLaws.{length-tabulate}
 use Rattle.model.proofs.CheckLaws.{then-checks, both-pass, WindowPasses, window-passes}
 use Rattle.geometry.specs.Windows.{centreIn}
-use Rattle.shape.specs.Shapes.{shapeOf, surveyOf}
+use Rattle.shape.specs.Shapes.{surveyOf, chainShape}
 use Rattle.shape.specs.declared.Survey.{Survey}
 use Rattle.geometry.proofs.OffsetLaws.{below-count}
-use Rattle.shape.proofs.Answers.{centre-is, shape-is, survey-verdict}
+use Rattle.shape.proofs.Answers.{centre-is, survey-verdict}
 use Rattle.judging.specs.Checks.{judgedRest, examinedOf}
 
 -- 14 is looked at where 7, 8 and 9 pass, and 9 goes by the sum of the capacities.
@@ -43,35 +42,35 @@ module _ (k : Kernel) (b : Bool) (capacities : List ℕ) (n : ℕ) (order : List
       → cond bad (verdict.Refused refusal.BadOrder) verdict.Accepted ≡ judgedRest k b capacities n order
   rest-order bad e f = sym (rw (e, f) at by-total)
 
-module _ (g : Grid) (w : Window) where
-  survey-centre : judgeWindow g w ≡ verdict.Accepted → surveyOf g w .centre ≡ centreOf (offsetsOf (g .dims) w)
+module _ (g : Grid) (w : Window) (x : Bounds) where
+  survey-centre : judgeWindow g w x ≡ verdict.Accepted → surveyOf g w x .centre ≡ centreOf (offsetsOf (g .dims) w)
   unfolding surveyOf
   survey-centre e = rw e
 
-  pub survey-count : surveyOf g w .verdict ≡ verdict.Accepted → badCount (w .count) ≡ false
-  survey-count e = window-passes (onGrid g w) (sym (survey-verdict g w) ∙ e) .count
+  pub survey-count : surveyOf g w x .verdict ≡ verdict.Accepted → badCount (w .count) ≡ false
+  survey-count e = window-passes (onGrid g w x) (sym (survey-verdict g w x) ∙ e) .count
 
   -- There is a centre exactly if its number is below the count.
-  survey-centred : surveyOf g w .verdict ≡ verdict.Accepted → ltb (surveyOf g w .centre) (w .count) ≡ centred (offsetsOf (g .dims) w)
+  survey-centred : surveyOf g w x .verdict ≡ verdict.Accepted → ltb (surveyOf g w x .centre) (w .count) ≡ centred (offsetsOf (g .dims) w)
   unfolding offsetsOf
   survey-centred e =
-      ap (λ (m : ℕ). ltb m (w .count)) (survey-centre (sym (survey-verdict g w) ∙ e))
+      ap (λ (m : ℕ). ltb m (w .count)) (survey-centre (sym (survey-verdict g w x) ∙ e))
       ∙ ap (ltb (centreOf (offsetsOf (g .dims) w))) (sym (length-tabulate (w .count) (offsetOf (g .dims) w))) ∙ below-count (offsetsOf (g .dims) w)
 
 -- A chain: its window is judged, then the rest.
 module _ (c : Chain) where
   by-rest : judgeChain c
-      ≡ byVerdict (surveyOf (c .grid) (c .window) .verdict) (judgedRest (c .kernel) (centred (offsetsOf (c .grid .dims) (c .window))) (capacitiesOf c) (c .window .count) (orderOf (c .window .count) (c .order))) verdict.Refused
+      ≡ byVerdict (surveyOf (c .grid) (c .window) (c .bounds) .verdict) (judgedRest (c .kernel) (centred (offsetsOf (c .grid .dims) (c .window))) (capacitiesOf c) (c .window .count) (orderOf (c .window .count) (c .order))) verdict.Refused
   unfolding judgeChain judged valueChecks windowChecks trimmed judgedRest
-  by-rest = rw (survey-verdict (c .grid) (c .window)) (then-checks (windowChecks (trimmed c)) _)
+  by-rest = rw (survey-verdict (c .grid) (c .window) (c .bounds)) (then-checks (windowChecks (trimmed c)) _)
 
   -- What examining finds.
-  module _ (s : Survey) (d : s ≡ surveyOf (c .grid) (c .window)) where
+  module _ (s : Survey) (d : s ≡ surveyOf (c .grid) (c .window) (c .bounds)) where
     found : (v : Verdict) → v ≡ judgeChain c → record { verdict = v; centre = s .centre; shape = s .shape } ≡ examinedOf c
     unfolding examinedOf
     found v e = rw (d, e)
 
-    surveyed : (v : Verdict) → s .verdict ≡ v → surveyOf (c .grid) (c .window) .verdict ≡ v
+    surveyed : (v : Verdict) → s .verdict ≡ v → surveyOf (c .grid) (c .window) (c .bounds) .verdict ≡ v
     surveyed v e = ap (λ (t : Survey). t .verdict) (sym d) ∙ e
 
     examined-refused : (x : Refusal) → s .verdict ≡ verdict.Refused x → record { verdict = verdict.Refused x; centre = s .centre; shape = s .shape } ≡ examinedOf c
@@ -83,7 +82,7 @@ module _ (c : Chain) where
         let a = surveyed verdict.Accepted e in
         found v
         (q ∙ ap (λ (t : Survey). judgedRest (c .kernel) (ltb (t .centre) (c .window .count)) (capacitiesOf c) (c .window .count) (orderOf (c .window .count) (c .order))) d
-        ∙ ap (λ (b : Bool). judgedRest (c .kernel) b (capacitiesOf c) (c .window .count) (orderOf (c .window .count) (c .order))) (survey-centred (c .grid) (c .window) a) ∙ sym (rw a at by-rest))
+        ∙ ap (λ (b : Bool). judgedRest (c .kernel) b (capacitiesOf c) (c .window .count) (orderOf (c .window .count) (c .order))) (survey-centred (c .grid) (c .window) (c .bounds) a) ∙ sym (rw a at by-rest))
 
     -- The verdict goes by what the survey found.
     pub examined-behind : (v : Verdict)
@@ -103,20 +102,16 @@ module _ (c : Chain) where
 
   -- Of an accepted chain it finds the centre and the shape.
   module _ (e : judgeChain c ≡ verdict.Accepted) where
-    window-clear : firstOf (windowChecks (onGrid (c .grid) (c .window))) ≡ verdict.Accepted
+    window-clear : firstOf (windowChecks (onGrid (c .grid) (c .window) (c .bounds))) ≡ verdict.Accepted
     unfolding judgeChain judged valueChecks windowChecks trimmed
     window-clear = both-pass (windowChecks (trimmed c)) _ e .0
 
-    parts-clear : WindowPasses (onGrid (c .grid) (c .window))
-    parts-clear = window-passes (onGrid (c .grid) (c .window)) window-clear
+    parts-clear : WindowPasses (onGrid (c .grid) (c .window) (c .bounds))
+    parts-clear = window-passes (onGrid (c .grid) (c .window) (c .bounds)) window-clear
 
-    pub examined-shape : examinedOf c .shape ≡ shapeOf (c .grid) (c .window)
-    unfolding examinedOf surveyOf noIteration
-    examined-shape =
-        let p = parts-clear in
-        rw window-clear
-        (sym (shape-is (c .grid) (c .window) (p .grid) (p .count)
-        (omega (arith, eqb-false (iterationCount (sizesOf (c .grid)) (offsetsOf (c .grid .dims) (c .window))) 0 (p .iterates)))))
+    pub examined-shape : examinedOf c .shape ≡ chainShape c
+    unfolding examinedOf surveyOf courseOf trimmed chainShape
+    examined-shape = rw window-clear
 
     pub examined-centre : examinedOf c .centre ≡ centreIn (c .grid .dims) (c .window)
     unfolding examinedOf surveyOf

@@ -17,5 +17,5 @@ judgedRest k centred capacities n order = firstOf (kernelChecks k centred ++ cha
 -- What judging a chain finds.
 unfoldable pub examinedOf : Chain → Examined
 examinedOf c =
-    let survey = surveyOf (c .grid) (c .window) in
+    let survey = surveyOf (c .grid) (c .window) (c .bounds) in
     record { verdict = judgeChain c; centre = survey .centre; shape = survey .shape }

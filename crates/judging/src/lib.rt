@@ -1,4 +1,4 @@
-// Judging a chain that is handed over as a value, by 3 to 9, lowest first, then 14; and a request behind the steps of its plan.
+// Judging a chain that is handed over as a value, by 3 to 9, lowest first, with 15 after 6, then 14; and a request behind the steps of its plan.
 use model::Chain;
 use model::Kernel;
 use model::Order;
@@ -28,7 +28,7 @@ fn lacks_centre(kernel: Kernel, centred: bool) -> bool
     false
 }
 
-// 7, 8 and 9, where 3 to 6 let pass, the window has a centre or has none, and the capacities sum to `total`.
+// 7, 8 and 9, where 3 to 6 and 15 let pass, the window has a centre or has none, and the capacities sum to `total`.
 fn judge_total(kernel: Kernel, centred: bool, total: u64) -> Verdict
     ensures { λ r. ⌜ r ≡ judgeBehind kernel centred total ⌝ }
 {
@@ -44,7 +44,7 @@ fn judge_total(kernel: Kernel, centred: bool, total: u64) -> Verdict
     Verdict::Accepted
 }
 
-// What 3 to 6 found of a request's window before it was planned; where they let pass, 7 and 8, and 9 by the total of its distances.
+// What 3 to 6 and 15 found of a request's window before it was planned; where they let pass, 7 and 8, and 9 by the total of its distances.
 pub fn judge_planned(
     found: Verdict,
     dims: u8,
@@ -103,7 +103,7 @@ fn bad_order(order: Order, count: u8) -> bool
     false
 }
 
-// 7 to 9 and 14 of a chain, where 3 to 6 let pass; 9 goes by the capacities given.
+// 7 to 9 and 14 of a chain, where 3 to 6 and 15 let pass; 9 goes by the capacities given.
 fn judge_rest(
     kernel: Kernel,
     centred: bool,
@@ -126,7 +126,7 @@ fn judge_rest(
     }
 }
 
-// What 3 to 6 found, or where they let pass 7 to 9 and 14.
+// What 3 to 6 and 15 found, or where they let pass 7 to 9 and 14.
 fn judge_behind(
     found: Verdict,
     kernel: Kernel,
@@ -144,7 +144,7 @@ fn judge_behind(
     }
 }
 
-// What judging a chain finds: the first of 3 to 9 and 14 that turns it back, and, where 3 to 6 let it pass, its centre and its shape.
+// What judging a chain finds: the first of 3 to 9, 14 and 15 that turns it back, and, where 3 to 6 and 15 let it pass, its centre and its shape.
 pub struct Examined {
     pub shape: Shape,
     pub centre: u8,
@@ -159,7 +159,8 @@ pub fn examine(c: Chain) -> Examined
     let kernel = c.kernel;
     let capacities = c.capacities;
     let order = c.order;
-    let survey = shape::survey_of(grid, window);
+    let bounds = c.bounds;
+    let survey = shape::survey_of(grid, window, bounds);
     let centre = survey.centre;
     let shape = survey.shape;
     let found = survey.verdict;
@@ -178,7 +179,7 @@ pub fn examine(c: Chain) -> Examined
     }
 }
 
-// The first of 3 to 9 and 14 that turns a chain back; 9 goes by the capacities given.
+// The first of 3 to 9, 14 and 15 that turns a chain back; 9 goes by the capacities given.
 pub fn judge_chain(c: Chain) -> Verdict
     ensures { λ r. ⌜ r ≡ judgeChain c ⌝ }
 {

@@ -8,8 +8,11 @@ use native.Mathlib.Omega.{arith}
 use lib.ListN.{length, getD}
 use lib.IntN.{ℤ, pos}
 use Rattle.model.specs.Lists.{tabulate}
-use Rattle.model.specs.Sized.{Sized}
-use Rattle.model.specs.Values.{Trimmed, sizesOf, entryOf, offsetOf, offsetsOf, capacitiesOf, orderOf, trimmed, Same, windowOf, capacityArray, chainOf}
+use Rattle.model.specs.Boxes.{Part}
+use Rattle.model.specs.Boxes.Part.{whole, box}
+use Rattle.model.specs.Sized.{Sized, Bounded}
+use Rattle.model.specs.Values.{Trimmed, sizesOf, entryOf, offsetOf, offsetsOf, capacitiesOf, orderOf, partOf, trimmed, Same, windowOf, capacityArray, indexArray, boundsOf, chainOf}
+use Rattle.model.specs.declared.Bounds.{Bounds}
 use Rattle.model.specs.declared.Chain.{Chain}
 use Rattle.model.specs.declared.Grid.{Grid}
 use Rattle.model.specs.declared.Order.{Order}
@@ -59,15 +62,27 @@ module _ (t : Trimmed) where
       go true e = tabulate-back 0 (t .order) (t .count) (λ i. getD (tabulate 32 (λ i. getD (t .order) i 0)) i 0) e (λ k h. getD-tabulate 32 (λ i. getD (t .order) i 0) k 0 (omega arith))
       go false e = tabulate-back 0 (t .order) 0 (λ k. k) e (λ k h. absurd (omega arith))
 
+  chain-part : length (t .sizes) ≡ t .dims → Bounded (t .sizes) (t .part) → t .dims ≤ 4 → partOf (t .dims) (chainOf t .bounds) ≡ t .part
+  unfolding chainOf partOf boundsOf
+  chain-part dims bounded few = go (t .part) bounded
+    where
+      back : (xs : List ℤ) → length xs ≡ length (t .sizes) → tabulate (t .dims) (λ d. getD (indexArray xs) d (pos 0)) ≡ xs
+      back xs n = tabulate-back (pos 0) xs (t .dims) _ (n ∙ dims) (λ d h. getD-tabulate 4 _ d (pos 0) (omega arith))
+
+      go : (p : Part) → Bounded (t .sizes) p → partOf (t .dims) (boundsOf p) ≡ p
+      go whole b = refl
+      go (box lowest highest) b = ap₂ box (back lowest (b .0)) (back highest (b .1))
+
   -- Of the chain that is made of it the value plays a part again, where its lists are of the lengths that the counts say and no longer than a chain's.
-  pub trimmed-chain : length (t .sizes) ≡ t .dims → length (t .offsets) ≡ t .count → Sized (t .sizes) (t .offsets) → length (t .capacities) ≡ t .count - 1
+  pub trimmed-chain : length (t .sizes) ≡ t .dims → length (t .offsets) ≡ t .count → Sized (t .sizes) (t .offsets) → Bounded (t .sizes) (t .part) → length (t .capacities) ≡ t .count - 1
       → length (t .order) ≡ cond (t .ordered) (t .count) 0 → t .dims ≤ 4 → t .count ≤ 32 → trimmed (chainOf t) ≡ t
   unfolding trimmed chainOf
-  trimmed-chain dims count sized fifos terms few most = λ i. record {
+  trimmed-chain dims count sized bounded fifos terms few most = λ i. record {
     dims = t .dims;
     sizes = chain-sizes dims few i;
     count = t .count;
     offsets = chain-offsets dims count sized few most i;
+    part = chain-part dims bounded few i;
     capacities = chain-capacities fifos most i;
     ordered = t .ordered;
     order = chain-order terms most i;
@@ -94,9 +109,18 @@ offsets-sized g w k h =
     let b = rw length-tabulate at h in
     rw (getD-tabulate (w .count) (offsetOf (g .dims) w) k [] b) (length-tabulate (g .dims) _ ∙ sym (length-tabulate (g .dims) _))
 
+-- A box has a lowest and a highest index for each.
+pub part-bounded : (g : Grid) (b : Bounds) → Bounded (sizesOf g) (partOf (g .dims) b)
+unfolding sizesOf partOf
+part-bounded g b = go (b .stood)
+  where
+    go : (t : Bool) → Bounded (sizesOf g) (cond t (box (tabulate (g .dims) (λ d. getD (b .lowest) d (pos 0))) (tabulate (g .dims) (λ d. getD (b .highest) d (pos 0)))) whole)
+    go true = (length-tabulate (g .dims) _ ∙ sym (length-tabulate (g .dims) _), length-tabulate (g .dims) _ ∙ sym (length-tabulate (g .dims) _))
+    go false = tt
+
 -- A chain's normal form is the same chain.
 pub same-normal : (c : Chain) → c .grid .dims ≤ 4 → c .window .count ≤ 32 → Same (chainOf (trimmed c)) c
 unfolding trimmed sizesOf capacitiesOf
 same-normal c few most =
     trimmed-chain (trimmed c) (length-tabulate (c .grid .dims) _) (offsets-count (c .grid .dims) (c .window)) (offsets-sized (c .grid) (c .window))
-    (length-tabulate (c .window .count - 1) _) (length-order (c .window .count) (c .order)) few most
+    (part-bounded (c .grid) (c .bounds)) (length-tabulate (c .window .count - 1) _) (length-order (c .window .count) (c .order)) few most

@@ -6,6 +6,7 @@ use mathlib.Core.Path.{_≡_, refl, sym, _∙_}
 use native.Mathlib.Omega.{arith}
 use lib.Dec.{eqb, ltb}
 use borrow.Author.Tests.{eqb-false, ltb-false}
+use Rattle.model.specs.Boxes.{badBox}
 use Rattle.model.specs.Values.{Trimmed}
 use Rattle.model.specs.Answers.{Check, check, firstOf, byVerdict}
 use Rattle.model.specs.Judging.{badDims, badSizes, badGrid, badCount, repeats, noIteration, centred, lacksCentre, badFactor, tooLarge, badOrder, windowChecks, kernelChecks, chainChecks, valueChecks}
@@ -45,6 +46,7 @@ pub record WindowPasses (t : Trimmed) : Type 0 where
   pub count : badCount (t .count) ≡ false
   pub distinct : repeats (t .offsets) ≡ false
   pub iterates : noIteration (t .sizes) (t .offsets) ≡ false
+  pub fits : badBox (t .sizes) (t .offsets) (t .part) ≡ false
 
 pub window-passes : (t : Trimmed) → firstOf (windowChecks t) ≡ verdict.Accepted → WindowPasses t
 unfolding windowChecks
@@ -53,7 +55,8 @@ window-passes t e =
     let p4 = passes _ _ _ (p3 .1) in
     let p5 = passes _ _ _ (p4 .1) in
     let p6 = passes _ _ _ (p5 .1) in
-    record { grid = p3 .0; count = p4 .0; distinct = p5 .0; iterates = p6 .0 }
+    let p15 = passes _ _ _ (p6 .1) in
+    record { grid = p3 .0; count = p4 .0; distinct = p5 .0; iterates = p6 .0; fits = p15 .0 }
 
 -- What 3 and 4, where they pass, say of the counts.
 pub few-dims : (dims : ℕ) (sizes : List ℕ) → badGrid dims sizes ≡ false → dims ≤ 4

@@ -1,6 +1,6 @@
 -- The laws of iterations, positions and distances (document 01, "Grid, window, distances"), for all dimension counts together.
 -- `sizes` are the grid's and `offsets` the window's; reference k has the offset `getD offsets k []`.
-use Prim.Native.Nat.{ℕ, zero, suc, _+_, _-_, _≤_, _<_}
+use Prim.Native.Nat.{ℕ, suc, _+_, _-_, _≤_, _<_}
 use mathlib.Core.Bool.{Bool, true, false, and-eq-true-iff}
 use mathlib.Core.List.{List, [], _∷_, map}
 use mathlib.Core.Logic.{_↔_}
@@ -10,7 +10,7 @@ use lib.Dec.{ltb, eqb}
 use lib.ListN.{length, getD}
 use lib.IntN.{ℤ, pos, negℤ}
 use borrow.Author.Tests.{ltb-true, lt-ltb, eq-eqb, eqb-true}
-use Rattle.model.specs.Lists.{tabulate, product, all}
+use Rattle.model.specs.Lists.{product, all}
 use Rattle.model.specs.Vectors.{plus, before}
 use Rattle.model.specs.Geometry.{
   cellCount,
@@ -24,17 +24,19 @@ use Rattle.model.specs.Geometry.{
   extents,
   iterationCount,
   indices,
-  fromLows,
+  countedFrom,
+  count,
+  vector,
+  allIterations,
   iteration,
   reads,
   distance,
-  newest,
 }
 use Rattle.model.specs.Sized.{Sized}
-use Rattle.model.specs.Windows.{relative, Among, Members}
-use Rattle.model.proofs.ListLaws.{length-tabulate, getD-tabulate, all-each, each-all, among-map, greatest-above, greatest-stands, greatest-same}
+use Rattle.model.specs.Windows.{relative, Members}
+use Rattle.model.proofs.ListLaws.{all-each, each-all, among-map}
 use Rattle.model.proofs.IntegerLaws.{least-same}
-use Rattle.model.proofs.PlaceLaws.{place-below, place-add, place-injective, indices-below, place-indices, first-indices, before-place, relative-injective}
+use Rattle.model.proofs.PlaceLaws.{place-below, place-add, place-injective, indices-below, place-indices, first-indices, before-place}
 use Rattle.model.proofs.WindowLaws.{product-extents, same-extent}
 use Rattle.model.proofs.IterationLaws.{
   below-inside,
@@ -42,8 +44,8 @@ use Rattle.model.proofs.IterationLaws.{
   indicesOf,
   firstCell,
   length-iteration,
-  relative-iteration,
   iteration-order,
+  iteration-once,
   indices-rise,
   offset-at-least,
   cell-read,
@@ -59,31 +61,12 @@ module _ (sizes : List ℕ) (offsets : List (List ℤ)) where
 
   -- No iteration comes twice.
   pub once : (i j : ℕ) → i < iterationCount sizes offsets → j < iterationCount sizes offsets → iteration sizes offsets i ≡ iteration sizes offsets j → i ≡ j
-  unfolding iterationCount
-  once i j a b e =
-      let es = extents sizes offsets in
-      let same = sym (relative-iteration sizes offsets i) ∙ ap (λ (v : List ℤ). relative v (map negℤ (lows sizes offsets))) e ∙ relative-iteration sizes offsets j in
-      sym (place-indices es i a) ∙ ap (place es) same ∙ place-indices es j b
+  once = iteration-once sizes offsets
 
   -- There are at most as many iterations as cells.
   pub at-most-cells : iterationCount sizes offsets ≤ cellCount sizes
-  unfolding iterationCount cellCount
+  unfolding iterationCount count allIterations cellCount
   at-most-cells = product-extents sizes offsets
-
-  -- No reference reads past the newest cell.
-  pub newest-most : (j k : ℕ) → k < length offsets → reads sizes offsets j k ≤ newest sizes offsets j
-  unfolding newest
-  newest-most j k h =
-      rw (getD-tabulate (length offsets) (reads sizes offsets j) k 0 h) at
-      (greatest-above (tabulate (length offsets) (reads sizes offsets j)) k 0 (rw length-tabulate h))
-
-  -- A reference reads the newest cell.
-  pub newest-read : (j : ℕ) → 0 < length offsets → (k : ℕ) × (k < length offsets) × (reads sizes offsets j k ≡ newest sizes offsets j)
-  unfolding newest
-  newest-read j h =
-      let (k, b, e) = greatest-stands (tabulate (length offsets) (reads sizes offsets j)) 0 (rw length-tabulate h) in
-      let c = rw length-tabulate at b in
-      (k, c, sym (getD-tabulate (length offsets) (reads sizes offsets j) k 0 c) ∙ e)
 
   module _ (sized : Sized sizes offsets) where
     -- Each vector that is listed is an iteration.
@@ -98,7 +81,7 @@ module _ (sizes : List ℕ) (offsets : List (List ℤ)) where
 
     -- Each iteration is listed.
     pub complete : (v : List ℤ) → 0 < length offsets → isIteration sizes offsets v ≡ true → (j : ℕ) × (j < iterationCount sizes offsets) × (v ≡ iteration sizes offsets j)
-    unfolding isIteration iterationCount iteration cellCount
+    unfolding isIteration iterationCount count iteration vector allIterations cellCount
     complete v s e =
         let es = extents sizes offsets in
         let stays : List ℤ → Bool = λ o. inside sizes (plus v o) in
@@ -106,7 +89,7 @@ module _ (sizes : List ℕ) (offsets : List (List ℤ)) where
         let (us, b, f) = found sizes offsets v s sized (eqb-true _ _ entries) (all-each stays offsets [] each) in
         let j = place es us in
         let below = place-below es us b in
-        (j, below, f ∙ ap (λ (u : List ℕ). fromLows u (lows sizes offsets)) (place-injective es us (indices es j) b (indices-below es j below) (sym (place-indices es j below))))
+        (j, below, f ∙ ap (countedFrom (map negℤ (lows sizes offsets))) (place-injective es us (indices es j) b (indices-below es j below) (sym (place-indices es j below))))
 
     -- Where the list is empty there is no iteration.
     pub no-iteration : 0 < length offsets → iterationCount sizes offsets ≡ 0 → (v : List ℤ) → isIteration sizes offsets v ≡ false
@@ -157,29 +140,11 @@ module _ (sizes : List ℕ) (offsets : List (List ℤ)) where
             before-place sizes (offset-at-least sizes offsets sized l h) (offset-at-least sizes offsets sized k g)
             (first-below sizes offsets sized l h j b) (first-below sizes offsets sized k g j b)
 
-    -- References that read one position have one offset.
-    pub same-position : (j k l : ℕ) → j < iterationCount sizes offsets → k < length offsets → l < length offsets
-        → reads sizes offsets j k ≡ reads sizes offsets j l → getD offsets k [] ≡ getD offsets l []
-    same-position j k l b g h e =
-        relative-injective (offset-at-least sizes offsets sized k g) (offset-at-least sizes offsets sized l h)
-        (place-injective sizes _ _ (first-below sizes offsets sized k g j b) (first-below sizes offsets sized l h j b)
-        (omega (arith, reads-sum j k b g, reads-sum j l b h)))
-
     -- The reuse distance is the same in all iterations.
     pub same-distance : (j k : ℕ) → j < iterationCount sizes offsets → suc k < length offsets
         → reads sizes offsets j k - reads sizes offsets j (suc k) ≡ distance sizes offsets k
     unfolding distance
     same-distance j k b h = omega (arith, one-distance 0 j k (suc k) (omega arith) b (omega arith) h)
-
-    -- If all other offsets come before reference 0's, its cell is the newest.
-    pub newest-planned : (j : ℕ) → j < iterationCount sizes offsets → 0 < length offsets
-        → ((k : ℕ) → 0 < k → k < length offsets → before (getD offsets k []) (getD offsets 0 []) ≡ true)
-        → newest sizes offsets j ≡ reads sizes offsets j 0
-    newest-planned j b s f = go (newest-read j s)
-      where
-        go : (k : ℕ) × (k < length offsets) × (reads sizes offsets j k ≡ newest sizes offsets j) → newest sizes offsets j ≡ reads sizes offsets j 0
-        go (zero, h, e) = sym e
-        go (suc k, h, e) = absurd (omega (arith, falls j 0 (suc k) b s h .0 (f (suc k) (omega arith) h), newest-most j 0 s))
 
 -- Windows with the same offsets, in whatever order, have the same lows.
 pub same-lows : (sizes : List ℕ) (a b : List (List ℤ)) → Members a b → Members b a → lows sizes a ≡ lows sizes b
@@ -200,24 +165,10 @@ same-extents (s ∷ ss) a b m n =
 module _ (sizes : List ℕ) (a b : List (List ℤ)) (m : Members a b) (n : Members b a) where
   -- They have equally many iterations.
   pub same-count : iterationCount sizes a ≡ iterationCount sizes b
-  unfolding iterationCount
+  unfolding iterationCount count allIterations
   same-count = ap product (same-extents sizes a b m n)
 
   -- They have the same iterations.
   pub same-iteration : (j : ℕ) → iteration sizes a j ≡ iteration sizes b j
-  unfolding iteration
-  same-iteration j = ap₂ (λ (es : List ℕ) (ls : List ℤ). fromLows (indices es j) ls) (same-extents sizes a b m n) (same-lows sizes a b m n)
-
-  -- They have the same newest cells.
-  pub same-newest : (j : ℕ) → newest sizes a j ≡ newest sizes b j
-  unfolding newest reads
-  same-newest j = greatest-same (tabulate (length a) (reads sizes a j)) (tabulate (length b) (reads sizes b j)) 0
-      (side a b m (same-iteration j)) (side b a n (sym (same-iteration j)))
-    where
-      side : (a b : List (List ℤ)) → Members a b → iteration sizes a j ≡ iteration sizes b j
-          → Among 0 (tabulate (length a) (reads sizes a j)) (tabulate (length b) (reads sizes b j))
-      side a b m e k h =
-          let c = rw length-tabulate at h in
-          let (l, d, f) = m k c in
-          let same = ap₂ (λ (v o : List ℤ). position sizes (plus v o)) (sym e) f in
-          (l, rw length-tabulate d, getD-tabulate (length b) (reads sizes b j) l 0 d ∙ same ∙ sym (getD-tabulate (length a) (reads sizes a j) k 0 c))
+  unfolding iteration vector allIterations
+  same-iteration j = ap₂ (λ (es : List ℕ) (ls : List ℤ). countedFrom (map negℤ ls) (indices es j)) (same-extents sizes a b m n) (same-lows sizes a b m n)

@@ -48,6 +48,12 @@ not-ltZ (pos a) (negsuc b) h = refl
 not-ltZ (negsuc a) (pos b) h = absurd (true≢false h)
 not-ltZ (negsuc a) (negsuc b) h = omega (arith, ltb-false, le-leb)
 
+pub leZ-ltZ : (x y : ℤ) → leZ x y ≡ true → ltZ y x ≡ false
+leZ-ltZ (pos a) (pos b) h = le-ltb b a (leb-true a b h)
+leZ-ltZ (pos a) (negsuc b) h = absurd (false≢true h)
+leZ-ltZ (negsuc a) (pos b) h = refl
+leZ-ltZ (negsuc a) (negsuc b) h = le-ltb a b (leb-true b a h)
+
 -- Two tests agree where what they test agrees.
 tests-agree : (s t : Bool) → (s ≡ true → t ≡ true) → (t ≡ true → s ≡ true) → s ≡ t
 tests-agree true t f g = sym (f refl)
@@ -61,14 +67,14 @@ eqb-agrees : (a b c d : ℕ) → (a ≡ b ↔ c ≡ d) → eqb a b ≡ eqb c d
 eqb-agrees a b c d f = tests-agree (eqb a b) (eqb c d) (λ e. eq-eqb c d (f .0 (eqb-true a b e))) (λ e. eq-eqb a b (f .1 (eqb-true c d e)))
 
 -- The difference of two natural numbers.
-sub-small : (a b : ℕ) → a < b → subℕ a b ≡ negsuc (b - suc a)
+pub sub-small : (a b : ℕ) → a < b → subℕ a b ≡ negsuc (b - suc a)
 sub-small a b h = rw (lt-ltb a b h)
 
-sub-large : (a b : ℕ) → b ≤ a → subℕ a b ≡ pos (a - b)
+pub sub-large : (a b : ℕ) → b ≤ a → subℕ a b ≡ pos (a - b)
 sub-large a b h = rw (le-ltb a b h)
 
 -- What is at least l is l and how far it lies above.
-above-back : (x l : ℤ) → leZ l x ≡ true → pos (above x l) +ℤ l ≡ x
+pub above-back : (x l : ℤ) → leZ l x ≡ true → pos (above x l) +ℤ l ≡ x
 unfolding above
 above-back (pos a) (pos b) h = ap pos (omega (arith, leb-true))
 above-back (pos a) (negsuc b) h = sub-large (a + suc b) (suc b) (omega arith) ∙ ap pos (omega arith)
@@ -124,6 +130,17 @@ sum-at-least u (negsuc b) = go (decLt u (suc b))
     go : Dec (u < suc b) → leZ (negsuc b) (subℕ u (suc b)) ≡ true
     go (yes h) = rw (sub-small u (suc b) h) (omega (arith, le-leb))
     go (no h) = rw (sub-large u (suc b) (omega arith))
+
+-- Counted from m, what is u more than x lies u further above, and so does what lies that far above x.
+pub above-more : (u : ℕ) (x m : ℤ) → leZ m x ≡ true → above (pos u +ℤ x) m ≡ above x m + u
+above-more u x m h =
+    ap (λ (z : ℤ). above (pos u +ℤ z) m) (sym (above-back x m h))
+    ∙ ap (λ (z : ℤ). above z m) (sym (+ℤ-assoc (pos u) (pos (above x m)) m))
+    ∙ sum-above (u + above x m) m
+    ∙ omega arith
+
+pub above-chain : (x l m : ℤ) → leZ m l ≡ true → leZ l x ≡ true → above x m ≡ above l m + above x l
+above-chain x l m h k = ap (λ (z : ℤ). above z m) (sym (above-back x l k)) ∙ above-more (above x l) l m h
 
 -- What is not negative is a natural number.
 pub natural-pos : (z : ℤ) → leZ (pos 0) z ≡ true → pos (natural z) ≡ z

@@ -22,7 +22,11 @@ use Rattle.model.specs.Geometry.{
   extent,
   extents,
   indices,
-  fromLows,
+  countedFrom,
+  Course,
+  count,
+  vector,
+  allIterations,
   place,
   position,
   iteration,
@@ -37,8 +41,8 @@ use Rattle.model.proofs.PlaceLaws.AtLeast.{none, next}
 use Rattle.model.proofs.WindowLaws.{length-lows, length-extents, first-of, others-of, at-least-lows, extent-all, extents-within, stays-inside}
 
 -- The cell that the offset xs reads in the iteration of the indices us.
-sum-of-entries : (us : List ℕ) {ls xs : List ℤ} → AtLeast ls xs → plus (fromLows us ls) xs ≡ map pos (add (relative xs ls) us)
-unfolding plus fromLows add relative
+sum-of-entries : (us : List ℕ) {ls xs : List ℤ} → AtLeast ls xs → plus (countedFrom (map negℤ ls) us) xs ≡ map pos (add (relative xs ls) us)
+unfolding plus countedFrom add relative
 sum-of-entries [] none = refl
 sum-of-entries [] (next h m) = refl
 sum-of-entries (u ∷ us) none = refl
@@ -94,8 +98,8 @@ inside-parts s ss x xs (y ∷ ys) n e =
 -- A vector that keeps each offset inside the grid has indices below the extents, counted from the negated lows.
 pub found : (sizes : List ℕ) (offsets : List (List ℤ)) (v : List ℤ) → 0 < length offsets → Sized sizes offsets → length v ≡ length sizes
     → ((k : ℕ) → k < length offsets → inside sizes (plus v (getD offsets k [])) ≡ true)
-    → (us : List ℕ) × Below (extents sizes offsets) us × (v ≡ fromLows us (lows sizes offsets))
-unfolding lows extents fromLows
+    → (us : List ℕ) × Below (extents sizes offsets) us × (v ≡ countedFrom (map negℤ (lows sizes offsets)) us)
+unfolding lows extents countedFrom
 found [] offsets [] h sized n f = ([], tt, refl)
 found [] offsets (x ∷ xs) h sized n f = absurd (omega arith)
 found (s ∷ ss) offsets [] h sized n f = absurd (omega arith)
@@ -116,30 +120,68 @@ found (s ∷ ss) offsets (x ∷ xs) h sized n f =
         let m = rw length-map at l in
         rw (others-of offsets k) (inside-parts s ss x xs (getD offsets k []) (sized k m) (f k m) .2)
 
--- An iteration is at least the negated lows, its indices are counted from there, and it has as many entries.
-from-at-least : (us : List ℕ) (ls : List ℤ) → length us ≡ length ls → AtLeast (map negℤ ls) (fromLows us ls)
-unfolding fromLows
-from-at-least [] [] n = none
-from-at-least [] (l ∷ ls) n = absurd (omega arith)
-from-at-least (u ∷ us) [] n = absurd (omega arith)
-from-at-least (u ∷ us) (l ∷ ls) n = next (sum-at-least u (negℤ l)) (from-at-least us ls (suc-inj n))
+-- What is counted from xs is at least xs, its indices are counted from there, and it has as many entries.
+counted-at-least : (xs : List ℤ) (us : List ℕ) → length us ≡ length xs → AtLeast xs (countedFrom xs us)
+unfolding countedFrom
+counted-at-least [] [] n = none
+counted-at-least (x ∷ xs) [] n = absurd (omega arith)
+counted-at-least [] (u ∷ us) n = absurd (omega arith)
+counted-at-least (x ∷ xs) (u ∷ us) n = next (sum-at-least u x) (counted-at-least xs us (suc-inj n))
 
-from-relative : (us : List ℕ) (ls : List ℤ) → length us ≡ length ls → relative (fromLows us ls) (map negℤ ls) ≡ us
-unfolding fromLows relative
-from-relative [] ls n = refl
-from-relative (u ∷ us) [] n = absurd (omega arith)
-from-relative (u ∷ us) (l ∷ ls) n = ap₂ _∷_ (sum-above u (negℤ l)) (from-relative us ls (suc-inj n))
+pub counted-relative : (xs : List ℤ) (us : List ℕ) → length us ≡ length xs → relative (countedFrom xs us) xs ≡ us
+unfolding countedFrom relative
+counted-relative xs [] n = refl
+counted-relative [] (u ∷ us) n = absurd (omega arith)
+counted-relative (x ∷ xs) (u ∷ us) n = ap₂ _∷_ (sum-above u x) (counted-relative xs us (suc-inj n))
 
-length-from : (us : List ℕ) (ls : List ℤ) → length us ≡ length ls → length (fromLows us ls) ≡ length us
-unfolding fromLows
-length-from [] ls n = refl
-length-from (u ∷ us) [] n = absurd (omega arith)
-length-from (u ∷ us) (l ∷ ls) n = ap suc (length-from us ls (suc-inj n))
+pub length-counted : (xs : List ℤ) (us : List ℕ) → length us ≡ length xs → length (countedFrom xs us) ≡ length us
+unfolding countedFrom
+length-counted xs [] n = refl
+length-counted [] (u ∷ us) n = absurd (omega arith)
+length-counted (x ∷ xs) (u ∷ us) n = ap suc (length-counted xs us (suc-inj n))
 
-length-indices : (es : List ℕ) (j : ℕ) → length (indices es j) ≡ length es
+pub length-indices : (es : List ℕ) (j : ℕ) → length (indices es j) ≡ length es
 unfolding indices
 length-indices [] j = refl
 length-indices (e ∷ es) j = ap suc (length-indices es (j % product es))
+
+-- A course whose first vector has an entry for each of its widths.
+module _ (c : Course) (n : length (c .widths) ≡ length (c .first)) where
+  length-numbered : (j : ℕ) → length (indices (c .widths) j) ≡ length (c .first)
+  length-numbered j = length-indices (c .widths) j ∙ n
+
+  pub length-vector : (j : ℕ) → length (vector c j) ≡ length (c .first)
+  unfolding vector
+  length-vector j = length-counted (c .first) (indices (c .widths) j) (length-numbered j) ∙ length-numbered j
+
+  pub relative-vector : (j : ℕ) → relative (vector c j) (c .first) ≡ indices (c .widths) j
+  unfolding vector
+  relative-vector j = counted-relative (c .first) (indices (c .widths) j) (length-numbered j)
+
+  pub vector-at-least : (j : ℕ) → AtLeast (c .first) (vector c j)
+  unfolding vector
+  vector-at-least j = counted-at-least (c .first) (indices (c .widths) j) (length-numbered j)
+
+  -- Lexicographic order of its vectors is the order of their indices' places, in each grid that these lie in: the course's own box, and the whole grid.
+  order-in : (ss : List ℕ) (i j : ℕ) → Below ss (indices (c .widths) i) → Below ss (indices (c .widths) j)
+      → before (vector c i) (vector c j) ≡ ltb (place ss (indices (c .widths) i)) (place ss (indices (c .widths) j))
+  order-in ss i j a b =
+      rw (relative-vector i, relative-vector j) at
+      (before-place ss (vector-at-least i) (vector-at-least j) (rw (relative-vector i) a) (rw (relative-vector j) b))
+
+  pub vector-order : (i j : ℕ) → i < count c → j < count c → before (vector c i) (vector c j) ≡ ltb i j
+  unfolding count
+  vector-order i j a b =
+      let es = c .widths in
+      rw (place-indices es i a, place-indices es j b) at (order-in es i j (indices-below es i a) (indices-below es j b))
+
+  -- None comes twice.
+  pub vector-once : (i j : ℕ) → i < count c → j < count c → vector c i ≡ vector c j → i ≡ j
+  unfolding count
+  vector-once i j a b e =
+      let es = c .widths in
+      let same = sym (relative-vector i) ∙ ap (λ (v : List ℤ). relative v (c .first)) e ∙ relative-vector j in
+      sym (place-indices es i a) ∙ ap (place es) same ∙ place-indices es j b
 
 module _ (sizes : List ℕ) (offsets : List (List ℤ)) where
   -- Iteration j's indices, counted from the first iteration's.
@@ -150,43 +192,38 @@ module _ (sizes : List ℕ) (offsets : List (List ℤ)) where
   abbrev pub firstCell : ℕ → List ℕ
   firstCell k = relative (getD offsets k []) (lows sizes offsets)
 
-  length-indicesOf : (j : ℕ) → length (indicesOf j) ≡ length (lows sizes offsets)
-  length-indicesOf j = length-indices (extents sizes offsets) j ∙ length-extents sizes offsets ∙ sym (length-lows sizes offsets)
+  pub entry-each : length (extents sizes offsets) ≡ length (map negℤ (lows sizes offsets))
+  entry-each = length-extents sizes offsets ∙ sym (length-lows sizes offsets) ∙ sym (length-map (lows sizes offsets) negℤ)
 
   pub length-iteration : (j : ℕ) → length (iteration sizes offsets j) ≡ length sizes
-  unfolding iteration
-  length-iteration j = length-from (indicesOf j) (lows sizes offsets) (length-indicesOf j) ∙ length-indicesOf j ∙ length-lows sizes offsets
+  unfolding iteration allIterations
+  length-iteration j = length-vector (allIterations sizes offsets) entry-each j ∙ length-map (lows sizes offsets) negℤ ∙ length-lows sizes offsets
 
   pub relative-iteration : (j : ℕ) → relative (iteration sizes offsets j) (map negℤ (lows sizes offsets)) ≡ indicesOf j
-  unfolding iteration
-  relative-iteration j = from-relative (indicesOf j) (lows sizes offsets) (length-indicesOf j)
+  unfolding iteration allIterations
+  relative-iteration j = relative-vector (allIterations sizes offsets) entry-each j
 
-  iteration-at-least : (j : ℕ) → AtLeast (map negℤ (lows sizes offsets)) (iteration sizes offsets j)
-  unfolding iteration
-  iteration-at-least j = from-at-least (indicesOf j) (lows sizes offsets) (length-indicesOf j)
-
-  -- Lexicographic order of iterations is the order of their indices' places, in each grid that these lie in: the box of iterations, and the whole grid.
-  order-in : (ss : List ℕ) (i j : ℕ) → Below ss (indicesOf i) → Below ss (indicesOf j)
-      → before (iteration sizes offsets i) (iteration sizes offsets j) ≡ ltb (place ss (indicesOf i)) (place ss (indicesOf j))
-  order-in ss i j a b =
-      rw (relative-iteration i, relative-iteration j) at
-      (before-place ss (iteration-at-least i) (iteration-at-least j) (rw (relative-iteration i) a) (rw (relative-iteration j) b))
+  pub iteration-at-least : (j : ℕ) → AtLeast (map negℤ (lows sizes offsets)) (iteration sizes offsets j)
+  unfolding iteration allIterations
+  iteration-at-least j = vector-at-least (allIterations sizes offsets) entry-each j
 
   pub iteration-order : (i j : ℕ) → i < iterationCount sizes offsets → j < iterationCount sizes offsets
       → before (iteration sizes offsets i) (iteration sizes offsets j) ≡ ltb i j
-  unfolding iterationCount
-  iteration-order i j a b =
-      let es = extents sizes offsets in
-      rw (place-indices es i a, place-indices es j b) at (order-in es i j (indices-below es i a) (indices-below es j b))
+  unfolding iteration iterationCount allIterations
+  iteration-order i j a b = vector-order (allIterations sizes offsets) entry-each i j a b
+
+  pub iteration-once : (i j : ℕ) → i < iterationCount sizes offsets → j < iterationCount sizes offsets → iteration sizes offsets i ≡ iteration sizes offsets j → i ≡ j
+  unfolding iteration iterationCount allIterations
+  iteration-once i j a b e = vector-once (allIterations sizes offsets) entry-each i j a b e
 
   pub indices-rise : (i j : ℕ) → i < j → j < iterationCount sizes offsets → place sizes (indicesOf i) < place sizes (indicesOf j)
-  unfolding iterationCount
+  unfolding iterationCount count allIterations
   indices-rise i j l b =
       let es = extents sizes offsets in
       let a : i < product es = omega arith in
       ltb-true (place sizes (indicesOf i)) (place sizes (indicesOf j))
-      (sym (order-in sizes i j (extents-within sizes offsets (indicesOf i) (indices-below es i a)) (extents-within sizes offsets (indicesOf j) (indices-below es j b)))
-      ∙ iteration-order i j a b ∙ lt-ltb i j l)
+      (sym (order-in (allIterations sizes offsets) entry-each sizes i j (extents-within sizes offsets (indicesOf i) (indices-below es i a)) (extents-within sizes offsets (indicesOf j) (indices-below es j b)))
+      ∙ vector-order (allIterations sizes offsets) entry-each i j a b ∙ lt-ltb i j l)
 
   module _ (sized : Sized sizes offsets) (k : ℕ) (h : k < length offsets) where
     pub offset-at-least : AtLeast (lows sizes offsets) (getD offsets k [])
@@ -194,7 +231,7 @@ module _ (sizes : List ℕ) (offsets : List (List ℤ)) where
 
     -- The cell read is the offset counted from the lows and the iteration's indices, added up.
     pub cell-read : (j : ℕ) → plus (iteration sizes offsets j) (getD offsets k []) ≡ map pos (add (firstCell k) (indicesOf j))
-    unfolding iteration
+    unfolding iteration vector allIterations
     cell-read j = sum-of-entries (indicesOf j) offset-at-least
 
     pub position-read : (j : ℕ) → reads sizes offsets j k ≡ place sizes (add (firstCell k) (indicesOf j))
@@ -202,9 +239,9 @@ module _ (sizes : List ℕ) (offsets : List (List ℤ)) where
     position-read j = rw (cell-read j, natural-of-pos)
 
     pub first-below : (j : ℕ) → j < iterationCount sizes offsets → Below sizes (firstCell k)
-    unfolding iterationCount
+    unfolding iterationCount count allIterations
     first-below j b = stays-inside sizes offsets k (getD offsets k []) (indicesOf j) h refl (sized k h) (indices-below (extents sizes offsets) j b) .0
 
     pub read-below : (j : ℕ) → j < iterationCount sizes offsets → Below sizes (add (firstCell k) (indicesOf j))
-    unfolding iterationCount
+    unfolding iterationCount count allIterations
     read-below j b = stays-inside sizes offsets k (getD offsets k []) (indicesOf j) h refl (sized k h) (indices-below (extents sizes offsets) j b) .1

@@ -5,6 +5,8 @@ pub mod PlaceLaws
 pub mod WindowLaws
 pub mod IterationLaws
 pub mod Distances
+pub mod BoxLaws
+pub mod CourseLaws
 pub mod CellLaws
 pub mod Iterations
 pub mod SameWindows

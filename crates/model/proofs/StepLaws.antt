@@ -1,4 +1,4 @@
--- Laws of the three steps of planning (document 003, section 3.3), of every grid and window that 3 to 6 let pass.
+-- Laws of the three steps of planning (document 003, section 3.3), of every grid, window and box that 3 to 6 and 15 let pass.
 use Prim.Native.Nat.{ℕ, suc, _+_, _-_, _≤_, _<_}
 use mathlib.Core.Bool.{Bool, true}
 use mathlib.Core.List.{List, [], _++_}
@@ -9,12 +9,14 @@ use lib.IntN.{ℤ}
 use Rattle.model.specs.Lists.{tabulate, sum, any}
 use Rattle.model.specs.Vectors.{plus, before}
 use Rattle.model.specs.Geometry.{position, iterationCount, iteration, reads, distance}
+use Rattle.model.specs.Sized.{Fitting}
 use Rattle.model.specs.Values.{Trimmed, sizesOf, offsetsOf, onGrid, windowOf, capacityArray, filterArray, chainOf, blankChain}
-use Rattle.model.specs.Iterations.{iterationsOf, distanceOf}
+use Rattle.model.specs.Iterations.{distanceOf}
 use Rattle.model.specs.Answers.{firstOf, byVerdict}
 use Rattle.model.specs.Judging.{tooLarge, twice, badOrder, centred, windowChecks, kernelChecks, chainChecks, valueChecks, judged, judgeWindow, judgeBehind}
 use Rattle.model.specs.Steps.{falling, authorsOrder, sorted, distances, total, stepsOf, refusedSteps}
 use Rattle.model.specs.Planning.{trimmedRequest, judgeRequest, plannedChain, planOf, chainBy}
+use Rattle.model.specs.declared.Bounds.{Bounds}
 use Rattle.model.specs.declared.Grid.{Grid}
 use Rattle.model.specs.declared.Kernel.{Kernel}
 use Rattle.model.specs.declared.Planned.{Planned}
@@ -27,9 +29,10 @@ use Rattle.model.specs.declared.Window.{Window}
 use Rattle.model.proofs.ListLaws.{length-tabulate, getD-tabulate}
 use Rattle.model.proofs.Distances as window
 use Rattle.model.proofs.Iterations.{some-iteration}
+use Rattle.model.proofs.SameWindows.{fitting-too}
 use Rattle.model.proofs.SortLaws.{length-falling, falling-each, falling-no-other, sized-falling, falling-falls}
-use Rattle.model.proofs.ChainLaws.{offsets-count, offsets-sized, offsets-back, capacities-back}
-use Rattle.model.proofs.CheckLaws.{then-checks, both-pass, WindowPasses, window-passes, few-dims, few-references}
+use Rattle.model.proofs.ChainLaws.{offsets-count, offsets-sized, part-bounded, offsets-back, capacities-back}
+use Rattle.model.proofs.CheckLaws.{then-checks, both-pass, WindowPasses, window-passes, few-dims, some-references, few-references}
 
 -- 9 of the distances is 9 of their sum; a request has no order, so there is no 14.
 by-total : (k : Kernel) (centred : Bool) (n : ℕ) (t : Trimmed) → firstOf (kernelChecks k centred ++ chainChecks (distances t) n []) ≡ judgeBehind k centred (total t)
@@ -47,19 +50,6 @@ module _ (g : Grid) (w : Window) where
   abbrev arranged : List (List ℤ)
   arranged = falling given
 
-  -- What the steps answer, by what comes before them.
-  pub steps-verdict : stepsOf g w .verdict ≡ judgeWindow g w
-  unfolding stepsOf
-  steps-verdict = go (judgeWindow g w) refl
-    where
-      go : (v : Verdict) → judgeWindow g w ≡ v → stepsOf g w .verdict ≡ judgeWindow g w
-      go verdict.Accepted e = rw e
-      go (verdict.Refused x) e = rw e
-
-  pub steps-refused : (x : Refusal) → judgeWindow g w ≡ verdict.Refused x → stepsOf g w ≡ refusedSteps x
-  unfolding stepsOf
-  steps-refused x e = rw e
-
   pub arranged-count : length arranged ≡ w .count
   arranged-count = length-falling given ∙ offsets-count (g .dims) w
 
@@ -75,81 +65,110 @@ module _ (g : Grid) (w : Window) where
   reads-there j k =
       ap (λ (v : List ℤ). position sizes (plus v (getD arranged k []))) (sym (window.same-iteration sizes arranged given (falling-no-other given) (falling-each given) j))
 
-  module _ (e : judgeWindow g w ≡ verdict.Accepted) where
-    pub steps-taken : stepsOf g w ≡ (record {
-      verdict = verdict.Accepted;
-      window = windowOf (w .count) arranged;
-      filters = filterArray (authorsOrder given);
-      distances = capacityArray (distances (sorted (onGrid g w)));
-      total = total (sorted (onGrid g w));
-    })
-    unfolding stepsOf sorted
-    steps-taken = rw e
+  module _ (bounds : Bounds) where
+    -- What the steps answer, by what comes before them.
+    pub steps-verdict : stepsOf g w bounds .verdict ≡ judgeWindow g w bounds
+    unfolding stepsOf
+    steps-verdict = go (judgeWindow g w bounds) refl
+      where
+        go : (v : Verdict) → judgeWindow g w bounds ≡ v → stepsOf g w bounds .verdict ≡ judgeWindow g w bounds
+        go verdict.Accepted e = rw e
+        go (verdict.Refused x) e = rw e
 
-    pub passed : WindowPasses (onGrid g w)
-    passed = window-passes (onGrid g w) e
+    pub steps-refused : (x : Refusal) → judgeWindow g w bounds ≡ verdict.Refused x → stepsOf g w bounds ≡ refusedSteps x
+    unfolding stepsOf
+    steps-refused x e = rw e
 
-    few : w .count ≤ 32
-    few = few-references (w .count) (passed .count)
+    module _ (e : judgeWindow g w bounds ≡ verdict.Accepted) where
+      pub steps-taken : stepsOf g w bounds ≡ (record {
+        verdict = verdict.Accepted;
+        window = windowOf (w .count) arranged;
+        filters = filterArray (authorsOrder given);
+        distances = capacityArray (distances (sorted (onGrid g w bounds)));
+        total = total (sorted (onGrid g w bounds));
+      })
+      unfolding stepsOf sorted
+      steps-taken = rw e
 
-    -- The offsets: in their array they are those sorted, each strictly before the one in front of it.
-    pub arranged-back : offsetsOf (g .dims) (windowOf (w .count) arranged) ≡ arranged
-    unfolding sizesOf
-    arranged-back =
-        offsets-back (g .dims) (w .count) arranged arranged-count (λ k h. arranged-sized k h ∙ length-tabulate (g .dims) _)
-        (few-dims (g .dims) sizes (passed .grid)) few
+      pub passed : WindowPasses (onGrid g w bounds)
+      passed = window-passes (onGrid g w bounds) e
 
-    pub arranged-falls : (k : ℕ) → suc k < w .count → before (getD arranged (suc k) []) (getD arranged k []) ≡ true
-    arranged-falls k h = falling-falls sizes given (offsets-sized g w) (passed .distinct) k (omega (arith, arranged-count))
+      -- Window and box fit the grid, also with the offsets sorted.
+      given-fits : Fitting (onGrid g w bounds)
+      given-fits = record {
+        references = offsets-count (g .dims) w;
+        entries = offsets-sized g w;
+        bounded = part-bounded g bounds;
+        some = some-references (w .count) (passed .count);
+        fits = passed .fits;
+      }
 
-    -- The distances: in every iteration the first of a pair reads a later position than the second, by its distance.
-    pub reads-fall : (j k : ℕ) → j < iterationCount sizes given → suc k < w .count → reads sizes arranged j (suc k) < reads sizes arranged j k
-    reads-fall j k h b =
-        window.falls sizes arranged (λ i l. arranged-sized i (omega (arith, arranged-count))) j k (suc k) (omega (arith, same-iterations)) (omega (arith, arranged-count)) (omega (arith, arranged-count)) .0
-        (arranged-falls k b)
+      pub arranged-fits : Fitting (sorted (onGrid g w bounds))
+      unfolding sorted
+      arranged-fits =
+          fitting-too (onGrid g w bounds) (sorted (onGrid g w bounds)) refl (falling-each given) (falling-no-other given) refl given-fits arranged-count
+          (λ k h. arranged-sized k (omega (arith, arranged-count))) (part-bounded g bounds)
 
-    pub reads-apart : (j k : ℕ) → j < iterationCount sizes given → suc k < w .count
-        → reads sizes arranged j k ≡ reads sizes arranged j (suc k) + distance sizes arranged k
-    reads-apart j k h b =
-        omega (
-          arith,
-          reads-fall j k h b,
-          window.same-distance sizes arranged (λ i l. arranged-sized i (omega (arith, arranged-count))) j k (omega (arith, same-iterations)) (omega (arith, arranged-count)),
-        )
+      few : w .count ≤ 32
+      few = few-references (w .count) (passed .count)
 
-    pub some-given : 0 < iterationCount sizes given
-    unfolding iterationsOf
-    some-given = some-iteration (onGrid g w) (passed .iterates)
+      -- The offsets: in their array they are those sorted, each strictly before the one in front of it.
+      pub arranged-back : offsetsOf (g .dims) (windowOf (w .count) arranged) ≡ arranged
+      unfolding sizesOf
+      arranged-back =
+          offsets-back (g .dims) (w .count) arranged arranged-count (λ k h. arranged-sized k h ∙ length-tabulate (g .dims) _)
+          (few-dims (g .dims) sizes (passed .grid)) few
 
-    pub distance-there : (k : ℕ) → suc k < w .count → getD (capacityArray (distances (sorted (onGrid g w)))) k 0 ≡ distance sizes arranged k
-    unfolding distances distanceOf sorted
-    distance-there k h =
-        getD-tabulate 31 _ k 0 (omega (arith, few)) ∙ getD-tabulate (w .count - 1) (distance sizes arranged) k 0 (omega arith)
+      pub arranged-falls : (k : ℕ) → suc k < w .count → before (getD arranged (suc k) []) (getD arranged k []) ≡ true
+      arranged-falls k h = falling-falls sizes given (offsets-sized g w) (passed .distinct) k (omega (arith, arranged-count))
 
-    -- Their sum: that of as many as there are pairs.
-    pub distances-back : tabulate (w .count - 1) (λ k. getD (capacityArray (distances (sorted (onGrid g w)))) k 0) ≡ distances (sorted (onGrid g w))
-    unfolding distances sorted
-    distances-back = capacities-back (w .count - 1) (distances (sorted (onGrid g w))) (length-tabulate (w .count - 1) _) (omega (arith, few))
+      -- The distances: in every iteration the first of a pair reads a later position than the second, by its distance.
+      pub reads-fall : (j k : ℕ) → j < iterationCount sizes given → suc k < w .count → reads sizes arranged j (suc k) < reads sizes arranged j k
+      reads-fall j k h b =
+          window.falls sizes arranged (λ i l. arranged-sized i (omega (arith, arranged-count))) j k (suc k) (omega (arith, same-iterations)) (omega (arith, arranged-count)) (omega (arith, arranged-count)) .0
+          (arranged-falls k b)
+
+      pub reads-apart : (j k : ℕ) → j < iterationCount sizes given → suc k < w .count
+          → reads sizes arranged j k ≡ reads sizes arranged j (suc k) + distance sizes arranged k
+      reads-apart j k h b =
+          omega (
+            arith,
+            reads-fall j k h b,
+            window.same-distance sizes arranged (λ i l. arranged-sized i (omega (arith, arranged-count))) j k (omega (arith, same-iterations)) (omega (arith, arranged-count)),
+          )
+
+      pub some-given : 0 < iterationCount sizes given
+      some-given = some-iteration (onGrid g w bounds) (passed .iterates)
+
+      pub distance-there : (k : ℕ) → suc k < w .count → getD (capacityArray (distances (sorted (onGrid g w bounds)))) k 0 ≡ distance sizes arranged k
+      unfolding distances distanceOf sorted
+      distance-there k h =
+          getD-tabulate 31 _ k 0 (omega (arith, few)) ∙ getD-tabulate (w .count - 1) (distance sizes arranged) k 0 (omega arith)
+
+      -- Their sum: that of as many as there are pairs.
+      pub distances-back : tabulate (w .count - 1) (λ k. getD (capacityArray (distances (sorted (onGrid g w bounds)))) k 0) ≡ distances (sorted (onGrid g w bounds))
+      unfolding distances sorted
+      distances-back = capacities-back (w .count - 1) (distances (sorted (onGrid g w bounds))) (length-tabulate (w .count - 1) _) (omega (arith, few))
 
 -- A request is judged by what comes before the steps, then by 7 and 8, then by 9 of their total,
 module _ (r : Request) where
   abbrev steps : Steps
-  steps = stepsOf (r .grid) (r .window)
+  steps = stepsOf (r .grid) (r .window) (r .bounds)
 
   abbrev hasCentre : Bool
   hasCentre = centred (offsetsOf (r .grid .dims) (r .window))
 
   pub judged-by-steps : judgeRequest r ≡ byVerdict (steps .verdict) (judgeBehind (r .kernel) hasCentre (steps .total)) verdict.Refused
   unfolding judgeRequest judged valueChecks trimmedRequest windowChecks
-  judged-by-steps = then-checks (windowChecks (trimmedRequest r)) _ ∙ go (judgeWindow (r .grid) (r .window)) refl
+  judged-by-steps = then-checks (windowChecks (trimmedRequest r)) _ ∙ go (judgeWindow (r .grid) (r .window) (r .bounds)) refl
     where
-      go : (v : Verdict) → judgeWindow (r .grid) (r .window) ≡ v
-          → byVerdict (judgeWindow (r .grid) (r .window)) (firstOf (kernelChecks (r .kernel) hasCentre ++ chainChecks (distances (sorted (onGrid (r .grid) (r .window)))) (r .window .count) [])) verdict.Refused
+      go : (v : Verdict) → judgeWindow (r .grid) (r .window) (r .bounds) ≡ v
+          → byVerdict (judgeWindow (r .grid) (r .window) (r .bounds)) (firstOf (kernelChecks (r .kernel) hasCentre ++ chainChecks (distances (sorted (onGrid (r .grid) (r .window) (r .bounds)))) (r .window .count) [])) verdict.Refused
           ≡ byVerdict (steps .verdict) (judgeBehind (r .kernel) hasCentre (steps .total)) verdict.Refused
-      go verdict.Accepted e = rw (e, steps-taken (r .grid) (r .window) e) (by-total (r .kernel) hasCentre (r .window .count) (sorted (onGrid (r .grid) (r .window))))
-      go (verdict.Refused x) e = rw (e, steps-refused (r .grid) (r .window) x e)
+      go verdict.Accepted e = rw (e, steps-taken (r .grid) (r .window) (r .bounds) e) (by-total (r .kernel) hasCentre (r .window .count) (sorted (onGrid (r .grid) (r .window) (r .bounds))))
+      go (verdict.Refused x) e = rw (e, steps-refused (r .grid) (r .window) (r .bounds) x e)
 
-  pub request-passes : judgeRequest r ≡ verdict.Accepted → judgeWindow (r .grid) (r .window) ≡ verdict.Accepted
+  pub request-passes : judgeRequest r ≡ verdict.Accepted → judgeWindow (r .grid) (r .window) (r .bounds) ≡ verdict.Accepted
   unfolding judgeRequest judged valueChecks trimmedRequest windowChecks
   request-passes e = both-pass (windowChecks (trimmedRequest r)) _ e .0
 
@@ -162,7 +181,7 @@ module _ (r : Request) where
       go (verdict.Refused x) = refl
 
   -- and its chain is made of their results.
-  module _ (e : judgeWindow (r .grid) (r .window) ≡ verdict.Accepted) where
-    pub chain-by-steps : plannedChain r ≡ chainBy (r .grid) (r .kernel) steps
+  module _ (e : judgeWindow (r .grid) (r .window) (r .bounds) ≡ verdict.Accepted) where
+    pub chain-by-steps : plannedChain r ≡ chainBy (r .grid) (r .bounds) (r .kernel) steps
     unfolding plannedChain trimmedRequest sorted chainOf
-    chain-by-steps = rw (steps-taken (r .grid) (r .window) e)
+    chain-by-steps = rw (steps-taken (r .grid) (r .window) (r .bounds) e)

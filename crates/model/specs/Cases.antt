@@ -1,15 +1,17 @@
 -- Document 01, "Grids to try", 6 to 13, and its printed example: one table, computed.
-use Prim.Native.Nat.{ℕ, suc, _*_}
+use Prim.Native.Nat.{ℕ, zero, suc, _*_}
 use mathlib.Core.Bool.{Bool, false, cond}
 use mathlib.Core.List.{List, [], _∷_, map}
 use mathlib.Core.Path.{_≡_, refl}
 use lib.IntN.{ℤ, pos}
 use lib.ListN.{length, take, replicate}
-use Rattle.model.specs.Lists.{tabulate, upTo, sum, product, greatest, any}
+use Rattle.model.specs.Lists.{tabulate, upTo, sum, product, greatest, all, any, someBelow}
 use Rattle.model.specs.Vectors.{−1, same, above, plus, equal, before, isZero}
-use Rattle.model.specs.Geometry.{cellCount, place, natural, position, firstEntry, otherEntries, leastFrom, least, lows, extent, extents, iterationCount, indices, fromLows, iteration, reads, distance}
-use Rattle.model.specs.Values.{sizesOf, offsetOf, offsetsOf, capacitiesOf, orderOf, trimmed, chainOf, requestOf}
-use Rattle.model.specs.Iterations.{cellsOf, iterationsOf, readsOf, distanceOf}
+use Rattle.model.specs.Geometry.{cellCount, place, natural, position, inside, isIteration, firstEntry, otherEntries, leastFrom, least, lows, extent, extents, indices, countedFrom, count, vector, allIterations, iterationCount, iteration, reads, distance}
+use Rattle.model.specs.Boxes.{Part, indexCount, widths, boxCourse, course, crossed, readsOutside, badBox}
+use Rattle.model.specs.Boxes.Part.{whole, box}
+use Rattle.model.specs.Values.{sizesOf, offsetOf, offsetsOf, partOf, capacitiesOf, orderOf, trimmed, boundsOf, chainOf, requestOf}
+use Rattle.model.specs.Iterations.{cellsOf, positionOf, courseOf, iterationsOf, iterationOf, readsOf, distanceOf}
 use Rattle.model.specs.Answers.{numberOf, verdictNumber, outcomeCase, outcomeCounts, answerCounts, answerNumber, firstOf}
 use Rattle.model.specs.Judging.{badDims, badSizes, badGrid, badCount, repeats, noIteration, needsCentre, lacksCentre, notFinite, badFactor, tooLarge, twice, badOrder, windowChecks, kernelChecks, chainChecks, valueChecks, judged}
 use Rattle.model.specs.Steps.{insert, falling, whichOf, authorsOrder, distances, sorted}
@@ -24,18 +26,26 @@ use Rattle.model.specs.declared.Answer.{Answer}
 use Rattle.model.specs.declared.Answer.the-variants as answer
 use Rattle.model.specs.declared.Kernel.the-variants as kernel
 
--- A row of the table, with raw kernel.
+-- A row of the table, with raw kernel, and a run that covers all iterations or those of a box.
 pub data Case : Type 0 where
   -- Planned: the sizes and the offsets; the number, 0 for none, the offsets in the plan's order, the capacities and the author's order.
-  plans : List ℕ → List (List ℤ) → (number : ℕ) → List (List ℤ) → List ℕ → List ℕ → Case
+  plansIn : Part → List ℕ → List (List ℤ) → (number : ℕ) → List (List ℤ) → List ℕ → List ℕ → Case
   -- Run from a fresh state, lent all cells: the sizes, the offsets and the capacities as they stand; the outcome's place in the list of five, the cells taken, the
   -- clocks made, the clocks that fire, and the words written, where a cell's word is its position.
-  runs : List ℕ → List (List ℤ) → List ℕ → (outcome cells clocks : ℕ) → List ℕ → List ℕ → Case
+  runsIn : Part → List ℕ → List (List ℤ) → List ℕ → (outcome cells clocks : ℕ) → List ℕ → List ℕ → Case
+
+-- Without a box.
+abbrev plans : List ℕ → List (List ℤ) → (number : ℕ) → List (List ℤ) → List ℕ → List ℕ → Case
+plans = plansIn whole
+
+abbrev runs : List ℕ → List (List ℤ) → List ℕ → (outcome cells clocks : ℕ) → List ℕ → List ℕ → Case
+runs = runsIn whole
 
 -- What the definitions say of a row.
 pub record Result : Type 0 where
   pub number : ℕ
   pub offsets : List (List ℤ)
+  pub part : Part
   pub capacities : List ℕ
   pub order : List ℕ
   pub outcome : ℕ
@@ -53,22 +63,22 @@ endOf (answer.Ended o) = outcomeCase o
 endOf (answer.Refused r) = 5
 
 -- The raw chain of these sizes, offsets and capacities, without an order.
-abbrev rawChain : List ℕ → List (List ℤ) → List ℕ → Chain
-rawChain sizes offsets capacities =
-    chainOf (record { dims = length sizes; sizes = sizes; count = length offsets; offsets = offsets; capacities = capacities; ordered = false; order = []; kernel = kernel.Raw })
+abbrev rawChain : Part → List ℕ → List (List ℤ) → List ℕ → Chain
+rawChain part sizes offsets capacities =
+    chainOf (record { dims = length sizes; sizes = sizes; count = length offsets; offsets = offsets; part = part; capacities = capacities; ordered = false; order = []; kernel = kernel.Raw })
 
-unfoldable pub planned : List ℕ → List (List ℤ) → Result
-planned sizes offsets =
-    let p = planOf (requestOf (rawChain sizes offsets [])) in
+unfoldable pub planned : Part → List ℕ → List (List ℤ) → Result
+planned part sizes offsets =
+    let p = planOf (requestOf (rawChain part sizes offsets [])) in
     let t = trimmed (p .chain) in
-    record { number = verdictNumber (p .verdict); offsets = t .offsets; capacities = t .capacities; order = t .order; outcome = 0; cells = 0; clocks = 0; firing = []; words = [] }
+    record { number = verdictNumber (p .verdict); offsets = t .offsets; part = t .part; capacities = t .capacities; order = t .order; outcome = 0; cells = 0; clocks = 0; firing = []; words = [] }
 
 unfoldable pub start : State
 start = record { passed = replicate 32 (record { 0 = 0 }); fired = record { 0 = 0 } }
 
-unfoldable pub ran : List ℕ → List (List ℤ) → List ℕ → Result
-ran sizes offsets capacities =
-    let c = rawChain sizes offsets capacities in
+unfoldable pub ran : Part → List ℕ → List (List ℤ) → List ℕ → Result
+ran part sizes offsets capacities =
+    let c = rawChain part sizes offsets capacities in
     let t = trimmed c in
     let cells = cellCount sizes in
     let store : List ℕ = replicate (sum capacities) 0 in
@@ -80,6 +90,7 @@ ran sizes offsets capacities =
     record {
       number = answerNumber (r .answer);
       offsets = offsets;
+      part = part;
       capacities = capacities;
       order = [];
       outcome = endOf (r .answer);
@@ -90,14 +101,19 @@ ran sizes offsets capacities =
     }
 
 unfoldable pub answered : Case → Result
-answered (plans sizes offsets number arranged capacities order) = planned sizes offsets
-answered (runs sizes offsets capacities outcome cells clocks firing words) = ran sizes offsets capacities
+answered (plansIn part sizes offsets number arranged capacities order) = planned part sizes offsets
+answered (runsIn part sizes offsets capacities outcome cells clocks firing words) = ran part sizes offsets capacities
+
+-- A refusal hands back no box.
+unfoldable pub copied : (number : ℕ) → Part → Part
+copied zero part = part
+copied (suc n) part = whole
 
 unfoldable pub expected : Case → Result
-expected (plans sizes offsets number arranged capacities order) =
-    record { number = number; offsets = arranged; capacities = capacities; order = order; outcome = 0; cells = 0; clocks = 0; firing = []; words = [] }
-expected (runs sizes offsets capacities outcome cells clocks firing words) =
-    record { number = 0; offsets = offsets; capacities = capacities; order = []; outcome = outcome; cells = cells; clocks = clocks; firing = firing; words = words }
+expected (plansIn part sizes offsets number arranged capacities order) =
+    record { number = number; offsets = arranged; part = copied number part; capacities = capacities; order = order; outcome = 0; cells = 0; clocks = 0; firing = []; words = [] }
+expected (runsIn part sizes offsets capacities outcome cells clocks firing words) =
+    record { number = 0; offsets = offsets; part = part; capacities = capacities; order = []; outcome = outcome; cells = cells; clocks = clocks; firing = firing; words = words }
 
 -- The five-point cross: centre and its four neighbours, in falling order.
 unfoldable pub cross : List (List ℤ)
@@ -106,6 +122,10 @@ cross = (pos 1 ∷ pos 0 ∷ []) ∷ (pos 0 ∷ pos 1 ∷ []) ∷ (pos 0 ∷ pos
 -- The same, rows from the top.
 unfoldable pub crossByRows : List (List ℤ)
 crossByRows = (−1 ∷ pos 0 ∷ []) ∷ (pos 0 ∷ −1 ∷ []) ∷ (pos 0 ∷ pos 0 ∷ []) ∷ (pos 0 ∷ pos 1 ∷ []) ∷ (pos 1 ∷ pos 0 ∷ []) ∷ []
+
+-- A box of rows a to c and columns b to d.
+abbrev rowsAndColumns : (a b c d : ℕ) → Part
+rowsAndColumns a b c d = box (pos a ∷ pos b ∷ []) (pos c ∷ pos d ∷ [])
 
 unfoldable pub cases : List Case
 cases =
@@ -143,8 +163,18 @@ cases =
     ∷ plans (5 ∷ []) ((pos 0 ∷ []) ∷ (pos 2 ∷ []) ∷ (pos 1 ∷ []) ∷ []) 0 ((pos 2 ∷ []) ∷ (pos 1 ∷ []) ∷ (pos 0 ∷ []) ∷ []) (1 ∷ 1 ∷ []) (2 ∷ 0 ∷ 1 ∷ [])
     ∷ plans (4 ∷ 5 ∷ []) ((pos 0 ∷ pos 0 ∷ []) ∷ (pos 0 ∷ −1 ∷ []) ∷ (pos 0 ∷ pos 1 ∷ []) ∷ (−1 ∷ pos 0 ∷ []) ∷ (pos 1 ∷ pos 0 ∷ []) ∷ []) 0 cross (4 ∷ 1 ∷ 1 ∷ 4 ∷ [])
     (2 ∷ 3 ∷ 1 ∷ 4 ∷ 0 ∷ [])
+    -- Document 02, request 4, on case 6: row 1, columns 2 to 3, and rows 1 to 2, column 3. Planning copies the box.
+    ∷ plansIn (rowsAndColumns 1 2 1 3) (4 ∷ 5 ∷ []) crossByRows 0 cross (4 ∷ 1 ∷ 1 ∷ 4 ∷ []) (4 ∷ 3 ∷ 2 ∷ 1 ∷ 0 ∷ [])
+    ∷ runsIn (rowsAndColumns 1 2 1 3) (4 ∷ 5 ∷ []) cross (4 ∷ 1 ∷ 1 ∷ 4 ∷ []) 0 14 14 (12 ∷ 13 ∷ []) (12 ∷ 8 ∷ 7 ∷ 6 ∷ 2 ∷ 13 ∷ 9 ∷ 8 ∷ 7 ∷ 3 ∷ [])
+    ∷ runsIn (rowsAndColumns 1 3 2 3) (4 ∷ 5 ∷ []) cross (4 ∷ 1 ∷ 1 ∷ 4 ∷ []) 0 19 19 (13 ∷ 18 ∷ []) (13 ∷ 9 ∷ 8 ∷ 7 ∷ 3 ∷ 18 ∷ 14 ∷ 13 ∷ 12 ∷ 8 ∷ [])
+    -- a shorter FIFO stalls there too, before any firing; the full box, written, runs as none, and is copied
+    ∷ runsIn (rowsAndColumns 1 2 1 3) (4 ∷ 5 ∷ []) cross (3 ∷ 1 ∷ 1 ∷ 4 ∷ []) 3 11 11 [] []
+    ∷ plansIn (box (pos 0 ∷ []) (pos 1 ∷ [])) (5 ∷ []) ((pos 0 ∷ []) ∷ (pos 3 ∷ []) ∷ []) 0 ((pos 3 ∷ []) ∷ (pos 0 ∷ []) ∷ []) (3 ∷ []) (1 ∷ 0 ∷ [])
+    ∷ runsIn (box (pos 0 ∷ []) (pos 1 ∷ [])) (5 ∷ []) ((pos 3 ∷ []) ∷ (pos 0 ∷ []) ∷ []) (3 ∷ []) 0 5 5 (3 ∷ 4 ∷ []) (3 ∷ 0 ∷ 4 ∷ 1 ∷ [])
+    -- indices are entries of the vector, which may be negative: offsets 1 and 3 on 5 cells have iterations -1, 0 and 1
+    ∷ runsIn (box (−1 ∷ []) (pos 0 ∷ [])) (5 ∷ []) ((pos 3 ∷ []) ∷ (pos 1 ∷ []) ∷ []) (2 ∷ []) 0 4 4 (2 ∷ 3 ∷ []) (2 ∷ 0 ∷ 3 ∷ 1 ∷ [])
     ∷ []
 
 pub table : map answered cases ≡ map expected cases
-unfolding answered expected cases cross crossByRows planned ran start endOf firingClocks tabulate upTo sum product greatest any same above plus equal before isZero cellCount place natural position firstEntry otherEntries leastFrom least lows extent extents iterationCount indices fromLows iteration reads distance cellsOf iterationsOf readsOf distanceOf sizesOf offsetOf offsetsOf capacitiesOf orderOf trimmed chainOf numberOf verdictNumber outcomeCase outcomeCounts answerCounts answerNumber firstOf badDims badSizes badGrid badCount repeats noIteration needsCentre lacksCentre notFinite badFactor tooLarge twice badOrder windowChecks kernelChecks chainChecks valueChecks judged insert falling whichOf authorsOrder distances trimmedRequest judgeRequest sorted plannedChain planOf wordsAt terms written width centreOf turn limit turns ready fires next moves firstPlace placeIn presented stored layout countersOf withCounters outcomeOf words clocked look call events shortStore notPast badCounter badFifo badFilters badState judgeRun begun filtersOf termsOf writesOf writtenBy widthOf ended runTrimmed eventsTrimmed
+unfolding answered copied expected cases cross crossByRows planned ran start endOf firingClocks tabulate upTo sum product greatest all any someBelow same above plus equal before isZero cellCount place natural position firstEntry otherEntries leastFrom least lows extent extents indices countedFrom count vector allIterations iterationCount iteration reads inside isIteration indexCount widths boxCourse course crossed readsOutside badBox distance cellsOf positionOf courseOf iterationsOf iterationOf readsOf distanceOf sizesOf offsetOf offsetsOf partOf capacitiesOf orderOf trimmed chainOf boundsOf numberOf verdictNumber outcomeCase outcomeCounts answerCounts answerNumber firstOf badDims badSizes badGrid badCount repeats noIteration needsCentre lacksCentre notFinite badFactor tooLarge twice badOrder windowChecks kernelChecks chainChecks valueChecks judged insert falling whichOf authorsOrder distances trimmedRequest judgeRequest sorted plannedChain planOf wordsAt terms written width centreOf turn limit turns ready fires next moves firstPlace placeIn presented stored layout countersOf withCounters outcomeOf words clocked look call events shortStore notPast badCounter badFifo badFilters badState judgeRun begun filtersOf termsOf writesOf writtenBy widthOf ended runTrimmed eventsTrimmed
 table = refl

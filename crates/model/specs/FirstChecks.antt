@@ -47,11 +47,11 @@ unfoldable pub valueConditions : Trimmed → List Bool
 valueConditions t = conditionsOf (valueChecks t)
 
 abbrev pub valueNumbers : List ℕ
-valueNumbers = 3 ∷ 4 ∷ 5 ∷ 6 ∷ 7 ∷ 8 ∷ 9 ∷ 14 ∷ []
+valueNumbers = 3 ∷ 4 ∷ 5 ∷ 6 ∷ 15 ∷ 7 ∷ 8 ∷ 9 ∷ 14 ∷ []
 
 pub record FirstChecks : Type 0 where
   pub checks : (cs : List Check) → AnswersFirst (numbersOf cs) (conditionsOf cs) (firstOf cs)
-  -- "A chain or request handed over as a value is judged by 3 to 9, lowest first"; "14 .. after 9"
+  -- "A chain or request handed over as a value is judged by 3 to 9, lowest first"; "14 .. after 9", "15 .. after 6"
   pub chain : (c : Chain) → AnswersFirst valueNumbers (valueConditions (trimmed c)) (judgeChain c)
   pub request : (r : Request) → AnswersFirst valueNumbers (valueConditions (trimmedRequest r)) (judgeRequest r)
   -- "A run looks at the chain first, then 10, then 11."

@@ -4,9 +4,9 @@ use mathlib.Core.Bool.{Bool, true, false, cond, _&&_}
 use mathlib.Core.List.{List, [], _∷_, map}
 use lib.Dec.{eqb}
 use lib.ListN.{length, getD}
-use lib.IntN.{ℤ, pos, negsuc, _-ℤ_}
+use lib.IntN.{ℤ, pos, negsuc, negℤ, _+ℤ_}
 use lib.Signed.{ltZ, leZ}
-use Rattle.model.specs.Lists.{tabulate, product, greatest, all}
+use Rattle.model.specs.Lists.{product, greatest, all}
 use Rattle.model.specs.Vectors.{above, plus}
 
 -- "Its cells are .. streamed in lexicographic order, last index fastest": how many there are.
@@ -70,33 +70,45 @@ unfoldable pub extents : List ℕ → List (List ℤ) → List ℕ
 extents [] offsets = []
 extents (s ∷ ss) offsets = extent s (map firstEntry offsets) ∷ extents ss (map otherEntries offsets)
 
--- How many iterations there are.
-unfoldable pub iterationCount : List ℕ → List (List ℤ) → ℕ
-iterationCount sizes offsets = product (extents sizes offsets)
-
--- Number j in a box of these extents, last index fastest: its indices, each from 0.
+-- Number j in a box of these widths, last index fastest: its indices, each from 0.
 unfoldable pub indices : List ℕ → ℕ → List ℕ
 indices [] j = []
 indices (e ∷ es) j = (j / product es) ∷ indices es (j % product es)
 
--- Indices counted from the first iteration, which lies at the negated lows.
-unfoldable pub fromLows : List ℕ → List ℤ → List ℤ
-fromLows [] ls = []
-fromLows (u ∷ us) [] = []
-fromLows (u ∷ us) (l ∷ ls) = (pos u -ℤ l) ∷ fromLows us ls
+-- Indices counted from a vector.
+unfoldable pub countedFrom : List ℤ → List ℕ → List ℤ
+countedFrom xs [] = []
+countedFrom [] (u ∷ us) = []
+countedFrom (x ∷ xs) (u ∷ us) = (pos u +ℤ x) ∷ countedFrom xs us
 
--- Iteration j. "Iterations go in lexicographic order."
+-- The course of a run, in lexicographic order: its first iteration, and how many indices its iterations have in each dimension.
+pub record Course : Type 0 where
+  pub first : List ℤ
+  pub widths : List ℕ
+
+-- How many iterations a course has, and which vector is number j.
+unfoldable pub count : Course → ℕ
+count c = product (c .widths)
+
+unfoldable pub vector : Course → ℕ → List ℤ
+vector c j = countedFrom (c .first) (indices (c .widths) j)
+
+-- All iterations: the first lies at the negated lows.
+unfoldable pub allIterations : List ℕ → List (List ℤ) → Course
+allIterations sizes offsets = record { first = map negℤ (lows sizes offsets); widths = extents sizes offsets }
+
+-- How many there are.
+unfoldable pub iterationCount : List ℕ → List (List ℤ) → ℕ
+iterationCount sizes offsets = count (allIterations sizes offsets)
+
+-- Iteration j of all. "Iterations go in lexicographic order."
 unfoldable pub iteration : List ℕ → List (List ℤ) → ℕ → List ℤ
-iteration sizes offsets j = fromLows (indices (extents sizes offsets) j) (lows sizes offsets)
+iteration sizes offsets j = vector (allIterations sizes offsets) j
 
--- The position that reference k reads in iteration j.
+-- The position that reference k reads in iteration j of all.
 unfoldable pub reads : List ℕ → List (List ℤ) → (j k : ℕ) → ℕ
 reads sizes offsets j k = position sizes (plus (iteration sizes offsets j) (getD offsets k []))
 
 -- "the reuse distance: the position read by reference k less that read by reference k+1 in one iteration"
 unfoldable pub distance : List ℕ → List (List ℤ) → ℕ → ℕ
 distance sizes offsets k = reads sizes offsets 0 k - reads sizes offsets 0 (suc k)
-
--- "An iteration's newest cell is the one of highest position that its references read."
-unfoldable pub newest : List ℕ → List (List ℤ) → ℕ → ℕ
-newest sizes offsets j = greatest (tabulate (length offsets) (λ k. reads sizes offsets j k))

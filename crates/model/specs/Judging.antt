@@ -1,4 +1,4 @@
--- Judging a request or a chain as a value (document 01, "Turned back on account of the input", 3 to 9; document 02, request 2, 14).
+-- Judging a request or a chain as a value (document 01, "Turned back on account of the input", 3 to 9; document 02, requests 2 and 4, 14 and 15).
 use Prim.Native.Nat.{ℕ}
 use mathlib.Core.Bool.{Bool, true, false, not, _&&_, _||_}
 use mathlib.Core.List.{List, [], _∷_, _++_}
@@ -8,8 +8,10 @@ use lib.Ieee.{Float, nan, inf, fin}
 use Rattle.model.specs.Lists.{sum, any}
 use Rattle.model.specs.Vectors.{equal, isZero}
 use Rattle.model.specs.Geometry.{cellCount, iterationCount}
+use Rattle.model.specs.Boxes.{badBox}
 use Rattle.model.specs.Values.{Trimmed, trimmed, onGrid}
 use Rattle.model.specs.Answers.{Check, check, firstOf}
+use Rattle.model.specs.declared.Bounds.{Bounds}
 use Rattle.model.specs.declared.Chain.{Chain}
 use Rattle.model.specs.declared.Grid.{Grid}
 use Rattle.model.specs.declared.Kernel.{Kernel}
@@ -85,18 +87,19 @@ twice (k ∷ ks) = any (λ l. eqb k l) ks || twice ks
 unfoldable pub badOrder : (n : ℕ) (order : List ℕ) → Bool
 badOrder n order = any (λ k. leb n k) order || twice order
 
--- The checks of a value, in groups: 3 to 6, of a window on a grid,
+-- The checks of a value, in groups: 3 to 6, of a window on a grid, and "15 .. after 6", of its box,
 unfoldable pub windowChecks : Trimmed → List Check
 windowChecks t =
     check (badGrid (t .dims) (t .sizes)) refusal.BadGrid
     ∷ check (badCount (t .count)) refusal.BadCount
     ∷ check (repeats (t .offsets)) refusal.EqualOffsets
     ∷ check (noIteration (t .sizes) (t .offsets)) refusal.NoIteration
+    ∷ check (badBox (t .sizes) (t .offsets) (t .part)) refusal.BadBox
     ∷ []
 
 -- (what they answer by themselves)
-abbrev pub judgeWindow : Grid → Window → Verdict
-judgeWindow g w = firstOf (windowChecks (onGrid g w))
+abbrev pub judgeWindow : Grid → Window → Bounds → Verdict
+judgeWindow g w b = firstOf (windowChecks (onGrid g w b))
 
 -- 7 and 8, of a kernel, where the window has a centre or has none,
 unfoldable pub kernelChecks : Kernel → (centred : Bool) → List Check
@@ -110,11 +113,11 @@ chainChecks capacities n order = check (tooLarge capacities) refusal.TooLarge �
 unfoldable pub valueChecks : Trimmed → List Check
 valueChecks t = windowChecks t ++ (kernelChecks (t .kernel) (centred (t .offsets)) ++ chainChecks (t .capacities) (t .count) (t .order))
 
--- The first of 3 to 9 and 14 whose condition holds.
+-- The first of these numbers whose condition holds.
 unfoldable pub judged : Trimmed → Verdict
 judged t = firstOf (valueChecks t)
 
--- The first of 7, 8 and 9, where 3 to 6 let pass and the sum of the capacities is known.
+-- The first of 7, 8 and 9, where 3 to 6 and 15 let pass and the sum of the capacities is known.
 unfoldable pub judgeBehind : Kernel → (centred : Bool) → (total : ℕ) → Verdict
 judgeBehind k centred total = firstOf (kernelChecks k centred ++ (check (ltb mostPlaces total) refusal.TooLarge ∷ []))
 

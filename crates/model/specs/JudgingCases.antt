@@ -1,24 +1,27 @@
--- Chains and requests handed over as values, judged (document 01, "Turned back on account of the input", 3 to 9; document 02, request 2, 14): one table, computed.
+-- Chains and requests handed over as values, judged (document 01, "Turned back on account of the input", 3 to 9; document 02, requests 2 and 4, 14 and 15): one table, computed.
 use Prim.Native.Nat.{ℕ}
 use mathlib.Core.Bool.{Bool, true, false}
 use mathlib.Core.List.{List, [], _∷_, map, flatMap}
 use mathlib.Core.Path.{_≡_, refl}
 use lib.IntN.{ℤ, pos, negsuc}
 use lib.Ieee.{ofBits}
-use Rattle.model.specs.Lists.{tabulate, sum, product, greatest, any}
+use Rattle.model.specs.Lists.{tabulate, sum, product, greatest, all, any, someBelow}
 use Rattle.model.specs.Vectors.{same, above, plus, equal, before, isZero}
-use Rattle.model.specs.Geometry.{cellCount, place, natural, position, firstEntry, otherEntries, leastFrom, least, lows, extent, extents, iterationCount, indices, fromLows, iteration, reads, distance}
-use Rattle.model.specs.Values.{sizesOf, offsetOf, offsetsOf, capacitiesOf, orderOf, trimmed, requestOf}
+use Rattle.model.specs.Geometry.{cellCount, place, natural, position, inside, isIteration, firstEntry, otherEntries, leastFrom, least, lows, extent, extents, indices, countedFrom, count, vector, allIterations, iterationCount, iteration, reads, distance}
+use Rattle.model.specs.Boxes.{indexCount, widths, boxCourse, course, crossed, readsOutside, badBox}
+use Rattle.model.specs.Values.{sizesOf, offsetOf, offsetsOf, partOf, capacitiesOf, orderOf, trimmed, noBounds, noOrder, requestOf}
 use Rattle.model.specs.Iterations.{distanceOf}
 use Rattle.model.specs.Answers.{numberOf, verdictNumber, firstOf}
 use Rattle.model.specs.Judging.{badDims, badSizes, badGrid, badCount, repeats, noIteration, needsCentre, lacksCentre, notFinite, badFactor, tooLarge, twice, badOrder, windowChecks, kernelChecks, chainChecks, valueChecks, judged, judgeChain}
 use Rattle.model.specs.Steps.{insert, falling, whichOf, authorsOrder, sorted, distances}
 use Rattle.model.specs.Planning.{trimmedRequest, judgeRequest}
 use Rattle.model.specs.Kernels.{float}
+use Rattle.model.specs.declared.Bounds.{Bounds}
 use Rattle.model.specs.declared.Chain.{Chain}
 use Rattle.model.specs.declared.Grid.{Grid}
 use Rattle.model.specs.declared.Kernel.{Kernel}
 use Rattle.model.specs.declared.Kernel.the-variants as kernel
+use Rattle.model.specs.declared.Order.{Order}
 
 -- The number that turns a chain back, and the one that turns back the request which the chain without its capacities is; 0 for none.
 pub record Numbers : Type 0 where
@@ -35,18 +38,27 @@ answered c = record { chain = verdictNumber (judgeChain (c .value)); request = v
 unfoldable pub expected : Case → Numbers
 expected c = c .numbers
 
--- With an order, whose line stood or did not; and without one.
-abbrev ordered : (stood : Bool) → Grid → (count : ℕ) (offsets : List ℤ) (capacities filters : List ℕ) → Kernel → (chain request : ℕ) → Case
-ordered stood g count offsets capacities filters k chain request = record {
+-- A value with bounds and an order.
+abbrev valued : Grid → (count : ℕ) (offsets : List ℤ) → Bounds → (capacities : List ℕ) → Order → Kernel → (chain request : ℕ) → Case
+valued g count offsets b capacities o k chain request = record {
   value = record {
     grid = g;
     window = record { count = count; offsets = flatMap (λ (x : ℤ). let offset : List ℤ = x ∷ pos 0 ∷ pos 0 ∷ pos 0 ∷ [] in offset) offsets };
+    bounds = b;
     capacities = capacities;
-    order = record { stood = stood; filters = filters };
+    order = o;
     kernel = k;
   };
   numbers = record { chain = chain; request = request };
 }
+
+-- With an order, whose line stood or did not; with bounds, likewise; and without both.
+abbrev ordered : (stood : Bool) → Grid → (count : ℕ) (offsets : List ℤ) (capacities filters : List ℕ) → Kernel → (chain request : ℕ) → Case
+ordered stood g count offsets capacities filters k chain request = valued g count offsets noBounds capacities (record { stood = stood; filters = filters }) k chain request
+
+abbrev bounded : (stood : Bool) (lowest highest : List ℤ) → Grid → (count : ℕ) (offsets : List ℤ) (capacities : List ℕ) → Kernel → (chain request : ℕ) → Case
+bounded stood lowest highest g count offsets capacities k chain request =
+    valued g count offsets (record { stood = stood; lowest = lowest; highest = highest }) capacities noOrder k chain request
 
 abbrev case : Grid → (count : ℕ) (offsets : List ℤ) (capacities : List ℕ) → Kernel → (chain request : ℕ) → Case
 case g count offsets capacities k chain request = ordered false g count offsets capacities [] k chain request
@@ -121,12 +133,36 @@ cases =
     ∷ ordered true (line 5) 3 (pos 2 ∷ pos 1 ∷ pos 0 ∷ []) (16384 ∷ 1 ∷ []) (0 ∷ 0 ∷ 0 ∷ []) kernel.Raw 9 0
     ∷ ordered true (line 5) 2 (pos 2 ∷ pos 1 ∷ []) (1 ∷ []) (0 ∷ 0 ∷ []) kernel.Difference 7 7
     ∷ ordered true (line 5) 1 (pos 0 ∷ []) [] (1 ∷ []) (scaledBy 0x7F800000) 8 8
+    -- 15: on 5 cells the offsets 3 and 0 have the iterations 0 and 1: both, and one of them
+    ∷ bounded true (pos 0 ∷ []) (pos 1 ∷ []) (line 5) 2 (pos 3 ∷ pos 0 ∷ []) (3 ∷ []) kernel.Raw 0 0
+    ∷ bounded true (pos 1 ∷ []) (pos 1 ∷ []) (line 5) 2 (pos 3 ∷ pos 0 ∷ []) (3 ∷ []) kernel.Raw 0 0
+    -- "a lowest above its highest"; "an iteration of the box that reads outside the grid": behind the last, before the first, and a box without any iteration
+    ∷ bounded true (pos 1 ∷ []) (pos 0 ∷ []) (line 5) 2 (pos 3 ∷ pos 0 ∷ []) (3 ∷ []) kernel.Raw 15 15
+    ∷ bounded true (pos 0 ∷ []) (pos 2 ∷ []) (line 5) 2 (pos 3 ∷ pos 0 ∷ []) (3 ∷ []) kernel.Raw 15 15
+    ∷ bounded true (negsuc 0 ∷ []) (pos 1 ∷ []) (line 5) 2 (pos 3 ∷ pos 0 ∷ []) (3 ∷ []) kernel.Raw 15 15
+    ∷ bounded true (pos 7 ∷ []) (pos 9 ∷ []) (line 5) 2 (pos 3 ∷ pos 0 ∷ []) (3 ∷ []) kernel.Raw 15 15
+    -- in one dimension of two, the second
+    ∷ bounded true (pos 0 ∷ pos 0 ∷ []) (pos 1 ∷ pos 3 ∷ []) (grid 2 (5 ∷ 4 ∷ [])) 2 (pos 3 ∷ pos 0 ∷ []) (12 ∷ []) kernel.Raw 0 0
+    ∷ bounded true (pos 0 ∷ pos 0 ∷ []) (pos 1 ∷ pos 4 ∷ []) (grid 2 (5 ∷ 4 ∷ [])) 2 (pos 3 ∷ pos 0 ∷ []) (12 ∷ []) kernel.Raw 15 15
+    -- "4 bytes each, signed": the least and the greatest number
+    ∷ bounded true (negsuc 2147483647 ∷ []) (negsuc 2147483647 ∷ []) (line 5) 2 (pos 3 ∷ pos 0 ∷ []) (3 ∷ []) kernel.Raw 15 15
+    ∷ bounded true (pos 2147483647 ∷ []) (pos 2147483647 ∷ []) (line 5) 2 (pos 3 ∷ pos 0 ∷ []) (3 ∷ []) kernel.Raw 15 15
+    ∷ bounded true (pos 2147483647 ∷ []) (negsuc 2147483647 ∷ []) (line 5) 2 (pos 3 ∷ pos 0 ∷ []) (3 ∷ []) kernel.Raw 15 15
+    ∷ bounded true (negsuc 2147483647 ∷ []) (pos 2147483647 ∷ []) (line 5) 2 (pos 3 ∷ pos 0 ∷ []) (3 ∷ []) kernel.Raw 15 15
+    -- after 6, which is of window and grid alone, and before 7, 8 and 9
+    ∷ bounded true (pos 1 ∷ []) (pos 0 ∷ []) (line 2) 2 (pos 1 ∷ negsuc 0 ∷ []) (2 ∷ []) kernel.Raw 6 6
+    ∷ bounded true (pos 0 ∷ []) (pos 9 ∷ []) (line 5) 2 (pos 2 ∷ pos 1 ∷ []) (1 ∷ []) kernel.Difference 15 15
+    ∷ bounded true (pos 0 ∷ []) (pos 9 ∷ []) (line 5) 1 (pos 0 ∷ []) [] (scaledBy 0x7F800000) 15 15
+    ∷ bounded true (pos 0 ∷ []) (pos 20000 ∷ []) (line 20000) 2 (pos 16385 ∷ pos 0 ∷ []) (16385 ∷ []) kernel.Raw 15 15
+    -- of an absent line never, and entries past the dimensions play no part
+    ∷ bounded false (pos 9 ∷ []) (pos 8 ∷ []) (line 5) 2 (pos 3 ∷ pos 0 ∷ []) (3 ∷ []) kernel.Raw 0 0
+    ∷ bounded true (pos 0 ∷ pos 9 ∷ []) (pos 1 ∷ pos 8 ∷ []) (line 5) 2 (pos 3 ∷ pos 0 ∷ []) (3 ∷ []) kernel.Raw 0 0
     ∷ []
 
 pub table : map answered cases ≡ map expected cases
-unfolding answered expected cases flatMap ofBits tabulate sum product greatest any same above plus equal before isZero
-    cellCount place natural position firstEntry otherEntries leastFrom least lows extent extents iterationCount indices fromLows iteration reads distance distanceOf
-    sizesOf offsetOf offsetsOf capacitiesOf orderOf trimmed numberOf verdictNumber firstOf
+unfolding answered expected cases flatMap ofBits tabulate sum product greatest all any someBelow same above plus equal before isZero
+    cellCount place natural position firstEntry otherEntries leastFrom least lows extent extents indices countedFrom count vector allIterations iterationCount iteration reads inside isIteration indexCount widths boxCourse course crossed readsOutside badBox distance distanceOf
+    sizesOf offsetOf offsetsOf partOf capacitiesOf orderOf trimmed numberOf verdictNumber firstOf
     badDims badSizes badGrid badCount repeats noIteration needsCentre lacksCentre notFinite badFactor tooLarge twice badOrder windowChecks kernelChecks chainChecks valueChecks judged judgeChain
     insert falling whichOf authorsOrder sorted distances trimmedRequest judgeRequest
 table = refl

@@ -8,6 +8,7 @@ use lib.ListN.{length}
 use lib.Ieee.{ofBits, toBits, add, sub, mul}
 use Rattle.model.specs.Lists.{tabulate, upTo, without}
 use Rattle.model.specs.Vectors.{same, isZero}
+use Rattle.model.specs.Boxes.Part.{whole}
 use Rattle.model.specs.Values.{Trimmed}
 use Rattle.model.specs.Kernels.{float, sumFrom, sumOf, centreOf, wordsAt, terms, squared, difference, scaled, blend, written}
 use Rattle.model.specs.Running.{filtersOf, termsOf, writesOf, writtenBy}
@@ -41,6 +42,7 @@ chain c = record {
   sizes = 8 ∷ [];
   count = length (c .offsets);
   offsets = map (λ (x : ℤ). let offset : List ℤ = x ∷ [] in offset) (c .offsets);
+  part = whole;
   capacities = [];
   ordered = c .ordered;
   order = c .order;

@@ -1,6 +1,7 @@
 pub mod Lists
 pub mod Vectors
 pub mod Geometry
+pub mod Boxes
 pub mod Sized
 pub mod Windows
 pub mod Values

@@ -38,3 +38,8 @@ all p (x ∷ xs) = p x && all p xs
 unfoldable pub any : {A : Type 0} → (A → Bool) → List A → Bool
 any p [] = false
 any p (x ∷ xs) = p x || any p xs
+
+-- Some number below n passes the test.
+unfoldable pub someBelow : ℕ → (ℕ → Bool) → Bool
+someBelow zero p = false
+someBelow (suc n) p = let fewer = someBelow n p in p n || fewer

@@ -22,10 +22,17 @@ halfBytes w = w / 256 ∷ w % 256 ∷ []
 unfoldable pub wordBytes : ℕ → List ℕ
 wordBytes w = w / 16777216 ∷ w / 65536 % 256 ∷ w / 256 % 256 ∷ w % 256 ∷ []
 
--- "two's complement", in 16 bits
+-- "two's complement", in 16 bits, and in 32
 unfoldable pub signed : ℕ → ℤ
 signed w = cond (ltb w 32768) (pos w) (negsuc (65535 - w))
 
 unfoldable pub pattern : ℤ → ℕ
 pattern (pos n) = n
 pattern (negsuc n) = 65535 - n
+
+unfoldable pub signedWord : ℕ → ℤ
+signedWord w = cond (ltb w 2147483648) (pos w) (negsuc (4294967295 - w))
+
+unfoldable pub wordPattern : ℤ → ℕ
+wordPattern (pos n) = n
+wordPattern (negsuc n) = 4294967295 - n

@@ -5,12 +5,13 @@ use mathlib.Core.Path.{_≡_, refl}
 use mathlib.Core.Bool.{Bool, true, _&&_}
 use mathlib.Core.List.{List, [], _∷_, flatMap}
 use lib.Ieee.{ofBits, toBits, add, sub, mul}
-use Rattle.model.specs.Lists.{tabulate, upTo, without, sum, product, greatest, all, any}
+use Rattle.model.specs.Lists.{tabulate, upTo, without, sum, product, greatest, all, any, someBelow}
 use Rattle.model.specs.Vectors.{same, above, plus, equal, before, isZero}
 use Rattle.model.specs.Geometry.{cellCount, place, natural, position, firstEntry, otherEntries, leastFrom, least, lows, extent, extents, iterationCount}
-use Rattle.model.specs.Geometry.{indices, fromLows, iteration, reads, distance}
-use Rattle.model.specs.Values.{sizesOf, offsetOf, offsetsOf, capacitiesOf, orderOf, trimmed, chainOf}
-use Rattle.model.specs.Iterations.{cellsOf, iterationsOf, readsOf, distanceOf}
+use Rattle.model.specs.Geometry.{inside, isIteration, indices, countedFrom, count, vector, allIterations, iteration, reads, distance}
+use Rattle.model.specs.Boxes.{indexCount, widths, boxCourse, course, crossed, readsOutside, badBox}
+use Rattle.model.specs.Values.{sizesOf, offsetOf, offsetsOf, partOf, capacitiesOf, orderOf, trimmed, boundsOf, chainOf}
+use Rattle.model.specs.Iterations.{cellsOf, positionOf, courseOf, iterationsOf, iterationOf, readsOf, distanceOf}
 use Rattle.model.specs.Answers.{numberOf, verdictNumber, firstOf}
 use Rattle.model.specs.Judging.{badDims, badSizes, badGrid, badCount, repeats, noIteration, needsCentre, lacksCentre, notFinite, badFactor, tooLarge, twice, badOrder, windowChecks, kernelChecks, chainChecks, valueChecks, judged, judgeChain}
 use Rattle.model.specs.Steps.{insert, falling, whichOf, authorsOrder, distances, sorted}
@@ -21,12 +22,12 @@ use Rattle.model.specs.Store.{firstPlace, placeIn, presented, stored}
 use Rattle.model.specs.Running.{layout, words, clocked, look, call, filtersOf, termsOf, writesOf, writtenBy, widthOf}
 use Rattle.model.specs.Lines.{linesOf}
 use Rattle.model.specs.Frames.{isDigit, valueOf, digitOf, whole, bytesOf, digitsOf, framed, padded}
-use Rattle.model.specs.Numbers.{halfAt, wordAt, halfBytes, wordBytes, signed, pattern}
+use Rattle.model.specs.Numbers.{halfAt, wordAt, halfBytes, wordBytes, signed, pattern, signedWord, wordPattern}
 use Rattle.model.specs.Reading.{badKernel, badForm, malformed, nextInRequest, nextInChain, miscounted, among, misplaced, badLength, sizesIn, lineChecks, lineVerdict}
 use Rattle.model.specs.NamedWindows.{windows, isName, namedOf, badName, withReferences, windowNamed}
-use Rattle.model.specs.Reading.{withGrid, entriesIn, withOffset, withName, withCapacity, filtersIn, withOrder, kernelIn, withKernel, taken, stepOf, closes, complete, readLines, endVerdict}
+use Rattle.model.specs.Reading.{withGrid, entriesIn, withOffset, withName, lowestIn, highestIn, withBox, withCapacity, filtersIn, withOrder, kernelIn, withKernel, taken, stepOf, closes, complete, readLines, endVerdict}
 use Rattle.model.specs.Reading.{readRequest, cellVerdict}
-use Rattle.model.specs.Writing.{gridLine, offsetLine, capacityLine, orderLines, kernelLine, chainLines, sheetOf}
+use Rattle.model.specs.Writing.{gridLine, offsetLine, indexPair, boxLines, capacityLine, orderLines, kernelLine, chainLines, sheetOf}
 use Rattle.model.specs.Programs.{firingLine, endLine, refusalLine, firingsText, planText, sheetAndBehind, cellsIn, behindCells, wholeRun, runText}
 use Rattle.model.specs.SheetCases.{bytesIn, five, plane, printed, sameBytes}
 
@@ -51,6 +52,11 @@ plans =
     ∷ listing (plane ++ "0701\n0400\n")
     (plane ++ "0200010000\n0200000001\n0200000000\n020000FFFF\n02FFFF0000\n0300000004\n0300000001\n0300000001\n0300000004\n060001020304\n0400\n")
     ∷ listing (plane ++ "0704\n0400\n") "1F0D\n"
+    -- a box is copied as it is written, also the full one; 15
+    ∷ listing (plane ++ "0701\n0800000001000000010000000200000003\n0400\n")
+    (plane ++ "0200010000\n0200000001\n0200000000\n020000FFFF\n02FFFF0000\n0800000001000000010000000200000003\n0300000004\n0300000001\n0300000001\n0300000004\n060001020304\n0400\n")
+    ∷ listing (five ++ "020000\n020003\n080000000000000001\n0400\n") (five ++ "020003\n020000\n080000000000000001\n0300000003\n060100\n0400\n")
+    ∷ listing (five ++ "020000\n020003\n080000000000000002\n0400\n") "1F0F\n"
     ∷ []
 
 -- Document 01's two firings, and the first of them.
@@ -81,6 +87,10 @@ squares = "010100000004\n020003\n020002\n020001\n020000\n0300000001\n0300000001\
 abbrev pub apart : String
 apart = "0500000000\n0545800000\n053F800000\n053F800000\n"
 
+-- Document 01's chain up to what stands behind its `02` lines.
+abbrev pub boxed : String
+boxed = five ++ "020003\n020000\n"
+
 unfoldable pub runs : List Listing
 runs =
     -- document 01's; a line after the last firing is not looked at
@@ -109,6 +119,10 @@ runs =
     ∷ listing (squares ++ "0603000102\n0400\n" ++ apart) "10000000003F8000003F8000004580000000000000\n110000000004\n"
     ∷ listing (squares ++ "0603000103\n0400\nx") "1F0E\n"
     ∷ listing (printed ++ "0600\n") "1F02\n"
+    -- a box: its iteration 1 alone, which is number 0 of the run; and iteration 0, after which no cell is looked at
+    ∷ listing (boxed ++ "080000000100000001\n0300000003\n0400\n" ++ four ++ "0500000005\n") "10000000000000000500000002\n110000000005\n"
+    ∷ listing (boxed ++ "080000000000000000\n0300000003\n0400\n" ++ four ++ "x") (firing ++ "110000000004\n")
+    ∷ listing (boxed ++ "080000000100000002\n0300000003\n0400\nx") "1F0F\n"
     -- a sum of no terms
     ∷ listing "010100000001\n020000\n0401\n05FFFFFFFF\n" "100000000000000000\n110000000001\n"
     ∷ []
@@ -121,17 +135,17 @@ runRight l = sameBytes (runText (bytesIn (l .input))) (bytesIn (l .output))
 
 pub table : (all planRight plans && all runRight runs) ≡ true
 unfolding bytesIn plans runs sameBytes planRight runRight flatMap ofBits toBits add sub mul
-    tabulate upTo without sum product greatest all any same above plus equal before isZero
-    cellCount place natural position firstEntry otherEntries leastFrom least lows extent extents iterationCount indices fromLows iteration reads distance cellsOf iterationsOf readsOf distanceOf
-    sizesOf offsetOf offsetsOf capacitiesOf orderOf chainOf numberOf verdictNumber firstOf
+    tabulate upTo without sum product greatest all any someBelow same above plus equal before isZero
+    cellCount place natural position firstEntry otherEntries leastFrom least lows extent extents indices countedFrom count vector allIterations iterationCount iteration reads inside isIteration indexCount widths boxCourse course crossed readsOutside badBox distance cellsOf positionOf courseOf iterationsOf iterationOf readsOf distanceOf
+    sizesOf offsetOf offsetsOf partOf capacitiesOf orderOf chainOf boundsOf numberOf verdictNumber firstOf
     badDims badSizes badGrid badCount repeats noIteration needsCentre lacksCentre notFinite badFactor tooLarge twice badOrder windowChecks kernelChecks chainChecks valueChecks judged judgeChain
     insert falling whichOf authorsOrder distances trimmedRequest judgeRequest sorted trimmed plannedChain
     sumFrom sumOf centreOf wordsAt terms squared difference scaled blend written width
     fresh ready fires turn limit turns next moves firstPlace placeIn presented stored
     layout words clocked look call filtersOf termsOf writesOf writtenBy widthOf
-    linesOf isDigit valueOf digitOf whole bytesOf digitsOf framed padded halfAt wordAt halfBytes wordBytes signed pattern
+    linesOf isDigit valueOf digitOf whole bytesOf digitsOf framed padded halfAt wordAt halfBytes wordBytes signed pattern signedWord wordPattern
     badKernel badForm malformed nextInRequest nextInChain miscounted among misplaced badLength sizesIn lineChecks lineVerdict
-    windows isName namedOf badName withReferences windowNamed withGrid entriesIn withOffset withName withCapacity filtersIn withOrder kernelIn withKernel taken stepOf closes complete readLines endVerdict readRequest cellVerdict
-    gridLine offsetLine capacityLine orderLines kernelLine chainLines sheetOf
+    windows isName namedOf badName withReferences windowNamed withGrid entriesIn withOffset withName lowestIn highestIn withBox withCapacity filtersIn withOrder kernelIn withKernel taken stepOf closes complete readLines endVerdict readRequest cellVerdict
+    gridLine offsetLine indexPair boxLines capacityLine orderLines kernelLine chainLines sheetOf
     firingLine endLine refusalLine firingsText planText sheetAndBehind cellsIn behindCells wholeRun runText
 table = refl

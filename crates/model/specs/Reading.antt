@@ -1,4 +1,4 @@
--- Reading a sheet line by line (document 01, "Lines of the sheet", "Turned back on account of the input"; document 02, requests 1 and 2).
+-- Reading a sheet line by line (document 01, "Lines of the sheet", "Turned back on account of the input"; document 02, requests 1, 2 and 4).
 use Prim.Native.Nat.{ℕ, _+_, _*_}
 use mathlib.Core.Bool.{Bool, true, false, cond, not, _&&_}
 use mathlib.Core.List.{List, [], _∷_}
@@ -18,13 +18,13 @@ use Rattle.model.specs.declared.LineStep.{LineStep}
 use Rattle.model.specs.declared.ReadChain.{ReadChain}
 use Rattle.model.specs.declared.ReadRequest.{ReadRequest}
 use Rattle.model.specs.Lists.{tabulate, any}
-use Rattle.model.specs.Values.{withReference, blankChain, requestOf, setGrid, setWindow, setCapacities, setOrder, setKernel}
+use Rattle.model.specs.Values.{withReference, blankChain, requestOf, setGrid, setWindow, setBounds, setCapacities, setOrder, setKernel}
 use Rattle.model.specs.Answers.{Check, check, firstOf, byVerdict}
 use Rattle.model.specs.Judging.{badDims, badSizes, judgeChain}
 use Rattle.model.specs.Planning.{judgeRequest}
 use Rattle.model.specs.Lines.{Line, linesOf}
 use Rattle.model.specs.Frames.{Seen, seenOf}
-use Rattle.model.specs.Numbers.{byteAt, halfAt, wordAt, signed}
+use Rattle.model.specs.Numbers.{byteAt, halfAt, wordAt, signed, signedWord}
 use Rattle.model.specs.NamedWindows.{badName, windowNamed}
 
 -- The first byte, which says what kind of line it is; and the second: the dimension count of an `01` line, the kernel byte of an `04` line, the name of an `07` line.
@@ -52,18 +52,21 @@ badForm len kind second =
     (cond (eqb kind 5) (not (eqb len 5))
     (cond (eqb kind 6) false
     (cond (eqb kind 7) (not (eqb len 2))
-    true))))))
+    (cond (eqb kind 8) false
+    true)))))))
 
 -- 1, before the order of lines: no sound frame, an empty line, or a bad form.
 unfoldable pub malformed : (sound : Bool) (len kind second : ℕ) → Bool
 malformed sound len kind second = cond sound (cond (eqb len 0) true (badForm len kind second)) true
 
--- What may come next, by what stood last: "A request sheet is one `01`, one or more `02`, one `04`."; "A line `07` with one byte may stand for all `02` lines".
+-- What may come next, by what stood last: "A request sheet is one `01`, one or more `02`, one `04`."; "A line `07` with one byte may stand for all `02` lines"; "a line
+-- `08` just after the last `02` or the `07`".
 unfoldable pub nextInRequest : Last → List ℕ
 nextInRequest stood.Nothing = 1 ∷ []
 nextInRequest stood.Grid = 2 ∷ 7 ∷ []
-nextInRequest stood.Offset = 2 ∷ 4 ∷ []
-nextInRequest stood.Name = 4 ∷ []
+nextInRequest stood.Offset = 2 ∷ 8 ∷ 4 ∷ []
+nextInRequest stood.Name = 8 ∷ 4 ∷ []
+nextInRequest stood.Box = 4 ∷ []
 nextInRequest stood.Capacity = []
 nextInRequest stood.Order = []
 nextInRequest stood.Kernel = []
@@ -72,8 +75,9 @@ nextInRequest stood.Kernel = []
 unfoldable pub nextInChain : Last → List ℕ
 nextInChain stood.Nothing = 1 ∷ []
 nextInChain stood.Grid = 2 ∷ []
-nextInChain stood.Offset = 2 ∷ 3 ∷ 6 ∷ 4 ∷ []
+nextInChain stood.Offset = 2 ∷ 8 ∷ 3 ∷ 6 ∷ 4 ∷ []
 nextInChain stood.Name = []
+nextInChain stood.Box = 3 ∷ 6 ∷ 4 ∷ []
 nextInChain stood.Capacity = 3 ∷ 6 ∷ 4 ∷ []
 nextInChain stood.Order = 4 ∷ []
 nextInChain stood.Kernel = []
@@ -96,13 +100,14 @@ misplaced chainSheet last given count kind =
     (cond (among kind (nextInChain last)) (miscounted given count kind) true)
     (not (among kind (nextInRequest last)))
 
--- 1: a length other than the one that the dimension count sets, for an `02` line that of the `01` line read before; or, for an `06` line, the `02` lines read before.
+-- 1: a length other than the one that the dimension count sets, for an `02` or `08` line that of the `01` line read before; or, for an `06` line, the `02` lines read before.
 unfoldable pub badLength : (len kind second dims count : ℕ) → Bool
 badLength len kind second dims count =
     cond (eqb kind 1) (not (eqb len (2 + 4 * second)))
     (cond (eqb kind 2) (not (eqb len (1 + 2 * dims)))
     (cond (eqb kind 6) (not (eqb len (1 + count)))
-    false))
+    (cond (eqb kind 8) (not (eqb len (1 + 8 * dims)))
+    false)))
 
 -- The sizes on an `01` line with the bytes x, 0 past its end.
 unfoldable pub sizesIn : List ℕ → List ℕ
@@ -147,6 +152,18 @@ unfoldable pub withName : Reading → List ℕ → Reading
 withName r x =
     record { last = stood.Name; given = r .given; chain = setWindow (windowNamed (byteAt x 1)) (r .chain) }
 
+-- The lowest and the highest indices on an `08` line, 0 past its end.
+unfoldable pub lowestIn : List ℕ → List ℤ
+lowestIn x = signedWord (wordAt x 1) ∷ signedWord (wordAt x 9) ∷ signedWord (wordAt x 17) ∷ signedWord (wordAt x 25) ∷ []
+
+unfoldable pub highestIn : List ℕ → List ℤ
+highestIn x = signedWord (wordAt x 5) ∷ signedWord (wordAt x 13) ∷ signedWord (wordAt x 21) ∷ signedWord (wordAt x 29) ∷ []
+
+-- An `08` line: the box.
+unfoldable pub withBox : Reading → List ℕ → Reading
+withBox r x =
+    record { last = stood.Box; given = r .given; chain = setBounds (record { stood = true; lowest = lowestIn x; highest = highestIn x }) (r .chain) }
+
 -- An `03` line: the next FIFO's capacity.
 unfoldable pub withCapacity : Reading → List ℕ → Reading
 withCapacity r x =
@@ -184,7 +201,8 @@ taken r x =
     (cond (eqb kind 3) (withCapacity r x)
     (cond (eqb kind 6) (withOrder r x)
     (cond (eqb kind 7) (withName r x)
-    (withKernel r x)))))
+    (cond (eqb kind 8) (withBox r x)
+    (withKernel r x))))))
 
 -- One line, read.
 unfoldable pub stepOf : (chainSheet : Bool) → Reading → Seen → LineStep
@@ -202,6 +220,7 @@ closes stood.Nothing = false
 closes stood.Grid = false
 closes stood.Offset = false
 closes stood.Name = false
+closes stood.Box = false
 closes stood.Capacity = false
 closes stood.Order = false
 closes stood.Kernel = true
@@ -217,7 +236,7 @@ readLines chainSheet r (l ∷ ls) =
     let rest = readLines chainSheet (s .reading) ls in
     byVerdict (s .verdict) rest (λ x. s)
 
--- After the last line: 2 where one is "missing at the end"; then 5 to 9 and 14, by judging the value that was read, of which 3 and 4 hold no more.
+-- After the last line: 2 where one is "missing at the end"; then 5 to 9, 14 and 15, by judging the value that was read, of which 3 and 4 hold no more.
 unfoldable pub endVerdict : LineStep → (judged : Verdict) → Verdict
 endVerdict s judged =
     let atEnd = cond (complete (s .reading)) judged (verdict.Refused refusal.Misplaced) in

@@ -5,11 +5,12 @@ use mathlib.Core.List.{List, [], _∷_, _++_, map, flatMap}
 use mathlib.Core.Path.{_≡_, refl}
 use lib.IntN.{ℤ, pos}
 use lib.ListN.{length}
-use Rattle.model.specs.Lists.{tabulate, upTo, sum, product, greatest, any}
+use Rattle.model.specs.Lists.{tabulate, upTo, sum, product, greatest, all, any, someBelow}
 use Rattle.model.specs.Vectors.{same, above, plus, equal, isZero}
-use Rattle.model.specs.Geometry.{cellCount, place, natural, position, firstEntry, otherEntries, leastFrom, least, lows, extent, extents, iterationCount, indices, fromLows, iteration, reads}
-use Rattle.model.specs.Values.{sizesOf, offsetOf, offsetsOf, capacitiesOf, orderOf, trimmed}
-use Rattle.model.specs.Iterations.{cellsOf, iterationsOf, readsOf}
+use Rattle.model.specs.Geometry.{cellCount, place, natural, position, inside, isIteration, firstEntry, otherEntries, leastFrom, least, lows, extent, extents, indices, countedFrom, count, vector, allIterations, iterationCount, iteration, reads}
+use Rattle.model.specs.Boxes.{indexCount, widths, boxCourse, course, crossed, readsOutside, badBox}
+use Rattle.model.specs.Values.{sizesOf, offsetOf, offsetsOf, partOf, capacitiesOf, orderOf, trimmed}
+use Rattle.model.specs.Iterations.{cellsOf, positionOf, courseOf, iterationsOf, iterationOf, readsOf}
 use Rattle.model.specs.Answers.{firstOf}
 use Rattle.model.specs.Judging.{badDims, badSizes, badGrid, badCount, repeats, noIteration, needsCentre, lacksCentre, badFactor, tooLarge, twice, badOrder, windowChecks, kernelChecks, chainChecks, valueChecks}
 use Rattle.model.specs.Kernels.{wordsAt, terms, written, width, centreOf}
@@ -43,12 +44,13 @@ answered c = runOf (c .chain) (c .state) (c .store) (c .lent) (c .output) (c .al
 unfoldable pub expected : Case → Run
 expected c = c .leaves
 
--- A raw chain in one dimension: its size, offsets and capacities. What stands past the counts would be turned back by 3 or 9 if it played a part, and its order, whose line is
--- absent, by 14.
+-- A raw chain in one dimension: its size, offsets and capacities. What stands past the counts would be turned back by 3 or 9 if it played a part, and its box and its order,
+-- whose lines are absent, by 15 and 14.
 abbrev chain : ℕ → List ℤ → List ℕ → Chain
 chain size offsets capacities = record {
   grid = record { dims = 1; sizes = size ∷ 0 ∷ 0 ∷ 0 ∷ [] };
   window = record { count = length offsets; offsets = flatMap (λ (x : ℤ). let offset : List ℤ = x ∷ x ∷ x ∷ x ∷ [] in offset) offsets };
+  bounds = record { stood = false; lowest = pos 9 ∷ []; highest = pos 8 ∷ [] };
   capacities = capacities ++ (99999 ∷ []);
   order = record { stood = false; filters = 99 ∷ 99 ∷ [] };
   kernel = kernel.Raw;
@@ -172,9 +174,9 @@ AsExpected cases = map answered cases ≡ map expected cases
 
 pub table : AsExpected places × AsExpected looks × AsExpected refusals
 unfolding answered expected places looks refusals flatMap
-    tabulate upTo sum product greatest any same above plus equal isZero
-    cellCount place natural position firstEntry otherEntries leastFrom least lows extent extents iterationCount indices fromLows iteration reads cellsOf iterationsOf readsOf
-    sizesOf offsetOf offsetsOf capacitiesOf orderOf trimmed firstOf
+    tabulate upTo sum product greatest all any someBelow same above plus equal isZero
+    cellCount place natural position firstEntry otherEntries leastFrom least lows extent extents indices countedFrom count vector allIterations iterationCount iteration reads inside isIteration indexCount widths boxCourse course crossed readsOutside badBox cellsOf positionOf courseOf iterationsOf iterationOf readsOf
+    sizesOf offsetOf offsetsOf partOf capacitiesOf orderOf trimmed firstOf
     badDims badSizes badGrid badCount repeats noIteration needsCentre lacksCentre badFactor tooLarge twice badOrder windowChecks kernelChecks chainChecks valueChecks
     wordsAt terms written width centreOf turn limit turns ready fires next moves firstPlace placeIn presented stored
     layout countersOf withCounters outcomeOf words clocked look call shortStore notPast badCounter badFifo badFilters badState judgeRun begun filtersOf termsOf writesOf writtenBy widthOf ended runTrimmed runOf

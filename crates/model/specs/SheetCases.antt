@@ -10,11 +10,12 @@ use lib.Dec.{eqb}
 use lib.ListN.{length, take, drop, replicate}
 use lib.Ieee.{ofBits, toBits}
 use Rattle.model.specs.declared.Chain.{Chain}
-use Rattle.model.specs.Lists.{tabulate, sum, product, greatest, all, any}
+use Rattle.model.specs.Lists.{tabulate, upTo, sum, product, greatest, all, any, someBelow}
 use Rattle.model.specs.Vectors.{same, above, plus, equal, before, isZero}
 use Rattle.model.specs.Geometry.{cellCount, place, natural, position, firstEntry, otherEntries, leastFrom, least, lows, extent, extents, iterationCount}
-use Rattle.model.specs.Geometry.{indices, fromLows, iteration, reads, distance}
-use Rattle.model.specs.Values.{sizesOf, offsetOf, offsetsOf, capacitiesOf, orderOf, trimmed, blankChain}
+use Rattle.model.specs.Geometry.{inside, isIteration, indices, countedFrom, count, vector, allIterations, iteration, reads, distance}
+use Rattle.model.specs.Boxes.{indexCount, widths, boxCourse, course, crossed, readsOutside, badBox}
+use Rattle.model.specs.Values.{sizesOf, offsetOf, offsetsOf, partOf, capacitiesOf, orderOf, trimmed, blankChain}
 use Rattle.model.specs.Iterations.{distanceOf}
 use Rattle.model.specs.Answers.{numberOf, verdictNumber, firstOf, byVerdict}
 use Rattle.model.specs.Judging.{badDims, badSizes, badGrid, badCount, repeats, noIteration, needsCentre, lacksCentre, notFinite, badFactor, tooLarge, twice, badOrder, windowChecks, kernelChecks, chainChecks, valueChecks, judged, judgeChain}
@@ -22,12 +23,12 @@ use Rattle.model.specs.Steps.{insert, falling, whichOf, authorsOrder, so
 use Rattle.model.specs.Planning.{trimmedRequest, judgeRequest}
 use Rattle.model.specs.Lines.{linesOf}
 use Rattle.model.specs.Frames.{isDigit, valueOf, digitOf, whole, bytesOf, digitsOf, framed, padded, seenOf}
-use Rattle.model.specs.Numbers.{halfAt, wordAt, halfBytes, wordBytes, signed, pattern}
+use Rattle.model.specs.Numbers.{halfAt, wordAt, halfBytes, wordBytes, signed, pattern, signedWord, wordPattern}
 use Rattle.model.specs.Reading.{badKernel, badForm, malformed, nextInRequest, nextInChain, miscounted, among, misplaced, badLength, sizesIn, lineChecks, lineVerdict}
 use Rattle.model.specs.NamedWindows.{windows, isName, namedOf, badName, withReferences, windowNamed}
-use Rattle.model.specs.Reading.{withGrid, entriesIn, withOffset, withName, withCapacity, filtersIn, withOrder, kernelIn, withKernel, taken, stepOf, closes, complete, readLines, endVerdict}
+use Rattle.model.specs.Reading.{withGrid, entriesIn, withOffset, withName, lowestIn, highestIn, withBox, withCapacity, filtersIn, withOrder, kernelIn, withKernel, taken, stepOf, closes, complete, readLines, endVerdict}
 use Rattle.model.specs.Reading.{readChain, readRequest, cellVerdict}
-use Rattle.model.specs.Writing.{gridLine, offsetLine, capacityLine, orderLines, kernelLine, chainLines, sheetOf, writeVerdict, writeOf}
+use Rattle.model.specs.Writing.{gridLine, offsetLine, indexPair, boxLines, capacityLine, orderLines, kernelLine, chainLines, sheetOf, writeVerdict, writeOf}
 
 -- A text's characters, as bytes.
 unfoldable pub bytesIn : String → List ℕ
@@ -181,6 +182,39 @@ requests =
     ∷ case (five ++ "020000\n0400\n0600\n") 2
     ∷ case ("06" ++ (times 60 "00" ++ "\n")) 2
     ∷ case "060\n" 1
+    -- an `08` line: behind the last `02` or the `07`; of all iterations; of a negative one
+    ∷ case (plane ++ "0701\n0800000001000000010000000200000003\n0400\n") 0
+    ∷ case (five ++ "020000\n020003\n080000000000000001\n0400\n") 0
+    ∷ case (five ++ "020001\n020003\n08FFFFFFFF00000000\n0400\n") 0
+    -- its place, at any length, but the frame first: first, behind the `01`, another, the `04`
+    ∷ case "08\n" 2
+    ∷ case ("08" ++ (times 60 "00" ++ "\n")) 2
+    ∷ case "080\n" 1
+    ∷ case (five ++ "080000000000000004\n") 2
+    ∷ case (five ++ "020000\n080000000000000004\n08\n") 2
+    ∷ case (five ++ "020000\n0400\n08\n") 2
+    -- what stands behind it: an `02`, an `07`, an `03`, nothing
+    ∷ case (five ++ "020000\n080000000000000004\n020001\n") 2
+    ∷ case (plane ++ "0200000000\n0800000000000000030000000000000004\n0701\n") 2
+    ∷ case (five ++ "020000\n080000000000000004\n0300000001\n") 2
+    ∷ case (five ++ "020000\n080000000000000004\n") 2
+    -- then its length, by the grid's dimensions
+    ∷ case (five ++ "020000\n08\n0400\n") 1
+    ∷ case (five ++ "020000\n0800000000000000\n0400\n") 1
+    ∷ case (five ++ "020000\n08000000000000000400\n0400\n") 1
+    ∷ case (plane ++ "0701\n080000000100000001\n0400\n") 1
+    -- 15 at the end: one past the last iteration, one before the first, a lowest above its highest, the least and the greatest number
+    ∷ case (five ++ "020000\n080000000000000005\n0400\n") 15
+    ∷ case (five ++ "020000\n08FFFFFFFF00000004\n0400\n") 15
+    ∷ case (five ++ "020000\n080000000300000002\n0400\n") 15
+    ∷ case (five ++ "020000\n088000000080000000\n0400\n") 15
+    ∷ case (five ++ "020000\n087FFFFFFF7FFFFFFF\n0400\n") 15
+    ∷ case (five ++ "020000\n08800000007FFFFFFF\n0400\n") 15
+    -- after a fault further down, after 5 and 6, before 7
+    ∷ case (five ++ "020000\n080000000000000005\n0404\n") 1
+    ∷ case (five ++ "020000\n020000\n080000000000000005\n0400\n") 5
+    ∷ case "010100000002\n02FFFF\n020001\n080000000100000000\n0400\n" 6
+    ∷ case (five ++ "020001\n080000000000000009\n0401\n") 15
     ∷ []
 
 unfoldable pub chains : List Case
@@ -245,6 +279,23 @@ chains =
     ∷ case (five ++ "020003\n020000\n0300000003\n060000\n0404\n") 1
     ∷ case (five ++ "020000\n020000\n0300000003\n060000\n0400\n") 5
     ∷ case (five ++ "020003\n020000\n0300004001\n060000\n0400\n") 9
+    -- an `08` line: before the `03` lines, the `06` or the `04`; of four dimensions
+    ∷ case (five ++ "020003\n020000\n080000000000000001\n0300000003\n0400\n") 0
+    ∷ case (five ++ "020000\n08FFFFFFFF00000004\n0400\n") 15
+    ∷ case (five ++ "020000\n080000000200000003\n0400\n") 0
+    ∷ case (five ++ "020000\n080000000200000003\n0600\n0400\n") 0
+    ∷ case "010400000002000000020000000200000005\n02000100000000FFFF\n020000000000000003\n080000000000000000000000000000000100000001000000010000000100000001\n0300000001\n060100\n0400\n" 0
+    -- its place: behind an `03`, behind the `06`, twice; an `02` behind it; then its length
+    ∷ case (five ++ "020003\n020000\n0300000003\n080000000000000001\n0400\n") 2
+    ∷ case (five ++ "020000\n0600\n080000000000000001\n0400\n") 2
+    ∷ case (five ++ "020000\n080000000200000003\n080000000200000003\n0400\n") 2
+    ∷ case (five ++ "020003\n080000000000000001\n020000\n0300000003\n0400\n") 2
+    ∷ case (five ++ "020003\n020000\n0800000001\n0300000003\n0400\n") 1
+    -- the order of FIFOs and `06` as without it
+    ∷ case (five ++ "020003\n020000\n080000000000000001\n0400\n") 2
+    ∷ case (five ++ "020003\n020000\n080000000000000001\n060100\n") 2
+    -- 15 before 9 and 14
+    ∷ case (five ++ "020003\n020000\n080000000000000002\n0300004001\n060000\n0400\n") 15
     ∷ []
 
 -- Lines where a cell is wanted.
@@ -261,6 +312,8 @@ cells =
     ∷ case "07\n" 1
     ∷ case "0600\n" 2
     ∷ case "06\n" 2
+    ∷ case "0800\n" 2
+    ∷ case "08\n" 2
     ∷ []
 
 unfoldable pub sameBytes : List ℕ → List ℕ → Bool
@@ -303,13 +356,13 @@ blankRight =
 
 pub table : (all requestRight requests && (all chainRight chains && (all cellRight cells && blankRight))) ≡ true
 unfolding bytesIn times requests chains cells sameBytes requestRight writesBack chainRight cellRight blankRight flatMap ofBits toBits
-    tabulate sum product greatest all any same above plus equal before isZero
-    cellCount place natural position firstEntry otherEntries leastFrom least lows extent extents iterationCount indices fromLows iteration reads distance distanceOf
-    sizesOf offsetOf offsetsOf capacitiesOf orderOf numberOf verdictNumber firstOf
+    tabulate upTo sum product greatest all any someBelow same above plus equal before isZero
+    cellCount place natural position firstEntry otherEntries leastFrom least lows extent extents indices countedFrom count vector allIterations iterationCount iteration reads inside isIteration indexCount widths boxCourse course crossed readsOutside badBox distance distanceOf
+    sizesOf offsetOf offsetsOf partOf capacitiesOf orderOf numberOf verdictNumber firstOf
     badDims badSizes badGrid badCount repeats noIteration needsCentre lacksCentre notFinite badFactor tooLarge twice badOrder windowChecks kernelChecks chainChecks valueChecks judged judgeChain
     insert falling whichOf authorsOrder sorted distances trimmedRequest judgeRequest trimmed
-    linesOf isDigit valueOf digitOf whole bytesOf digitsOf framed padded halfAt wordAt halfBytes wordBytes signed pattern
+    linesOf isDigit valueOf digitOf whole bytesOf digitsOf framed padded halfAt wordAt halfBytes wordBytes signed pattern signedWord wordPattern
     badKernel badForm malformed nextInRequest nextInChain miscounted among misplaced badLength sizesIn lineChecks lineVerdict
-    windows isName namedOf badName withReferences windowNamed withGrid entriesIn withOffset withName withCapacity filtersIn withOrder kernelIn withKernel taken stepOf closes complete readLines endVerdict readChain readRequest cellVerdict
-    gridLine offsetLine capacityLine orderLines kernelLine chainLines sheetOf writeVerdict writeOf
+    windows isName namedOf badName withReferences windowNamed withGrid entriesIn withOffset withName lowestIn highestIn withBox withCapacity filtersIn withOrder kernelIn withKernel taken stepOf closes complete readLines endVerdict readChain readRequest cellVerdict
+    gridLine offsetLine indexPair boxLines capacityLine orderLines kernelLine chainLines sheetOf writeVerdict writeOf
 table = refl

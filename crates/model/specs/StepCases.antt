@@ -5,10 +5,12 @@ use mathlib.Core.Path.{_≡_, refl}
 use lib.IntN.{ℤ, pos}
 use lib.Ieee.{ofBits}
 use lib.ListN.{length, getD}
-use Rattle.model.specs.Lists.{tabulate, sum, product, greatest, any}
+use Rattle.model.specs.Lists.{tabulate, sum, product, greatest, all, any, someBelow}
 use Rattle.model.specs.Vectors.{−1, same, above, plus, equal, before, isZero}
-use Rattle.model.specs.Geometry.{cellCount, place, natural, position, firstEntry, otherEntries, leastFrom, least, lows, extent, extents, iterationCount, indices, fromLows, iteration, reads, distance}
-use Rattle.model.specs.Values.{sizesOf, offsetOf, offsetsOf, windowOf}
+use Rattle.model.specs.Geometry.{cellCount, place, natural, position, inside, isIteration, firstEntry, otherEntries, leastFrom, least, lows, extent, extents, indices, countedFrom, count, vector, allIterations, iterationCount, iteration, reads, distance}
+use Rattle.model.specs.Boxes.{Part, indexCount, widths, boxCourse, course, crossed, readsOutside, badBox}
+use Rattle.model.specs.Boxes.Part.{whole, box}
+use Rattle.model.specs.Values.{sizesOf, offsetOf, offsetsOf, partOf, windowOf, boundsOf}
 use Rattle.model.specs.Iterations.{distanceOf}
 use Rattle.model.specs.Answers.{numberOf, verdictNumber, firstOf}
 use Rattle.model.specs.Judging.{badDims, badSizes, badGrid, badCount, repeats, noIteration, needsCentre, lacksCentre, notFinite, badFactor, tooLarge, twice, badOrder, windowChecks, kernelChecks, chainChecks, valueChecks, judged}
@@ -32,6 +34,7 @@ pub record Results : Type 0 where
 pub record Case : Type 0 where
   pub sizes : List ℕ
   pub given : List (List ℤ)
+  pub part : Part
   pub kernel : Kernel
   pub request : ℕ
   pub results : Results
@@ -44,9 +47,9 @@ unfoldable pub answered : Case → Answers
 answered c =
     let g : Grid = record { dims = length (c .sizes); sizes = c .sizes } in
     let w : Window = windowOf (length (c .given)) (c .given) in
-    let s = stepsOf g w in
+    let s = stepsOf g w (boundsOf (c .part)) in
     record {
-      request = verdictNumber (judgeRequest (record { grid = g; window = w; kernel = c .kernel }));
+      request = verdictNumber (judgeRequest (record { grid = g; window = w; bounds = boundsOf (c .part); kernel = c .kernel }));
       results = record {
         number = verdictNumber (s .verdict);
         offsets = offsetsOf (g .dims) (s .window);
@@ -63,19 +66,24 @@ abbrev case : List ℕ → List (List ℤ) → Kernel → (request : ℕ) → Li
 case sizes given k request offsets filters distances total = record {
   sizes = sizes;
   given = given;
+  part = whole;
   kernel = k;
   request = request;
   results = record { number = 0; offsets = offsets; filters = filters; distances = distances; total = total };
 }
 
-abbrev refused : List ℕ → List (List ℤ) → (number : ℕ) → Case
-refused sizes given number = record {
+abbrev refusedIn : Part → List ℕ → List (List ℤ) → (number : ℕ) → Case
+refusedIn part sizes given number = record {
   sizes = sizes;
   given = given;
+  part = part;
   kernel = kernel.Raw;
   request = number;
   results = record { number = number; offsets = []; filters = []; distances = []; total = 0 };
 }
+
+abbrev refused : List ℕ → List (List ℤ) → (number : ℕ) → Case
+refused = refusedIn whole
 
 -- An offset in one dimension and in two.
 abbrev at : ℤ → List ℤ
@@ -98,17 +106,20 @@ cases =
     ∷ case (9 ∷ []) (at (pos 1) ∷ at (pos 4) ∷ []) (kernel.Scaled (float 0x7F800000)) 8 (at (pos 4) ∷ at (pos 1) ∷ []) (1 ∷ 0 ∷ []) (3 ∷ []) 3
     ∷ case (40000 ∷ []) (at (pos 0) ∷ at (pos 30000) ∷ at (pos 10000) ∷ []) kernel.Raw 9 (at (pos 30000) ∷ at (pos 10000) ∷ at (pos 0) ∷ []) (2 ∷ 0 ∷ 1 ∷ []) (20000 ∷ 10000 ∷ []) 30000
     ∷ case (20000 ∷ []) (at (pos 0) ∷ at (pos 16385) ∷ []) kernel.Raw 9 (at (pos 16385) ∷ at (pos 0) ∷ []) (1 ∷ 0 ∷ []) (16385 ∷ []) 16385
-    -- 3 to 6 turn the steps back, lowest first
+    -- 3 to 6 turn the steps back, lowest first,
     ∷ refused (0 ∷ []) [] 3
     ∷ refused (5 ∷ []) [] 4
     ∷ refused (2 ∷ []) (at (pos 0) ∷ at (pos 2) ∷ at (pos 0) ∷ []) 5
     ∷ refused (2 ∷ []) (at −1 ∷ at (pos 1) ∷ []) 6
+    -- and 15 after 6: a box where there is no iteration, and one whose last vector is none
+    ∷ refusedIn (box (at (pos 1)) (at (pos 0))) (2 ∷ []) (at −1 ∷ at (pos 1) ∷ []) 6
+    ∷ refusedIn (box (at (pos 1)) (at (pos 2))) (3 ∷ []) (at −1 ∷ at (pos 1) ∷ []) 15
     ∷ []
 
 pub table : map answered cases ≡ map expected cases
-unfolding answered expected cases ofBits tabulate sum product greatest any same above plus equal before isZero
-    cellCount place natural position firstEntry otherEntries leastFrom least lows extent extents iterationCount indices fromLows iteration reads distance distanceOf
-    sizesOf offsetOf offsetsOf numberOf verdictNumber firstOf
+unfolding answered expected cases ofBits tabulate sum product greatest all any someBelow same above plus equal before isZero
+    cellCount place natural position firstEntry otherEntries leastFrom least lows extent extents indices countedFrom count vector allIterations iterationCount iteration reads inside isIteration indexCount widths boxCourse course crossed readsOutside badBox distance distanceOf
+    sizesOf offsetOf offsetsOf partOf boundsOf numberOf verdictNumber firstOf
     badDims badSizes badGrid badCount repeats noIteration needsCentre lacksCentre notFinite badFactor tooLarge twice badOrder windowChecks kernelChecks chainChecks valueChecks judged
     insert falling whichOf authorsOrder sorted distances total stepsOf trimmedRequest judgeRequest
 table = refl

@@ -1,16 +1,19 @@
 -- What of a grid, a window, a request and a chain handed over as a value plays a part: "entries past its counts play no part, and chains that differ only there are the same".
 use Prim.Native.Nat.{ℕ, _+_, _-_, _*_, _/_, _%_}
-use mathlib.Core.Bool.{Bool, false, cond}
+use mathlib.Core.Bool.{Bool, true, false, cond}
 use mathlib.Core.List.{List, []}
 use mathlib.Core.Path.{_≡_}
 use lib.IntN.{ℤ, pos}
 use lib.ListN.{getD, replicate}
 use lib.Seq.{sets}
 use Rattle.model.specs.Lists.{tabulate}
+use Rattle.model.specs.Boxes.{Part}
+use Rattle.model.specs.Boxes.Part.{whole, box}
 use Rattle.model.specs.declared.Grid.{Grid}
 use Rattle.model.specs.declared.Window.{Window}
 use Rattle.model.specs.declared.Kernel.{Kernel}
 use Rattle.model.specs.declared.Kernel.the-variants as kernel
+use Rattle.model.specs.declared.Bounds.{Bounds}
 use Rattle.model.specs.declared.Order.{Order}
 use Rattle.model.specs.declared.Request.{Request}
 use Rattle.model.specs.declared.Chain.{Chain}
@@ -39,24 +42,30 @@ capacitiesOf c = tabulate (c .window .count - 1) (λ k. capacityOf c k)
 unfoldable pub orderOf : ℕ → Order → List ℕ
 orderOf n o = cond (o .stood) (tabulate n (λ t. getD (o .filters) t 0)) []
 
+-- Which iterations a run covers, in so many dimensions: those of the box; all, where its line did not stand.
+unfoldable pub partOf : ℕ → Bounds → Part
+partOf dims b = cond (b .stood) (box (tabulate dims (λ d. getD (b .lowest) d (pos 0))) (tabulate dims (λ d. getD (b .highest) d (pos 0)))) whole
+
 -- A request or a chain without the entries past its counts and without an absent part: all of it that plays a part.
 pub record Trimmed : Type 0 where
   pub dims : ℕ
   pub sizes : List ℕ
   pub count : ℕ
   pub offsets : List (List ℤ)
+  pub part : Part
   pub capacities : List ℕ
   pub ordered : Bool
   pub order : List ℕ
   pub kernel : Kernel
 
--- A grid, a window, capacities, an order, which stood or did not, and a kernel: what of them plays a part.
-abbrev pub trimmedOf : Grid → Window → (capacities : List ℕ) → (ordered : Bool) (order : List ℕ) → Kernel → Trimmed
-trimmedOf g w capacities ordered order k = record {
+-- A grid, a window, bounds, capacities, an order, which stood or did not, and a kernel: what of them plays a part.
+abbrev pub trimmedOf : Grid → Window → Bounds → (capacities : List ℕ) → (ordered : Bool) (order : List ℕ) → Kernel → Trimmed
+trimmedOf g w b capacities ordered order k = record {
   dims = g .dims;
   sizes = sizesOf g;
   count = w .count;
   offsets = offsetsOf (g .dims) w;
+  part = partOf (g .dims) b;
   capacities = capacities;
   ordered = ordered;
   order = order;
@@ -64,15 +73,15 @@ trimmedOf g w capacities ordered order k = record {
 }
 
 unfoldable pub trimmed : Chain → Trimmed
-trimmed c = trimmedOf (c .grid) (c .window) (capacitiesOf c) (c .order .stood) (orderOf (c .window .count) (c .order)) (c .kernel)
+trimmed c = trimmedOf (c .grid) (c .window) (c .bounds) (capacitiesOf c) (c .order .stood) (orderOf (c .window .count) (c .order)) (c .kernel)
 
 -- Two chains are the same.
 abbrev pub Same : Chain → Chain → Type 0
 Same c d = trimmed c ≡ trimmed d
 
 -- A window on a grid as a value, with no capacities and no order, and raw.
-abbrev pub onGrid : Grid → Window → Trimmed
-onGrid g w = trimmedOf g w [] false [] kernel.Raw
+abbrev pub onGrid : Grid → Window → Bounds → Trimmed
+onGrid g w b = trimmedOf g w b [] false [] kernel.Raw
 
 -- Offsets, capacities and an order's filters in their arrays, with 0 past the last.
 abbrev pub windowOf : (n : ℕ) → List (List ℤ) → Window
@@ -84,11 +93,23 @@ capacityArray capacities = tabulate 31 (λ k. getD capacities k 0)
 abbrev pub filterArray : List ℕ → List ℕ
 filterArray order = tabulate 32 (λ t. getD order t 0)
 
+-- Bounds whose line did not stand, and those of the iterations that a run covers.
+abbrev pub noBounds : Bounds
+noBounds = record { stood = false; lowest = replicate 4 (pos 0); highest = replicate 4 (pos 0) }
+
+abbrev pub indexArray : List ℤ → List ℤ
+indexArray xs = tabulate 4 (λ d. getD xs d (pos 0))
+
+unfoldable pub boundsOf : Part → Bounds
+boundsOf whole = noBounds
+boundsOf (box lowest highest) = record { stood = true; lowest = indexArray lowest; highest = indexArray highest }
+
 -- The chain of which this plays a part, with 0 past its counts: a chain's normal form.
 unfoldable pub chainOf : Trimmed → Chain
 chainOf t = record {
   grid = record { dims = t .dims; sizes = tabulate 4 (λ d. getD (t .sizes) d 0) };
   window = windowOf (t .count) (t .offsets);
+  bounds = boundsOf (t .part);
   capacities = capacityArray (t .capacities);
   order = record { stood = t .ordered; filters = filterArray (t .order) };
   kernel = t .kernel;
@@ -105,11 +126,12 @@ withReference w entries = record { count = w .count + 1; offsets = sets (w .offs
 abbrev pub noOrder : Order
 noOrder = record { stood = false; filters = replicate 32 0 }
 
--- What a refusal hands back in place of a chain: all counts and entries 0, no order, and raw.
+-- What a refusal hands back in place of a chain: all counts and entries 0, no box, no order, and raw.
 abbrev pub blankChain : Chain
 blankChain = record {
   grid = record { dims = 0; sizes = replicate 4 0 };
   window = blankWindow;
+  bounds = noBounds;
   capacities = replicate 31 0;
   order = noOrder;
   kernel = kernel.Raw;
@@ -117,20 +139,23 @@ blankChain = record {
 
 -- The request that a chain without its capacities and its order is.
 abbrev pub requestOf : Chain → Request
-requestOf c = record { grid = c .grid; window = c .window; kernel = c .kernel }
+requestOf c = record { grid = c .grid; window = c .window; bounds = c .bounds; kernel = c .kernel }
 
 -- A chain with one field set.
 abbrev pub setGrid : Grid → Chain → Chain
-setGrid g c = record { grid = g; window = c .window; capacities = c .capacities; order = c .order; kernel = c .kernel }
+setGrid g c = record { grid = g; window = c .window; bounds = c .bounds; capacities = c .capacities; order = c .order; kernel = c .kernel }
 
 abbrev pub setWindow : Window → Chain → Chain
-setWindow w c = record { grid = c .grid; window = w; capacities = c .capacities; order = c .order; kernel = c .kernel }
+setWindow w c = record { grid = c .grid; window = w; bounds = c .bounds; capacities = c .capacities; order = c .order; kernel = c .kernel }
+
+abbrev pub setBounds : Bounds → Chain → Chain
+setBounds b c = record { grid = c .grid; window = c .window; bounds = b; capacities = c .capacities; order = c .order; kernel = c .kernel }
 
 abbrev pub setCapacities : List ℕ → Chain → Chain
-setCapacities xs c = record { grid = c .grid; window = c .window; capacities = xs; order = c .order; kernel = c .kernel }
+setCapacities xs c = record { grid = c .grid; window = c .window; bounds = c .bounds; capacities = xs; order = c .order; kernel = c .kernel }
 
 abbrev pub setOrder : Order → Chain → Chain
-setOrder o c = record { grid = c .grid; window = c .window; capacities = c .capacities; order = o; kernel = c .kernel }
+setOrder o c = record { grid = c .grid; window = c .window; bounds = c .bounds; capacities = c .capacities; order = o; kernel = c .kernel }
 
 abbrev pub setKernel : Kernel → Chain → Chain
-setKernel k c = record { grid = c .grid; window = c .window; capacities = c .capacities; order = c .order; kernel = k }
+setKernel k c = record { grid = c .grid; window = c .window; bounds = c .bounds; capacities = c .capacities; order = c .order; kernel = k }

@@ -1,11 +1,12 @@
--- Writing a chain sheet (document 01, "Lines of the sheet"; number 12; document 02, request 2).
+-- Writing a chain sheet (document 01, "Lines of the sheet"; number 12; document 02, requests 2 and 4).
 use Prim.Native.Nat.{ℕ}
 use mathlib.Core.Bool.{cond}
 use mathlib.Core.List.{List, [], _∷_, _++_, map, flatMap}
 use lib.Dec.{ltb}
-use lib.IntN.{ℤ}
-use lib.ListN.{length, drop}
+use lib.IntN.{ℤ, pos}
+use lib.ListN.{length, drop, getD}
 use lib.Ieee.{toBits, binary32}
+use Rattle.model.specs.declared.Bounds.{Bounds}
 use Rattle.model.specs.declared.Grid.{Grid}
 use Rattle.model.specs.declared.Kernel.{Kernel}
 use Rattle.model.specs.declared.Kernel.the-variants as kernel
@@ -15,11 +16,12 @@ use Rattle.model.specs.declared.Refusal.the-variants as refusal
 use Rattle.model.specs.declared.Verdict.{Verdict}
 use Rattle.model.specs.declared.Verdict.the-variants as verdict
 use Rattle.model.specs.declared.Wrote.{Wrote}
+use Rattle.model.specs.Lists.{upTo}
 use Rattle.model.specs.Values.{sizesOf, offsetsOf, capacitiesOf, orderOf}
 use Rattle.model.specs.Answers.{check, firstOf, byVerdict}
 use Rattle.model.specs.Judging.{judgeChain}
 use Rattle.model.specs.Frames.{framed}
-use Rattle.model.specs.Numbers.{halfBytes, wordBytes, pattern}
+use Rattle.model.specs.Numbers.{halfBytes, wordBytes, pattern, wordPattern}
 
 -- "`01` dimension count (1 byte), then each size (4 bytes)"
 unfoldable pub gridLine : Grid → List ℕ
@@ -28,6 +30,13 @@ gridLine g = 1 ∷ g .dims ∷ flatMap wordBytes (sizesOf g)
 -- "`02` one offset, 2 bytes an entry, two's complement"
 unfoldable pub offsetLine : List ℤ → List ℕ
 offsetLine o = 2 ∷ flatMap (λ e. halfBytes (pattern e)) o
+
+-- "a line `08` just after the last `02` ..: for each dimension in turn the lowest, then the highest index of the iterations, 4 bytes each, signed"; none where it did not stand
+unfoldable pub indexPair : Bounds → ℕ → List ℕ
+indexPair b d = wordBytes (wordPattern (getD (b .lowest) d (pos 0))) ++ wordBytes (wordPattern (getD (b .highest) d (pos 0)))
+
+unfoldable pub boxLines : (dims : ℕ) → Bounds → List (List ℕ)
+boxLines dims b = cond (b .stood) ((8 ∷ flatMap (indexPair b) (upTo dims)) ∷ []) []
 
 -- "`03` one capacity, 4 bytes"
 unfoldable pub capacityLine : ℕ → List ℕ
@@ -48,16 +57,16 @@ kernelLine (kernel.Blend g) = 4 ∷ 3 ∷ (wordBytes (toBits binary32 (g .a)) ++
 unfoldable pub chainLines : Chain → List (List ℕ)
 chainLines c =
     gridLine (c .grid)
-    ∷ (map offsetLine (offsetsOf (c .grid .dims) (c .window)) ++ (map capacityLine (capacitiesOf c) ++ (orderLines (c .window .count) (c .order) ++ (kernelLine (c .kernel) ∷ []))))
+    ∷ (map offsetLine (offsetsOf (c .grid .dims) (c .window)) ++ (boxLines (c .grid .dims) (c .bounds) ++ (map capacityLine (capacitiesOf c) ++ (orderLines (c .window .count) (c .order) ++ (kernelLine (c .kernel) ∷ [])))))
 
 unfoldable pub sheetOf : Chain → List ℕ
 sheetOf c = flatMap framed (chainLines c)
 
 -- No chain sheet has more characters.
 abbrev pub longestSheet : ℕ
-longestSheet = 1074
+longestSheet = 1141
 
--- 3 to 9 and 14 of the chain as a value, then 12: "a sheet to be written is longer than the output lent; looked at last".
+-- What turns the chain back as a value, then 12: "a sheet to be written is longer than the output lent; looked at last".
 unfoldable pub writeVerdict : Chain → (room : ℕ) → Verdict
 writeVerdict c room =
     let last = firstOf (check (ltb room (length (sheetOf c))) refusal.ShortOutput ∷ []) in

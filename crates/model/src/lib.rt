@@ -34,10 +34,18 @@ pub enum Kernel {
     Blend(Factors),
 }
 
+// A smaller box: whether its line stood, and where it did, in each of the grid's dimensions the lowest and the highest index of the iterations.
+pub struct Bounds {
+    pub stood: bool,
+    pub lowest: [i32; 4],
+    pub highest: [i32; 4],
+}
+
 // What is to be planned.
 pub struct Request {
     pub grid: Grid,
     pub window: Window,
+    pub bounds: Bounds,
     pub kernel: Kernel,
 }
 
@@ -51,6 +59,7 @@ pub struct Order {
 pub struct Chain {
     pub grid: Grid,
     pub window: Window,
+    pub bounds: Bounds,
     pub capacities: [u32; 31],
     pub order: Order,
     pub kernel: Kernel,
@@ -85,7 +94,7 @@ pub const STALLED_BYTE: u8 = 1;
 
 pub const STARVED_BYTE: u8 = 2;
 
-// Why input is turned back, from number 1 to 14.
+// Why input is turned back, from number 1 to 15.
 pub enum Refusal {
     Malformed,
     Misplaced,
@@ -101,6 +110,7 @@ pub enum Refusal {
     ShortOutput,
     BadName,
     BadOrder,
+    BadBox,
 }
 
 // What judging answers.
@@ -109,7 +119,7 @@ pub enum Verdict {
     Refused(Refusal),
 }
 
-// What the three steps of planning give (document 003, section 3.3), of a grid and a window that 3 to 6 let pass; where one of these refuses, there is no reference, and the numbers are 0.
+// What the three steps of planning give (document 003, section 3.3), of a grid, a window and a box that 3 to 6 and 15 let pass; where one of these refuses, there is no reference, and the numbers are 0.
 pub struct Steps {
     pub verdict: Verdict,
     // The offsets sorted, and for each of the author's references the filter that holds it.
@@ -153,12 +163,13 @@ pub struct Frame {
     pub high: u8,
 }
 
-// Which of a sheet's lines stood last: none, or an `01`, `02`, `07`, `03`, `06` or `04` line.
+// Which of a sheet's lines stood last: none, or an `01`, `02`, `07`, `08`, `03`, `06` or `04` line.
 pub enum Last {
     Nothing,
     Grid,
     Offset,
     Name,
+    Box,
     Capacity,
     Order,
     Kernel,

@@ -7,6 +7,7 @@ use lib.Ieee.{Float, binary32, add, mul}
 use lib.IntN.{ℤ, pos, negsuc}
 use lib.ListN.{length, getD, set, replicate}
 use Rattle.model.specs.Kernels.{float, word, squared}
+use Rattle.model.specs.declared.Bounds.{Bounds}
 use Rattle.model.specs.declared.Grid.{Grid}
 use Rattle.model.specs.declared.Window.{Window}
 use Rattle.model.specs.declared.Request.{Request}
@@ -90,7 +91,7 @@ standing words out at end i (suc n) = cond (stands words out at end i) (suc (sta
 unfoldable pub agreed : (words out : List ℕ) (count at end : ℕ) → ℕ
 agreed words out count at end = cond (ltb (length out) end) 0 (standing words out at end 0 count)
 
--- A grid of 768 by 1024, and one of 40 by 32 by 32: each index from its first to before its end.
+-- A grid of 768 by 1024, one of 40 by 32 by 32, and one of 4 by 5: each index from its first to before its end.
 abbrev pub flatLoops : (centre : ℕ) → Loops
 flatLoops centre = record {
   dims = 2;
@@ -103,6 +104,7 @@ flatLoops centre = record {
   «y_end» = 767;
   «x_first» = 1;
   «x_end» = 1023;
+  boxed = false;
   centre = centre;
 }
 
@@ -118,7 +120,41 @@ solidLoops centre = record {
   «y_end» = 31;
   «x_first» = 1;
   «x_end» = 31;
+  boxed = false;
   centre = centre;
+}
+
+abbrev pub smallLoops : (centre : ℕ) → Loops
+smallLoops centre = record {
+  dims = 2;
+  planes = 1;
+  rows = 4;
+  columns = 5;
+  «z_first» = 0;
+  «z_end» = 1;
+  «y_first» = 1;
+  «y_end» = 3;
+  «x_first» = 1;
+  «x_end» = 4;
+  boxed = false;
+  centre = centre;
+}
+
+-- The same grid and window, over a box.
+abbrev pub boxLoops : Loops → (zFirst zEnd yFirst yEnd xFirst xEnd : ℕ) → Loops
+boxLoops l zFirst zEnd yFirst yEnd xFirst xEnd = record {
+  dims = l .dims;
+  planes = l .planes;
+  rows = l .rows;
+  columns = l .columns;
+  «z_first» = zFirst;
+  «z_end» = zEnd;
+  «y_first» = yFirst;
+  «y_end» = yEnd;
+  «x_first» = xFirst;
+  «x_end» = xEnd;
+  boxed = true;
+  centre = l .centre;
 }
 
 -- The grid of these loops.
@@ -156,5 +192,29 @@ referencesIn window = length window / 4 + 1
 unfoldable pub listed : (dims : ℕ) (window : List ℕ) → Window
 listed dims window = record { count = referencesIn window % 256; offsets = listedFrom dims window (referencesIn window) 0 (replicate 128 (pos 0)) }
 
+-- An index as a signed number, and the last before the end of a loop, which is -1 where that is 0.
+abbrev pub indexOf : ℕ → ℤ
+indexOf x = pos (x % 2147483648)
+
+unfoldable pub lastBefore : (end : ℕ) → ℤ
+lastBefore end = cond (eqb end 0) (negsuc 0) (indexOf (end - 1))
+
+-- An index for each dimension of the grid, where z is none of a grid of two.
+unfoldable pub alongDims : (dims : ℕ) (z y x : ℤ) → List ℤ
+alongDims dims z y x = cond (eqb dims 2) (y ∷ x ∷ pos 0 ∷ pos 0 ∷ []) (z ∷ y ∷ x ∷ pos 0 ∷ [])
+
+-- The box that the loops go over, by the lowest and the highest index of each; none where they go over all iterations.
+unfoldable pub lowestOf : Loops → List ℤ
+lowestOf l = alongDims (l .dims) (indexOf (l .«z_first»)) (indexOf (l .«y_first»)) (indexOf (l .«x_first»))
+
+unfoldable pub highestOf : Loops → List ℤ
+highestOf l = alongDims (l .dims) (lastBefore (l .«z_end»)) (lastBefore (l .«y_end»)) (lastBefore (l .«x_end»))
+
+unfoldable pub boundsOf : Loops → Bounds
+boundsOf l =
+    cond (l .boxed)
+    (record { stood = true; lowest = lowestOf l; highest = highestOf l })
+    (record { stood = false; lowest = replicate 4 (pos 0); highest = replicate 4 (pos 0) })
+
 unfoldable pub requestOf : Loops → (window : List ℕ) → Kernel → Request
-requestOf l window k = record { grid = gridOf l; window = listed (l .dims) window; kernel = k }
+requestOf l window k = record { grid = gridOf l; window = listed (l .dims) window; bounds = boundsOf l; kernel = k }

@@ -1,11 +1,12 @@
 // The requests for the cases, as values.
 use crate::windows::Loops;
+use model::Bounds;
 use model::Grid;
 use model::Kernel;
 use model::Request;
 use model::Window;
 ghost use mathlib.Core.Path.{_≡_};
-ghost use Rattle.nested.specs.Nested.{sizeOf, gridOf, entryOf, placed, listed as listedIn, requestOf};
+ghost use Rattle.nested.specs.Nested.{sizeOf, gridOf, entryOf, placed, listed as listedIn, indexOf, lastBefore, alongDims, lowestOf, highestOf, boundsOf, requestOf};
 
 fn size(x: usize) -> u32
     ensures { λ r. ⌜ r ≡ sizeOf x ⌝ }
@@ -84,12 +85,74 @@ fn listed(dims: u8, window: &[u8]) -> Window
     }
 }
 
+fn index(x: usize) -> i32
+    ensures { λ r. ⌜ r ≡ indexOf x ⌝ }
+{
+    (x % 2147483648) as i32
+}
+
+// The last index before the end of a loop.
+fn last_before(end: usize) -> i32
+    ensures { λ r. ⌜ r ≡ lastBefore end ⌝ }
+{
+    if end == 0 {
+        return -1;
+    }
+    index(end - 1)
+}
+
+// An index for each dimension of the grid.
+fn along_dims(dims: u8, z: i32, y: i32, x: i32) -> [i32; 4]
+    ensures { λ r. ⌜ r ≡ alongDims dims z y x ⌝ }
+{
+    if dims == 2 {
+        return [y, x, 0, 0];
+    }
+    [z, y, x, 0]
+}
+
+fn lowest(l: Loops) -> [i32; 4]
+    ensures { λ r. ⌜ r ≡ lowestOf l ⌝ }
+{
+    along_dims(l.dims, index(l.z_first), index(l.y_first), index(l.x_first))
+}
+
+fn highest(l: Loops) -> [i32; 4]
+    ensures { λ r. ⌜ r ≡ highestOf l ⌝ }
+{
+    along_dims(
+        l.dims,
+        last_before(l.z_end),
+        last_before(l.y_end),
+        last_before(l.x_end),
+    )
+}
+
+// The box that the loops go over; none where they go over all iterations.
+fn bounds(l: Loops) -> Bounds
+    ensures { λ r. ⌜ r ≡ boundsOf l ⌝ }
+{
+    if l.boxed {
+        return Bounds {
+            stood: true,
+            lowest: lowest(l),
+            highest: highest(l),
+        };
+    }
+    Bounds {
+        stood: false,
+        lowest: [0i32; 4],
+        highest: [0i32; 4],
+    }
+}
+
 pub fn request(l: Loops, window: &[u8], kernel: Kernel) -> Request
     ensures { λ r. ⌜ r ≡ requestOf l (now (window .entry)) kernel ⌝ }
 {
     Request {
         grid: grid(l),
         window: listed(l.dims, window),
+        bounds: bounds(l),
         kernel,
     }
 }

@@ -2,10 +2,10 @@
 ghost use Prim.Native.Nat.{_+_, _/_};
 ghost use mathlib.Core.Path.{_≡_};
 ghost use lib.ListN.{length};
-ghost use Rattle.nested.specs.Nested.{flatLoops, solidLoops};
+ghost use Rattle.nested.specs.Nested.{flatLoops, solidLoops, smallLoops, boxLoops};
 
-// A grid as the nested loop sees it, one plane where it has two dimensions; the iterations, each index from its first to before its end; and which
-// reference of the window is the centre, or their number if none is.
+// A grid as the nested loop sees it, one plane where it has two dimensions; the iterations that it goes over, each index from its first to before its end, and
+// whether they are a box's; and which reference of the window is the centre, or their number if none is.
 pub struct Loops {
     pub dims: u8,
     pub planes: usize,
@@ -17,6 +17,7 @@ pub struct Loops {
     pub y_end: usize,
     pub x_first: usize,
     pub x_end: usize,
+    pub boxed: bool,
     pub centre: usize,
 }
 
@@ -35,6 +36,7 @@ pub fn flat(centre: usize) -> Loops
         y_end: 767,
         x_first: 1,
         x_end: 1023,
+        boxed: false,
         centre,
     }
 }
@@ -54,7 +56,56 @@ pub fn solid(centre: usize) -> Loops
         y_end: 31,
         x_first: 1,
         x_end: 31,
+        boxed: false,
         centre,
+    }
+}
+
+// 4 by 5.
+pub fn small(centre: usize) -> Loops
+    ensures { λ r. ⌜ r ≡ smallLoops centre ⌝ }
+{
+    Loops {
+        dims: 2,
+        planes: 1,
+        rows: 4,
+        columns: 5,
+        z_first: 0,
+        z_end: 1,
+        y_first: 1,
+        y_end: 3,
+        x_first: 1,
+        x_end: 4,
+        boxed: false,
+        centre,
+    }
+}
+
+// The same grid and window, over a box: each index from its first to before its end.
+pub fn over_box(
+    l: Loops,
+    z_first: usize,
+    z_end: usize,
+    y_first: usize,
+    y_end: usize,
+    x_first: usize,
+    x_end: usize,
+) -> Loops
+    ensures { λ r. ⌜ r ≡ boxLoops l «z_first» «z_end» «y_first» «y_end» «x_first» «x_end» ⌝ }
+{
+    Loops {
+        dims: l.dims,
+        planes: l.planes,
+        rows: l.rows,
+        columns: l.columns,
+        z_first,
+        z_end,
+        y_first,
+        y_end,
+        x_first,
+        x_end,
+        boxed: true,
+        centre: l.centre,
     }
 }
 

@@ -7,9 +7,10 @@ use native.Mathlib.Omega.{arith}
 use lib.ListN.{getD, List·getD-eq-default}
 use Rattle.model.specs.Lists.{tabulate, sum}
 use Rattle.model.specs.Values.{offsetOf, offsetsOf, onGrid, windowOf, filterArray}
-use Rattle.model.specs.Iterations.{readsOf}
+use Rattle.model.specs.Iterations.{positionOf, iterationOf, readsOf}
 use Rattle.model.specs.Judging.{badCount, judgeWindow}
 use Rattle.model.specs.Steps.{falling, authorsOrder, sorted, distances, total, stepsOf}
+use Rattle.model.specs.declared.Bounds.{Bounds}
 use Rattle.model.specs.declared.Grid.{Grid}
 use Rattle.model.specs.declared.Steps.{Steps}
 use Rattle.model.specs.declared.Window.{Window}
@@ -33,13 +34,13 @@ pub total-in : (count : ℕ) (sizes : List ℕ) → badCount count ≡ false →
 unfolding totalIn
 total-in count sizes e = rw e
 
-module _ (g : Grid) (w : Window) (e : judgeWindow g w ≡ verdict.Accepted) where
+module _ (g : Grid) (w : Window) (x : Bounds) (e : judgeWindow g w x ≡ verdict.Accepted) where
   pub few : w .count ≤ 32
-  few = few-references (w .count) (passed g w e .count)
+  few = few-references (w .count) (passed g w x e .count)
 
   -- The positions of the first iteration, as the survey of a window finds them.
-  pub first-positions : (s : Survey) → s ≡ surveyOf g w → FirstPositions g w (s .shape .at)
-  unfolding surveyOf shapeFor readsOf
+  pub first-positions : (s : Survey) → s ≡ surveyOf g w x → FirstPositions g w x (s .shape .at)
+  unfolding surveyOf shapeFor readsOf positionOf iterationOf
   first-positions s d k h =
       ap (λ (t : Survey). numberAt (t .shape .at) k) (rw e at d) ∙ getD-tabulate 32 _ k 0 (omega (arith, few))
 
@@ -50,23 +51,23 @@ module _ (g : Grid) (w : Window) (e : judgeWindow g w ≡ verdict.Accepted) wher
         let os = offsetsOf (g .dims) w in
         filled-all 32 0 (λ t. getD (authorsOrder os) t 0) (λ t. getD (authorsOrder os) t 0) (w .count) fs (λ t h. refl)
         (λ t h. List·getD-eq-default (authorsOrder os) 0 (omega (arith, length-authors os, offsets-count (g .dims) w)))
-        (held (λ t. getD (authorsOrder os) t 0) (order-inverse (g .dims) (w .count) (w .offsets) order r (passed g w e .distinct)))
+        (held (λ t. getD (authorsOrder os) t 0) (order-inverse (g .dims) (w .count) (w .offsets) order r (passed g w x e .distinct)))
 
-    module _ (at : List ℕ) (first : FirstPositions g w at) (xs : List ℕ)
+    module _ (at : List ℕ) (first : FirstPositions g w x at) (xs : List ℕ)
         (f : Filled 31 0 (λ k. numberAt at (numberAt order k) - numberAt at (numberAt order (k + 1))) (w .count - 1) xs) where
-      total-is : totalIn (w .count) xs ≡ total (sorted (onGrid g w))
+      total-is : totalIn (w .count) xs ≡ total (sorted (onGrid g w x))
       unfolding total
       total-is =
-          total-in (w .count) xs (passed g w e .count)
-          ∙ (ap (λ (ys : List ℕ). sum (tabulate (w .count - 1) (numberAt ys))) (distances-are g w e at first order r xs few f) ∙ ap sum (distances-back g w e))
+          total-in (w .count) xs (passed g w x e .count)
+          ∙ (ap (λ (ys : List ℕ). sum (tabulate (w .count - 1) (numberAt ys))) (distances-are g w x e at first order r xs few f) ∙ ap sum (distances-back g w x e))
 
       pub taken-from : (ws : Window) (fs : List ℕ) (t : ℕ) → ws ≡ windowOf (w .count) (falling (offsetsOf (g .dims) w)) → HeldBy (w .count) order fs → t ≡ totalIn (w .count) xs
-          → _≡_ {A = Steps} (record { verdict = verdict.Accepted; window = ws; filters = fs; distances = xs; total = t }) (stepsOf g w)
+          → _≡_ {A = Steps} (record { verdict = verdict.Accepted; window = ws; filters = fs; distances = xs; total = t }) (stepsOf g w x)
       taken-from ws fs t a held d =
           (λ i. record {
             verdict = verdict.Accepted;
             window = a i;
             filters = filters-are fs held i;
-            distances = distances-are g w e at first order r xs few f i;
+            distances = distances-are g w x e at first order r xs few f i;
             total = (d ∙ total-is) i;
-          }) ∙ sym (steps-taken g w e)
+          }) ∙ sym (steps-taken g w x e)

@@ -3,6 +3,7 @@ mod distances;
 mod sorting;
 pub mod total;
 
+use model::Bounds;
 use model::Grid;
 use model::Refusal;
 use model::Steps;
@@ -14,10 +15,10 @@ ghost use Rattle.model.specs.Steps.{refusedSteps, stepsOf};
 ghost use Rattle.model.specs.declared.Verdict.the-variants.{Accepted};
 ghost use Rattle.plan_steps.specs.Order.{FirstPositions};
 
-// The steps of a grid and a window that 3 to 6 let pass, where `at` has the position that each reference reads in the first iteration.
-fn taken(grid: Grid, window: Window, at: &[u32; 32]) -> Steps
-    requires { ⌜ (judgeWindow grid window ≡ Accepted) × FirstPositions grid window (now at) ⌝ }
-    ensures { λ r. ⌜ r ≡ stepsOf grid window ⌝ }
+// The steps of a grid, a window and a box that 3 to 6 and 15 let pass, where `at` has the position that each reference reads in the first iteration that is covered.
+fn taken(grid: Grid, window: Window, bounds: Bounds, at: &[u32; 32]) -> Steps
+    requires { ⌜ (judgeWindow grid window bounds ≡ Accepted) × FirstPositions grid window bounds (now at) ⌝ }
+    ensures { λ r. ⌜ r ≡ stepsOf grid window bounds ⌝ }
 {
     let dims = grid.dims;
     let count = window.count;
@@ -40,7 +41,7 @@ fn taken(grid: Grid, window: Window, at: &[u32; 32]) -> Steps
     }
 }
 
-// What is answered where one of 3 to 6 refuses.
+// What is answered where one of 3 to 6 or 15 refuses.
 fn refused(x: Refusal) -> Steps
     ensures { λ r. ⌜ r ≡ refusedSteps x ⌝ }
 {
@@ -56,18 +57,18 @@ fn refused(x: Refusal) -> Steps
     }
 }
 
-// The three results, of every grid and window that 3 to 6 let pass, also of those that 7, 8 or 9 turns back with a kernel; else the first of 3 to 6 that refuses.
-pub fn steps(grid: Grid, window: Window) -> Steps
-    ensures { λ r. ⌜ r ≡ stepsOf grid window ⌝ }
+// The three results, of every grid, window and box that 3 to 6 and 15 let pass, also of those that 7, 8 or 9 turns back with a kernel; else the first of these that refuses.
+pub fn steps(grid: Grid, window: Window, bounds: Bounds) -> Steps
+    ensures { λ r. ⌜ r ≡ stepsOf grid window bounds ⌝ }
 {
-    let survey = shape::survey_of(grid, window);
+    let survey = shape::survey_of(grid, window, bounds);
     let verdict = survey.verdict;
     match verdict {
         Verdict::Refused(x) => refused(x),
         Verdict::Accepted => {
             let shape = survey.shape;
             let at = shape.at;
-            taken(grid, window, &at)
+            taken(grid, window, bounds, &at)
         }
     }
 }

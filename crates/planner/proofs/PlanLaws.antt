@@ -1,15 +1,17 @@
 -- Laws that lead from the steps to the plan.
 use Prim.Native.Nat.{ℕ, _≤_}
-use mathlib.Core.Bool.{Bool}
+use mathlib.Core.Bool.{Bool, true, false}
 use mathlib.Core.List.{List}
 use mathlib.Core.Path.{_≡_, refl, sym, _∙_, ap}
+use lib.IntN.{ℤ, pos}
 use lib.ListN.{getD, List·getD-eq-default}
 use Rattle.model.specs.Lists.{tabulate}
-use Rattle.model.specs.Values.{sizesOf, offsetsOf}
+use Rattle.model.specs.Values.{sizesOf, offsetsOf, partOf, indexArray, noBounds, boundsOf}
 use Rattle.model.specs.Answers.{byVerdict}
 use Rattle.model.specs.Judging.{centred, judgeWindow, judgeBehind}
 use Rattle.model.specs.Steps.{stepsOf}
 use Rattle.model.specs.Planning.{judgeRequest, plannedChain, planOf, chainBy}
+use Rattle.model.specs.declared.Bounds.{Bounds}
 use Rattle.model.specs.declared.Chain.{Chain}
 use Rattle.model.specs.declared.Grid.{Grid}
 use Rattle.model.specs.declared.Planned.{Planned}
@@ -34,20 +36,35 @@ sizes-are g ys r =
     filled-all 4 0 (numberAt (g .sizes)) (λ d. getD (sizesOf g) d 0) (g .dims) ys (λ d h. sym (getD-tabulate (g .dims) (numberAt (g .sizes)) d 0 h))
     (λ d h. List·getD-eq-default (sizesOf g) 0 (rw length-tabulate h)) r
 
-module _ (r : Request) (s : Steps) (d : s ≡ stepsOf (r .grid) (r .window)) where
+-- The box with 0 past the last.
+indices-are : (dims : ℕ) (xs ys : List ℤ) → Filled 4 (pos 0) (λ d. getD xs d (pos 0)) dims ys → ys ≡ indexArray (tabulate dims (λ d. getD xs d (pos 0)))
+indices-are dims xs ys r =
+    filled-all 4 (pos 0) (λ d. getD xs d (pos 0)) (λ d. getD (tabulate dims (λ i. getD xs i (pos 0))) d (pos 0)) dims ys
+    (λ d h. sym (getD-tabulate dims (λ i. getD xs i (pos 0)) d (pos 0) h)) (λ d h. List·getD-eq-default (tabulate dims (λ i. getD xs i (pos 0))) (pos 0) (rw length-tabulate h)) r
+
+pub box-is : (dims : ℕ) (b : Bounds) (ls hs : List ℤ) → b .stood ≡ true → Filled 4 (pos 0) (λ d. getD (b .lowest) d (pos 0)) dims ls → Filled 4 (pos 0) (λ d. getD (b .highest) d (pos 0)) dims hs
+    → record { stood = true; lowest = ls; highest = hs } ≡ boundsOf (partOf dims b)
+unfolding boundsOf partOf
+box-is dims b ls hs e l h = rw (e, indices-are dims (b .lowest) ls l, indices-are dims (b .highest) hs h)
+
+pub no-box-is : (dims : ℕ) (b : Bounds) → b .stood ≡ false → noBounds ≡ boundsOf (partOf dims b)
+unfolding boundsOf partOf
+no-box-is dims b e = rw e
+
+module _ (r : Request) (s : Steps) (d : s ≡ stepsOf (r .grid) (r .window) (r .bounds)) where
   -- What is found before the steps, then 7 and 8, then 9 by their total.
   abbrev judged : Verdict
   judged = byVerdict (s .verdict) (judgeBehind (r .kernel) (hasCentre (r .grid .dims) (r .window)) (s .total)) verdict.Refused
 
-  found : s .verdict ≡ judgeWindow (r .grid) (r .window)
-  found = ap (λ (t : Steps). t .verdict) d ∙ steps-verdict (r .grid) (r .window)
+  found : s .verdict ≡ judgeWindow (r .grid) (r .window) (r .bounds)
+  found = ap (λ (t : Steps). t .verdict) d ∙ steps-verdict (r .grid) (r .window) (r .bounds)
 
   pub verdict-is : judged ≡ judgeRequest r
   verdict-is = go (s .verdict) refl ∙ ap (λ (t : Steps). byVerdict (t .verdict) (judgeBehind (r .kernel) (centred (offsetsOf (r .grid .dims) (r .window))) (t .total)) verdict.Refused) d ∙ sym (judged-by-steps r)
     where
       go : (v : Verdict) → s .verdict ≡ v → judged ≡ byVerdict (s .verdict) (judgeBehind (r .kernel) (centred (offsetsOf (r .grid .dims) (r .window))) (s .total)) verdict.Refused
       go verdict.Accepted e =
-          let p = passed (r .grid) (r .window) (sym found ∙ e) in
+          let p = passed (r .grid) (r .window) (r .bounds) (sym found ∙ e) in
           ap (λ (b : Bool). byVerdict (s .verdict) (judgeBehind (r .kernel) b (s .total)) verdict.Refused) (has-centre-is (r .grid) (r .window) (p .grid) (p .count))
       go (verdict.Refused x) e = rw e
 
@@ -56,14 +73,14 @@ module _ (r : Request) (s : Steps) (d : s ≡ stepsOf (r .grid) (r .window)) whe
   refused-plan x e = sym (rw (sym verdict-is ∙ e))
 
   module _ (e : judged ≡ verdict.Accepted) where
-    let-pass : judgeWindow (r .grid) (r .window) ≡ verdict.Accepted
+    let-pass : judgeWindow (r .grid) (r .window) (r .bounds) ≡ verdict.Accepted
     let-pass = request-passes r (sym verdict-is ∙ e)
 
     pub few-dimensions : r .grid .dims ≤ 4
-    few-dimensions = few-dims (r .grid .dims) (sizesOf (r .grid)) (passed (r .grid) (r .window) let-pass .grid)
+    few-dimensions = few-dims (r .grid .dims) (sizesOf (r .grid)) (passed (r .grid) (r .window) (r .bounds) let-pass .grid)
 
-    pub planned-by : (c : Chain) → c ≡ chainBy (r .grid) (r .kernel) s → _≡_ {A = Planned} (record { verdict = verdict.Accepted; chain = c }) (planOf r)
+    pub planned-by : (c : Chain) → c ≡ chainBy (r .grid) (r .bounds) (r .kernel) s → _≡_ {A = Planned} (record { verdict = verdict.Accepted; chain = c }) (planOf r)
     unfolding planOf
     planned-by c f =
-        ap (λ (c : Chain). record { verdict = verdict.Accepted; chain = c }) (f ∙ ap (chainBy (r .grid) (r .kernel)) d ∙ sym (chain-by-steps r let-pass))
+        ap (λ (c : Chain). record { verdict = verdict.Accepted; chain = c }) (f ∙ ap (chainBy (r .grid) (r .bounds) (r .kernel)) d ∙ sym (chain-by-steps r let-pass))
         ∙ ap (λ (v : Verdict). byVerdict v (record { verdict = verdict.Accepted; chain = plannedChain r }) (λ x. refusedPlan x)) (sym e ∙ verdict-is)

@@ -10,11 +10,11 @@ use Rattle.model.specs.Judging.{badDims, badSizes, badGrid, tooLarge, judged, j
 use Rattle.model.specs.declared.Chain.{Chain}
 use Rattle.model.specs.declared.Verdict.the-variants as verdict
 use Rattle.model.proofs.ListLaws.{length-tabulate}
-use Rattle.model.proofs.ChainLaws.{length-order, offsets-count, offsets-sized}
+use Rattle.model.proofs.ChainLaws.{length-order, offsets-count, offsets-sized, part-bounded}
 use Rattle.model.proofs.Tests.{neither}
-use Rattle.model.proofs.Iterations.{few-cells, some-iteration}
+use Rattle.model.proofs.Iterations.{few-cells, some-covered, fitting}
 use Rattle.model.proofs.CheckLaws.{then-checks, value-passes, some-references, few-references}
-use Rattle.model.specs.Sized.{Proper}
+use Rattle.model.specs.Sized.{Proper, Fitting}
 use Rattle.run_laws.specs.Accepted.{Accepted}
 
 -- Where none of the first checks holds, the others decide.
@@ -27,6 +27,7 @@ unfolding trimmed capacitiesOf
 trimmed-proper c = record {
   references = offsets-count (c .grid .dims) (c .window);
   entries = offsets-sized (c .grid) (c .window);
+  bounded = part-bounded (c .grid) (c .bounds);
   fifos = length-tabulate (c .window .count - 1) _;
   terms = length-order (c .window .count) (c .order);
 }
@@ -35,8 +36,12 @@ pub accepted : (t : Trimmed) → judged t ≡ verdict.Accepted → Accepted t
 unfolding judged badGrid tooLarge
 accepted t e =
     let p = value-passes t e in
-    record { checks = e; cells = few-cells t (neither (badDims (t .dims)) (badSizes (t .sizes)) (p .window .grid) .1); some = some-references (t .count) (p .window .count); few = few-references (t .count) (p .window .count); iterates = some-iteration t (p .window .iterates); places = ltb-false 16384 (sum (t .capacities)) (p .chain .places) }
+    record { checks = e; cells = few-cells t (neither (badDims (t .dims)) (badSizes (t .sizes)) (p .window .grid) .1); some = some-references (t .count) (p .window .count); few = few-references (t .count) (p .window .count); iterates = some-covered t (p .window .fits) (p .window .iterates); fits = p .window .fits; places = ltb-false 16384 (sum (t .capacities)) (p .chain .places) }
 
 pub accepted-chain : (c : Chain) → judgeChain c ≡ verdict.Accepted → Accepted (trimmed c)
 unfolding judgeChain
 accepted-chain c e = accepted (trimmed c) e
+
+-- What the laws of iterations ask of it.
+pub fitting-of : (t : Trimmed) → Proper t → Accepted t → Fitting t
+fitting-of t proper ok = fitting t proper (ok .some) (ok .fits)

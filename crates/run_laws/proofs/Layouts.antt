@@ -15,10 +15,14 @@ use Rattle.model.proofs.Iterations.{rises, below-cells, same-distance, right-re
 use Rattle.flow.specs.Machine.{Lawful, Spans, Flows, FlowsUpTo}
 use Rattle.flow.specs.Machine as flow
 use Rattle.model.specs.Right.{RightPair, Right, Planned}
-use Rattle.model.specs.Sized.{Proper}
+use Rattle.model.specs.Sized.{Proper, Fitting}
 use Rattle.run_laws.specs.Accepted.{Accepted}
+use Rattle.run_laws.proofs.Accepts.{fitting-of}
 
 module _ (t : Trimmed) (proper : Proper t) (ok : Accepted t) where
+  abbrev fit : Fitting t
+  fit = fitting-of t proper ok
+
   pub wants-read : (j k : ℕ) → j < iterationsOf t → layout t .wants j k ≡ readsOf t j k
   unfolding layout
   wants-read j k h = rw (lt-ltb j (iterationsOf t) h)
@@ -33,19 +37,19 @@ module _ (t : Trimmed) (proper : Proper t) (ok : Accepted t) where
     where
       up : (j k : ℕ) → j < iterationsOf t → k < t .count → Dec (suc j < iterationsOf t) → layout t .wants j k < layout t .wants (suc j) k
       up j k h g (yes d) =
-          omega (arith, wants-read j k h, wants-read (suc j) k d, rises t proper j (suc j) k (omega arith) d g)
+          omega (arith, wants-read j k h, wants-read (suc j) k d, rises t fit j (suc j) k (omega arith) d g)
       up j k h g (no d) =
-          omega (arith, wants-read j k h, wants-end (suc j) k (omega arith), below-cells t proper j k h g)
+          omega (arith, wants-read j k h, wants-end (suc j) k (omega arith), below-cells t fit j k h g)
 
       below : (j k : ℕ) → k < t .count → Dec (j < iterationsOf t) → layout t .wants j k ≤ cellsOf t
-      below j k g (yes d) = omega (arith, wants-read j k d, below-cells t proper j k d g)
+      below j k g (yes d) = omega (arith, wants-read j k d, below-cells t fit j k d g)
       below j k g (no d) = omega (arith, wants-end j k (omega arith))
 
   -- Order and capacity of a pair, in any iteration.
   pub right-spans : (f k : ℕ) → f < iterationsOf t → suc k < t .count → RightPair t k → Spans (layout t) f k
   unfolding layout
   right-spans f k h g r =
-      let (fall, fits) = right-reads t proper f k h g r in
+      let (fall, fits) = right-reads t fit f k h g r in
       let a = wants-read f k h in
       let b = wants-read f (suc k) h in
       record { falls = omega (arith, a, b); fits = omega (arith, a, b) }
@@ -55,7 +59,7 @@ module _ (t : Trimmed) (proper : Proper t) (ok : Accepted t) where
   spans-right f k h g s =
       let a = wants-read f k h in
       let b = wants-read f (suc k) h in
-      reads-right t proper f k h g (omega (arith, s .falls, a, b)) (omega (arith, s .fits, a, b))
+      reads-right t fit f k h g (omega (arith, s .falls, a, b)) (omega (arith, s .fits, a, b))
 
   -- So a chain that is right flows to its end, and one that is not does not flow at all.
   pub right-flows : Right t → FlowsUpTo (layout t) (iterationsOf t)
@@ -87,7 +91,7 @@ module _ (t : Trimmed) (proper : Proper t) (ok : Accepted t) where
       exact : (j k : ℕ) → j < iterationsOf t → suc k < t .count → layout t .wants j k ≡ layout t .wants j (suc k) + getD (t .capacities) k 0
       exact j k h g =
           let s = spans j k h g in
-          let same = same-distance t proper j k h g in
+          let same = same-distance t fit j k h g in
           omega (arith, p k g .exact, s .falls, wants-read j k h, wants-read j (suc k) h)
 
   -- The FIFOs' places are as many as the capacities' sum.

@@ -3,6 +3,7 @@ use mathlib.Core.Bool.{false}
 use mathlib.Core.List.{[]}
 use mathlib.Core.Path.{_≡_, refl, _∙_, ap}
 use Rattle.model.specs.Vectors.{isZero}
+use Rattle.model.specs.Boxes.{badBox}
 use Rattle.model.specs.Values.{Trimmed, trimmed, noOrder, sizesOf}
 use Rattle.model.specs.Answers.{firstOf}
 use Rattle.model.specs.Judging.{repeats, noIteration, badOrder, windowChecks, chainChecks, valueChecks, judged, judgeChain}
@@ -12,12 +13,21 @@ use Rattle.model.specs.declared.Request.{Request}
 use Rattle.model.specs.declared.Verdict.the-variants as verdict
 use Rattle.model.proofs.ListLaws.{length-tabulate}
 use Rattle.model.proofs.Distances.{same-count}
+use Rattle.model.proofs.Iterations.{fitting}
+use Rattle.model.proofs.SameWindows.{fitting-too}
 use Rattle.model.proofs.SortLaws.{length-falling, falling-each, falling-no-other, sized-falling, any-falling, repeats-falling}
 use Rattle.model.proofs.ChainLaws.{trimmed-chain}
 use Rattle.model.proofs.TermLaws.{length-authors, authors-good}
-use Rattle.model.proofs.CheckLaws.{value-passes, few-dims}
-use Rattle.model.specs.Sized.{Proper}
+use Rattle.model.proofs.CheckLaws.{value-passes, few-dims, some-references}
+use Rattle.model.specs.Sized.{Proper, Fitting}
 use Rattle.run_laws.proofs.Accepts.{trimmed-proper, accepted}
+
+-- With its offsets sorted a value fits its grid as before.
+sorted-fits : (t : Trimmed) → Fitting t → Fitting (sorted t)
+unfolding sorted
+sorted-fits t f =
+    fitting-too t (sorted t) refl (falling-each (t .offsets)) (falling-no-other (t .offsets)) refl f (length-falling (t .offsets) ∙ f .references)
+    (sized-falling (t .sizes) (t .offsets) (f .entries)) (f .bounded)
 
 -- A value that no number turns back is judged as before with its offsets sorted: the order that is recorded is each filter number once.
 same-checks : (t : Trimmed) → Proper t → judged t ≡ verdict.Accepted → valueChecks (sorted t) ≡ valueChecks t
@@ -26,13 +36,16 @@ same-checks t p e =
     let os = t .offsets in
     let q = value-passes t e in
     let recorded : badOrder (t .count) (authorsOrder os) ≡ false = rw (p .references) at (authors-good os (q .window .distinct)) in
-    rw (repeats-falling os, same-count (t .sizes) (falling os) os (falling-no-other os) (falling-each os), any-falling isZero os, recorded, q .chain .once)
+    let good = fitting t p (some-references (t .count) (q .window .count)) (q .window .fits) in
+    let boxed : badBox (t .sizes) (falling os) (t .part) ≡ false = sorted-fits t good .fits in
+    rw (repeats-falling os, same-count (t .sizes) (falling os) os (falling-no-other os) (falling-each os), boxed, q .window .fits, any-falling isZero os, recorded, q .chain .once)
 
 pub sorted-proper : (t : Trimmed) → Proper t → Proper (sorted t)
 unfolding sorted
 sorted-proper t p = record {
   references = length-falling (t .offsets) ∙ p .references;
   entries = sized-falling (t .sizes) (t .offsets) (p .entries);
+  bounded = p .bounded;
   fifos = p .fifos;
   terms = length-authors (t .offsets) ∙ p .references;
 }
@@ -45,10 +58,11 @@ no-repeats t e = value-passes t e .window .distinct
 pub request-proper : (r : Request) → Proper (trimmedRequest r)
 unfolding trimmedRequest trimmed sorted distances
 request-proper r =
-    let p = trimmed-proper (record { grid = r .grid; window = r .window; capacities = []; order = noOrder; kernel = r .kernel }) in
+    let p = trimmed-proper (record { grid = r .grid; window = r .window; bounds = r .bounds; capacities = []; order = noOrder; kernel = r .kernel }) in
     record {
       references = p .references;
       entries = p .entries;
+      bounded = p .bounded;
       fifos = length-tabulate _ _;
       terms = refl;
     }
@@ -59,7 +73,7 @@ module _ (r : Request) (ok : judgeRequest r ≡ verdict.Accepted) where
   unfolding judgeRequest judged plannedChain trimmedRequest sorted sizesOf
   planned-lists =
       let p = sorted-proper (trimmedRequest r) (request-proper r) in
-      trimmed-chain (sorted (trimmedRequest r)) (length-tabulate (r .grid .dims) _) (p .references) (p .entries) (p .fifos) (p .terms)
+      trimmed-chain (sorted (trimmedRequest r)) (length-tabulate (r .grid .dims) _) (p .references) (p .entries) (p .bounded) (p .fifos) (p .terms)
       (few-dims (r .grid .dims) (sizesOf (r .grid)) (value-passes (trimmedRequest r) ok .window .grid)) (accepted (trimmedRequest r) ok .few)
 
   pub planned-judged : judged (sorted (trimmedRequest r)) ≡ verdict.Accepted

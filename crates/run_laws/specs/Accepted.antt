@@ -1,7 +1,9 @@
--- A value that no number turns back: what the laws use of 3 to 9.
+-- A value that no number turns back: what the laws use of 3 to 9 and 15.
 use Prim.Native.Nat.{_≤_, _<_}
+use mathlib.Core.Bool.{false}
 use mathlib.Core.Path.{_≡_}
 use Rattle.model.specs.Lists.{sum}
+use Rattle.model.specs.Boxes.{badBox}
 use Rattle.model.specs.Values.{Trimmed}
 use Rattle.model.specs.Iterations.{cellsOf, iterationsOf}
 use Rattle.model.specs.Answers.{firstOf}
@@ -14,4 +16,5 @@ pub record Accepted (t : Trimmed) : Type 0 where
   pub some : 0 < t .count
   pub few : t .count ≤ 32
   pub iterates : 0 < iterationsOf t
+  pub fits : badBox (t .sizes) (t .offsets) (t .part) ≡ false
   pub places : sum (t .capacities) ≤ mostPlaces

@@ -114,18 +114,18 @@ some-extent (e ∷ es) h (suc d) l = some-extent es (factors-above-0 e (product 
 
 module _ {t : Trimmed} {dims : ℕ} {es ss : List ℕ} (spaced : Spaced t dims es ss) where
   dimensions : length (extentsOf t) ≡ dims
-  dimensions = extents-count t ∙ spaced .dimensions
+  dimensions = extents-count t (spaced .fitting .bounded) ∙ spaced .dimensions
 
   -- The way to iteration j is the place of its indices.
   pub walk-is : (j : ℕ) → j < iterationsOf t → walkBy (numberAt es) (numberAt ss) dims j ≡ place (t .sizes) (indices (extentsOf t) j)
   walk-is j h =
       walk-same dims (numberAt es) (numberAt ss) (λ d. getD (extentsOf t) d 0) (λ d. cellCount (drop (suc d) (t .sizes))) j (spaced .extents-are) (spaced .strides-are)
       ∙ ap (λ (n : ℕ). walkBy (λ d. getD (extentsOf t) d 0) (λ d. cellCount (drop (suc d) (t .sizes))) n j) (sym dimensions)
-      ∙ walk-place (t .sizes) (extentsOf t) j (sym (extents-count t)) (omega (arith, iterations-product t))
+      ∙ walk-place (t .sizes) (extentsOf t) j (sym (extents-count t (spaced .fitting .bounded))) (omega (arith, iterations-product t))
 
   pub walks : (j : ℕ) → j < iterationsOf t → Walks dims es ss j
   walks j h = record {
     few = spaced .few;
     some = λ d l. rw (spaced .extents-are d l) (some-extent (extentsOf t) (omega (arith, iterations-product t)) d (rw dimensions l));
-    near = omega (arith, walk-is j h, way-below t j h, spaced .cells);
+    near = omega (arith, walk-is j h, way-below t (spaced .fitting) j h, spaced .cells);
   }

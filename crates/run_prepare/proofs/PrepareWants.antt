@@ -30,14 +30,14 @@ module _ {t : Trimmed} {dims n cells iterations : ℕ} {es ss at : List ℕ} (sh
     reads-at : (k : ℕ) → k < n → numberAt at k + way ≡ readsOf t j k
     reads-at k g =
         ap₂ _+_ (shaped .reads-are k g) (e ∙ walk-is (shaped .spaced) j below)
-        ∙ sym (reads-from-first t (shaped .proper) j k below (reference k g))
+        ∙ sym (reads-from-first t (shaped .spaced .fitting) j k below (reference k g))
 
     pub wants-at : (k : ℕ) → k < n → numberAt at k + way ≡ layout t .wants j k
     wants-at k g = reads-at k g ∙ sym (wants-read t (shaped .proper) (shaped .accepted) j k below)
 
     pub wants-near : (k : ℕ) → k < n → numberAt at k + way < 18446744073709551616
     wants-near k g =
-        omega (arith, reads-at k g, below-cells t (shaped .proper) j k below (reference k g), shaped .spaced .cells)
+        omega (arith, reads-at k g, below-cells t (shaped .spaced .fitting) j k below (reference k g), shaped .spaced .cells)
 
   pub wants-past : (j k : ℕ) → iterations ≤ j → cells ≡ layout t .wants j k
   unfolding layout

@@ -136,7 +136,7 @@ module _ (c : Chain) {cells iterations : ℕ} {es ss at : List ℕ} (S : Shaped 
 
   dimensions : length whole ≡ c .grid .dims
   unfolding trimmed
-  dimensions = extents-count (trimmed c) ∙ S .spaced .dimensions
+  dimensions = extents-count (trimmed c) (S .spaced .fitting .bounded) ∙ S .spaced .dimensions
 
   behind : (d : ℕ) → part (numberAt es) d (c .grid .dims) ≡ drop d whole
   unfolding trimmed
@@ -154,7 +154,7 @@ module _ (c : Chain) {cells iterations : ℕ} {es ss at : List ℕ} (S : Shaped 
         ap product (behind d),
         product-last whole d iterates,
         iterations-product (trimmed c),
-        at-most-cells (trimmed c),
+        at-most-cells (trimmed c) (S .spaced .fitting),
         S .spaced .cells,
       )
 

@@ -12,7 +12,7 @@ use Rattle.model.specs.Clock.{Layout}
 use Rattle.model.specs.Running.{layout, countersOf, badState}
 use Rattle.model.specs.declared.CellsPassed.{CellsPassed}
 use Rattle.model.specs.declared.State.{State}
-use Rattle.model.specs.Sized.{Proper}
+use Rattle.model.specs.Sized.{Proper, Fitting}
 use Rattle.run_laws.specs.Accepted.{Accepted}
 
 -- The entry at a place of an array, and 0 past its end.
@@ -48,6 +48,7 @@ pub record Walks (dims : ℕ) (es ss : List ℕ) (j : ℕ) : Type 0 where
 
 -- The extents of the iterations, and the strides, which "are those of the whole grid": dimension d's is the number of cells of the dimensions behind it.
 pub record Spaced (t : Trimmed) (dims : ℕ) (es ss : List ℕ) : Type 0 where
+  pub fitting : Fitting t
   pub dimensions : length (t .sizes) ≡ dims
   pub few : dims ≤ 4
   pub cells : cellsOf t ≤ mostCells

@@ -19,7 +19,7 @@ ghost use Rattle.model.specs.Running.{layout, badCounter, badFifo, badState};
 ghost use Rattle.model.specs.declared.Verdict.the-variants.{Accepted, Refused};
 ghost use Rattle.geometry.specs.Parts.{part, Small};
 ghost use Rattle.geometry.specs.Windows.{centreIn};
-ghost use Rattle.shape.specs.Shapes.{shapeOf};
+ghost use Rattle.shape.specs.Shapes.{chainShape};
 ghost use Rattle.run_prepare.specs.Prepared.{numberAt, blank, Filled, Widened, walkBy, Walks, Shaped, Capped, counterAt, Laid, TakenUp};
 ghost use Rattle.run_prepare.specs.Ready.{Capable, Stored, Readied};
 
@@ -345,7 +345,7 @@ fn with_store(
     strides: &mut [usize; 4],
     passed: &mut [usize; 32],
 ) -> Ready
-    requires { ⌜ (shape ≡ shapeOf (chain .grid) (chain .window)) × (centre ≡ centreIn (chain .grid .dims) (chain .window)) ⌝ }
+    requires { ⌜ (shape ≡ chainShape chain) × (centre ≡ centreIn (chain .grid .dims) (chain .window)) ⌝ }
     requires { ⌜ Capable chain (now caps) ⌝ }
     ensures { λ r. ⌜ ((bases tops store : List ℕ) → Stored chain (now (caps .entry)) bases tops store
         → Readied chain state r (now (at .exit)) (now (wants .exit)) (now (caps .entry)) bases tops (now (spans .exit)) (now (strides .exit)) (now (passed .exit)) store) ⌝ }
@@ -405,7 +405,7 @@ fn with_chain(
     passed: &mut [usize; 32],
 ) -> Ready
     requires { ⌜ judgeChain chain ≡ Accepted ⌝ }
-    requires { ⌜ (shape ≡ shapeOf (chain .grid) (chain .window)) × (centre ≡ centreIn (chain .grid .dims) (chain .window)) ⌝ }
+    requires { ⌜ (shape ≡ chainShape chain) × (centre ≡ centreIn (chain .grid .dims) (chain .window)) ⌝ }
     ensures { λ r. ⌜ Readied chain state r (now (at .exit)) (now (wants .exit)) (now (caps .exit)) (now (bases .exit)) (now (tops .exit)) (now (spans .exit)) (now (strides .exit)) (now (passed .exit)) (now (store .entry)) ⌝ }
 {
     let n = chain.window.count as usize;

@@ -21,7 +21,7 @@ use Rattle.model.proofs.Iterations.{at-most-cells}
 use Rattle.kernel.specs.Tables.{filtersFor}
 use Rattle.kernel.proofs.TableLaws.{filters-are}
 use Rattle.flow.specs.Machine.{Holds, Invariant}
-use Rattle.run_laws.proofs.Accepts.{trimmed-proper}
+use Rattle.run_laws.proofs.Accepts.{trimmed-proper, fitting-of}
 use Rattle.loop_laws.specs.Passes.{of, Aligned}
 use Rattle.loop_laws.specs.Standings.{counting, stand, endedAt}
 use Rattle.loop_laws.specs.Tables.{walked, Tables, Stands}
@@ -97,7 +97,7 @@ module _ (c : Chain) (row iterations cells centre : ℕ) (at caps bases tops spa
 
   iterations-small : layout (trimmed c) .iterations ≤ 1048576
   unfolding layout
-  iterations-small = omega (arith, at-most-cells (trimmed c), good-grid (trimmed c) (P .accepted) .cells)
+  iterations-small = omega (arith, at-most-cells (trimmed c) (fitting-of (trimmed c) (trimmed-proper c) (P .accepted)), good-grid (trimmed c) (P .accepted) .cells)
 
   pub fired-fits : Fits w32 fired
   fired-fits = small-fits-32 fired (omega (arith, B .holds .most, iterations-small))

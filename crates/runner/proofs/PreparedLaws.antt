@@ -18,6 +18,7 @@ use Rattle.model.proofs.ListLaws.{length-tabulate}
 use Rattle.model.proofs.Iterations.{iterations-product, extents-count, reads-from-first, at-most-cells}
 use Rattle.model.specs.Sized.{Proper}
 use Rattle.run_laws.specs.Accepted.{Accepted}
+use Rattle.run_laws.proofs.Accepts.{fitting-of}
 use Rattle.run_laws.proofs.Held.{first-place-suc}
 use Rattle.run_laws.proofs.Layouts.{wants-read, lawful, all-places}
 use Rattle.loop_laws.specs.Tables.{walked, Tables, Stands, Rows}
@@ -56,7 +57,7 @@ module _ (t : Trimmed) (sized : length (t .sizes) ≡ t .dims) (proper : Proper 
   es = extentsOf t
 
   dimensions : length es ≡ t .dims
-  dimensions = extents-count t ∙ sized
+  dimensions = extents-count t (proper .bounded) ∙ sized
 
   iterates : 0 < product es
   iterates = omega (arith, iterations-product t, P .accepted .iterates)
@@ -77,7 +78,7 @@ module _ (t : Trimmed) (sized : length (t .sizes) ≡ t .dims) (proper : Proper 
           omega (
             arith,
             P .strides-are d g,
-            product-below (t .sizes) (suc d) (omega (arith, P .accepted .iterates, at-most-cells t)),
+            product-below (t .sizes) (suc d) (omega (arith, P .accepted .iterates, at-most-cells t (fitting-of t proper (P .accepted)))),
             good-grid t (P .accepted) .cells,
           )
 
@@ -125,7 +126,7 @@ module _ (t : Trimmed) (sized : length (t .sizes) ≡ t .dims) (proper : Proper 
       reads : (f k : ℕ) → f < iterations → k < t .count → layout t .wants f k ≡ getD at k 0 + walked spans strides (t .dims) 0 f
       reads f k h g =
           wants-read t proper (P .accepted) f k (omega (arith, P .iterations-are))
-          ∙ reads-from-first t proper f k (omega (arith, P .iterations-are)) g
+          ∙ reads-from-first t (fitting-of t proper (P .accepted)) f k (omega (arith, P .iterations-are)) g
           ∙ omega (arith, P .at-are k g, walk-is f)
 
   pub stands : (fired : ℕ) (wants passed store : List ℕ) → Begins t fired wants passed store → Stands (layout t) (t .count) fired caps bases passed store

@@ -3,3 +3,4 @@ pub mod PlacingLaws
 pub mod ShapeLaws
 pub mod Answers
 pub mod SurveyLaws
+pub mod BoxingLaws

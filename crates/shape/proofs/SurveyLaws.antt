@@ -10,9 +10,12 @@ use borrow.Author.Tests.{eq-eqb, ne-eqb}
 use Rattle.model.specs.Lists.{tabulate, any}
 use Rattle.model.specs.Vectors.{plus, equal}
 use Rattle.model.specs.Geometry.{position, iterationCount, iteration, reads}
+use Rattle.model.specs.Boxes.{course, badBox}
 use Rattle.model.specs.Answers.{firstOf}
-use Rattle.model.specs.Values.{sizesOf, offsetOf, offsetsOf}
+use Rattle.model.specs.Values.{sizesOf, offsetOf, offsetsOf, partOf}
+use Rattle.model.specs.Iterations.{courseOf}
 use Rattle.model.specs.Judging.{badGrid, badCount, repeats, noIteration, windowChecks}
+use Rattle.model.specs.declared.Bounds.{Bounds}
 use Rattle.model.specs.declared.Grid.{Grid}
 use Rattle.model.specs.declared.Refusal.the-variants as refusal
 use Rattle.model.specs.declared.Verdict.the-variants as verdict
@@ -20,7 +23,7 @@ use Rattle.model.specs.declared.Window.{Window}
 use Rattle.model.proofs.ListLaws.{getD-tabulate}
 use Rattle.model.proofs.OrderLaws.{equal-is}
 use Rattle.geometry.specs.Parts.{part, numberAt, offsetAt, Falls}
-use Rattle.shape.specs.Shapes.{shapeFor, blankShape, shapeOf, unsurveyedOf, surveyOf}
+use Rattle.shape.specs.Shapes.{shapeFor, wholeShape, blankShape, shapeOf, unsurveyedOf, surveyOf, Whole}
 use Rattle.shape.specs.declared.Shape.{Shape}
 use Rattle.shape.specs.declared.Survey.{Survey}
 use Rattle.geometry.specs.Windows.{repeatsIn, centreIn}
@@ -97,7 +100,7 @@ alone (suc (suc n)) o h = absurd (omega arith)
 module _ (g : Grid) (w : Window) (a : badGrid (g .dims) (sizesOf g) ≡ false) (b : badCount (w .count) ≡ false) where
   -- Offsets whose positions fall differ. Of a blank shape they fall for one reference only.
   pub fallen-differ : (s : Shape) → s ≡ shapeOf g w → Falls (numberAt (s .at)) (w .count) → repeatsIn (g .dims) w ≡ false
-  unfolding shapeFor blankShape reads offsetsOf offsetOf
+  unfolding shapeFor blankShape reads iteration offsetsOf offsetOf
   fallen-differ s e r =
       sym (repeats-held (g .dims) w (few-dimensions g a) (few-references w b)) ∙ at (ℕ-discrete (iterationCount (sizesOf g) (offsetsOf (g .dims) w)) 0)
     where
@@ -114,7 +117,7 @@ module _ (g : Grid) (w : Window) (a : badGrid (g .dims) (sizesOf g) ≡ false) (
       key : List ℤ → ℕ
       key v = position (sizesOf g) (plus (iteration (sizesOf g) (offsetsOf (g .dims) w) 0) v)
 
-      is-key : s ≡ shapeFor (sizesOf g) (offsetsOf (g .dims) w) → (k : ℕ) → k < w .count → numberAt (s .at) k ≡ key (offsetAt (g .dims) (w .offsets) k)
+      is-key : s ≡ wholeShape (sizesOf g) (offsetsOf (g .dims) w) → (k : ℕ) → k < w .count → numberAt (s .at) k ≡ key (offsetAt (g .dims) (w .offsets) k)
       is-key d k h =
           ap (λ (t : Shape). numberAt (t .at) k) d
           ∙ getD-tabulate 32 (λ i. reads (sizesOf g) (offsetsOf (g .dims) w) 0 i) k 0 (omega (arith, few-references w b))
@@ -128,24 +131,24 @@ module _ (g : Grid) (w : Window) (a : badGrid (g .dims) (sizesOf g) ≡ false) (
           (λ k h. omega (arith, is-key d k (omega arith), is-key d (k + 1) (omega arith), r k h))
 
 -- What is answered at each check, where those before it pass.
-module _ (g : Grid) (w : Window) where
-  pub survey-grid : badGrid (g .dims) (sizesOf g) ≡ true → unsurveyedOf refusal.BadGrid ≡ surveyOf g w
+module _ (g : Grid) (w : Window) (x : Bounds) where
+  pub survey-grid : badGrid (g .dims) (sizesOf g) ≡ true → unsurveyedOf refusal.BadGrid ≡ surveyOf g w x
   unfolding surveyOf windowChecks firstOf
   survey-grid e = rw e
 
   module _ (a : badGrid (g .dims) (sizesOf g) ≡ false) where
-    pub survey-count : badCount (w .count) ≡ true → unsurveyedOf refusal.BadCount ≡ surveyOf g w
+    pub survey-count : badCount (w .count) ≡ true → unsurveyedOf refusal.BadCount ≡ surveyOf g w x
     unfolding surveyOf windowChecks firstOf
     survey-count e = rw (a, e)
 
     module _ (b : badCount (w .count) ≡ false) where
-      pub survey-repeats : repeatsIn (g .dims) w ≡ true → unsurveyedOf refusal.EqualOffsets ≡ surveyOf g w
+      pub survey-repeats : repeatsIn (g .dims) w ≡ true → unsurveyedOf refusal.EqualOffsets ≡ surveyOf g w x
       unfolding surveyOf windowChecks firstOf
       survey-repeats e = rw (a, b, sym (repeats-is g w a b) ∙ e)
 
       module _ (s : Shape) (d : s ≡ shapeOf g w) where
         count-is : s .iterations ≡ iterationCount (sizesOf g) (offsetsOf (g .dims) w)
-        unfolding shapeFor blankShape
+        unfolding shapeFor blankShape iterationCount
         count-is = at (ℕ-discrete (iterationCount (sizesOf g) (offsetsOf (g .dims) w)) 0)
           where
             at : Dec (iterationCount (sizesOf g) (offsetsOf (g .dims) w) ≡ 0) → s .iterations ≡ iterationCount (sizesOf g) (offsetsOf (g .dims) w)
@@ -156,13 +159,19 @@ module _ (g : Grid) (w : Window) where
           distinct : repeats (offsetsOf (g .dims) w) ≡ false
           distinct = sym (repeats-is g w a b) ∙ c
 
-          pub survey-iterations : s .iterations ≡ 0 → unsurveyedOf refusal.NoIteration ≡ surveyOf g w
+          pub survey-iterations : s .iterations ≡ 0 → unsurveyedOf refusal.NoIteration ≡ surveyOf g w x
           unfolding surveyOf windowChecks firstOf noIteration
           survey-iterations z = rw (a, b, distinct, eq-eqb _ 0 (sym count-is ∙ z))
 
-          pub surveyed : (m : ℕ) → (s .iterations ≡ 0 → ⊥) → m ≡ centreIn (g .dims) w
-              → _≡_ {A = Survey} (record { verdict = verdict.Accepted; centre = m; shape = s }) (surveyOf g w)
-          unfolding surveyOf windowChecks firstOf noIteration
-          surveyed m some e =
+          -- Past all of these 3 to 6 let pass.
+          pub known : (m : ℕ) → (s .iterations ≡ 0 → ⊥) → m ≡ centreIn (g .dims) w → Whole g w m s
+          unfolding noIteration
+          known m some e =
               let z : iterationCount (sizesOf g) (offsetsOf (g .dims) w) ≡ 0 → ⊥ = λ q. some (count-is ∙ q) in
-              rw (a, b, distinct, ne-eqb _ 0 z, e ∙ centre-is g w a b, d ∙ sym (whole-shape g w a b z))
+              record { grid = a; count = b; distinct = distinct; iterates = ne-eqb _ 0 z; centre-is = e ∙ centre-is g w a b; shape-is = d ∙ sym (whole-shape g w a b z) }
+
+-- Where no box stood, that is the survey.
+pub surveyed : (g : Grid) (w : Window) (x : Bounds) (m : ℕ) (s : Shape) → Whole g w m s → x .stood ≡ false
+    → _≡_ {A = Survey} (record { verdict = verdict.Accepted; centre = m; shape = s }) (surveyOf g w x)
+unfolding surveyOf windowChecks firstOf courseOf course partOf badBox
+surveyed g w x m s k e = rw (k .grid, k .count, k .distinct, k .iterates, e, k .centre-is, k .shape-is)

@@ -1,15 +1,20 @@
 -- What this crate's public functions answer, on any value: the model's definitions where 3 and 4 let the value pass, and a fixed answer elsewhere.
 use Prim.Native.Nat.{ℕ, zero, suc}
-use mathlib.Core.Bool.{Bool, not, cond, _&&_}
+use mathlib.Core.Bool.{Bool, false, not, cond, _&&_}
 use mathlib.Core.List.{List, [], _∷_}
+use mathlib.Core.Path.{_≡_}
 use lib.IntN.{ℤ}
 use lib.ListN.{getD}
 use Rattle.model.specs.Lists.{tabulate}
-use Rattle.model.specs.Geometry.{cellCount, extents, iterationCount, reads}
+use Rattle.model.specs.Vectors.{plus}
+use Rattle.model.specs.Geometry.{cellCount, position, Course, count, vector, allIterations}
 use Rattle.model.specs.Answers.{byVerdict}
-use Rattle.model.specs.Values.{sizesOf, offsetsOf}
-use Rattle.model.specs.Judging.{badGrid, badCount, noIteration, judgeWindow}
+use Rattle.model.specs.Values.{sizesOf, offsetsOf, trimmed, onGrid}
+use Rattle.model.specs.Iterations.{courseOf}
+use Rattle.model.specs.Judging.{badGrid, badCount, repeats, noIteration, judgeWindow}
 use Rattle.model.specs.Kernels.{centreOf}
+use Rattle.model.specs.declared.Bounds.{Bounds}
+use Rattle.model.specs.declared.Chain.{Chain}
 use Rattle.model.specs.declared.Grid.{Grid}
 use Rattle.model.specs.declared.Refusal.{Refusal}
 use Rattle.model.specs.declared.Verdict.the-variants as verdict
@@ -27,15 +32,19 @@ stride [] d = 0
 stride (s ∷ ss) zero = cellCount ss
 stride (s ∷ ss) (suc d) = stride ss d
 
--- A window on a grid as numbers. Past the last dimension and the last reference they are 0.
-unfoldable pub shapeFor : List ℕ → List (List ℤ) → Shape
-shapeFor sizes offsets = record {
+-- A window on a grid, where a run takes this course, as numbers. Past the last dimension and the last reference they are 0.
+unfoldable pub shapeFor : List ℕ → List (List ℤ) → Course → Shape
+shapeFor sizes offsets c = record {
   cells = cellCount sizes;
-  iterations = iterationCount sizes offsets;
-  extents = tabulate 4 (λ d. getD (extents sizes offsets) d 0);
+  iterations = count c;
+  extents = tabulate 4 (λ d. getD (c .widths) d 0);
   strides = tabulate 4 (λ d. stride sizes d);
-  at = tabulate 32 (λ k. reads sizes offsets 0 k);
+  at = tabulate 32 (λ k. position sizes (plus (vector c 0) (getD offsets k [])));
 }
+
+-- Where it covers all iterations.
+abbrev pub wholeShape : List ℕ → List (List ℤ) → Shape
+wholeShape sizes offsets = shapeFor sizes offsets (allIterations sizes offsets)
 
 unfoldable pub blankShape : Shape
 blankShape = record { cells = 0; iterations = 0; extents = tabulate 4 (λ d. 0); strides = tabulate 4 (λ d. 0); at = tabulate 32 (λ k. 0) }
@@ -45,14 +54,29 @@ unfoldable pub shapeOf : Grid → Window → Shape
 shapeOf g w =
     let sizes = sizesOf g in
     let offsets = offsetsOf (g .dims) w in
-    let whole = shapeFor sizes offsets in
+    let whole = wholeShape sizes offsets in
     cond (sound g w && not (noIteration sizes offsets)) whole blankShape
 
 abbrev pub unsurveyedOf : Refusal → Survey
 unsurveyedOf x = record { verdict = verdict.Refused x; centre = 0; shape = blankShape }
 
--- What judging and running ask of a window on a grid, found together: the first of 3 to 6 that turns the two back, else the centre and the shape.
-unfoldable pub surveyOf : Grid → Window → Survey
-surveyOf g w =
+-- What judging and running ask of a window on a grid, found together: the first of 3 to 6 and 15 that turns them back, else the centre and the shape of the course that a run takes.
+unfoldable pub surveyOf : Grid → Window → Bounds → Survey
+surveyOf g w b =
     let offsets = offsetsOf (g .dims) w in
-    byVerdict (judgeWindow g w) (record { verdict = verdict.Accepted; centre = centreOf offsets; shape = shapeFor (sizesOf g) offsets }) unsurveyedOf
+    byVerdict (judgeWindow g w b)
+    (record { verdict = verdict.Accepted; centre = centreOf offsets; shape = shapeFor (sizesOf g) offsets (courseOf (onGrid g w b)) })
+    unsurveyedOf
+
+-- The shape of an accepted chain.
+unfoldable pub chainShape : Chain → Shape
+chainShape c = shapeFor (sizesOf (c .grid)) (offsetsOf (c .grid .dims) (c .window)) (courseOf (trimmed c))
+
+-- The centre and the shape of all iterations, of a grid and a window that 3 to 6 let pass.
+pub record Whole (g : Grid) (w : Window) (centre : ℕ) (s : Shape) : Type 0 where
+  pub grid : badGrid (g .dims) (sizesOf g) ≡ false
+  pub count : badCount (w .count) ≡ false
+  pub distinct : repeats (offsetsOf (g .dims) w) ≡ false
+  pub iterates : noIteration (sizesOf g) (offsetsOf (g .dims) w) ≡ false
+  pub centre-is : centre ≡ centreOf (offsetsOf (g .dims) w)
+  pub shape-is : s ≡ wholeShape (sizesOf g) (offsetsOf (g .dims) w)

@@ -1,4 +1,7 @@
 // A window on a grid as numbers (document 01, "Grid, window, distances"): extents, strides, positions. What a public function answers on any value is fixed in specs/Shapes.antt.
+mod boxed;
+
+use model::Bounds;
 use model::Grid;
 use model::Refusal;
 use model::Verdict;
@@ -15,7 +18,7 @@ ghost use Rattle.model.specs.Values.{sizesOf};
 ghost use Rattle.model.specs.Judging.{mostCells, badGrid, badCount};
 ghost use Rattle.geometry.specs.Parts.{part, numberAt, entriesIn, Filled, Lows, placeBy, Small, Falls};
 ghost use Rattle.geometry.specs.Windows.{repeatsIn};
-ghost use Rattle.shape.specs.Shapes.{blankShape, shapeOf, unsurveyedOf, surveyOf};
+ghost use Rattle.shape.specs.Shapes.{blankShape, shapeOf, unsurveyedOf, surveyOf, Whole};
 
 // A window on a grid as numbers. All are 0 where 3, 4 or 6 turns the two back.
 pub struct Shape {
@@ -261,7 +264,7 @@ fn repeats_at(dims: u8, window: Window, at: &[u32; 32]) -> bool
     geometry::repeats(dims, window)
 }
 
-// What judging and running ask of a window on a grid: the first of 3 to 6 that turns the two back, else the centre and the shape.
+// What judging and running ask of a window on a grid: the first of 3 to 6 and 15 that turns them back, else the centre and the shape of the iterations that a run covers.
 pub struct Survey {
     pub verdict: Verdict,
     pub centre: u8,
@@ -279,9 +282,43 @@ fn unsurveyed(x: Refusal) -> Survey
     }
 }
 
-// 3 to 6, the centre and the shape, found together.
-pub fn survey_of(grid: Grid, window: Window) -> Survey
-    ensures { λ r. ⌜ r ≡ surveyOf grid window ⌝ }
+// 15, and the shape of a box, of a grid and a window that 3 to 6 let pass and whose own shape is known.
+fn survey_box(grid: Grid, window: Window, bounds: Bounds, centre: u8, whole: Shape) -> Survey
+    requires { ⌜ (bounds .stood ≡ true) × Whole grid window centre whole ⌝ }
+    ensures { λ r. ⌜ r ≡ surveyOf grid window bounds ⌝ }
+{
+    let dims = grid.dims as usize;
+    let n = window.count as usize;
+    let offsets = window.offsets;
+    let lows = lows_of(&offsets, n, dims);
+    let extents = whole.extents;
+    let place = boxed::place_box(bounds, &lows, &extents, dims);
+    if !place.fits {
+        return unsurveyed(Refusal::BadBox);
+    }
+    let firsts = place.firsts;
+    let widths = place.widths;
+    let strides = whole.strides;
+    let cells = boxed::cells_behind(&firsts, &strides, dims);
+    let first = whole.at;
+    let at = boxed::further(&first, cells, n);
+    let iterations = product(&widths, 0, dims);
+    Survey {
+        verdict: Verdict::Accepted,
+        centre,
+        shape: Shape {
+            cells: whole.cells,
+            iterations,
+            extents: widths,
+            strides,
+            at,
+        },
+    }
+}
+
+// 3 to 6 and 15, the centre and the shape, found together.
+pub fn survey_of(grid: Grid, window: Window, bounds: Bounds) -> Survey
+    ensures { λ r. ⌜ r ≡ surveyOf grid window bounds ⌝ }
 {
     if geometry::bad_grid(grid) {
         return unsurveyed(Refusal::BadGrid);
@@ -299,6 +336,9 @@ pub fn survey_of(grid: Grid, window: Window) -> Survey
         return unsurveyed(Refusal::NoIteration);
     }
     let centre = geometry::centre(grid.dims, window);
+    if bounds.stood {
+        return survey_box(grid, window, bounds, centre, shape);
+    }
     Survey {
         verdict: Verdict::Accepted,
         centre,

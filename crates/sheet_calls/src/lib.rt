@@ -88,7 +88,7 @@ pub fn read_request(text: &[u8]) -> ReadRequest
     }
 }
 
-// The sheet of a chain into the lent output: 3 to 9 and 14 of the chain, then 12.
+// The sheet of a chain into the lent output: 3 to 9, 14 and 15 of the chain, then 12.
 pub fn write_chain(c: Chain, out: &mut [u8]) -> Wrote
     ensures { λ r. ⌜ written r (now (out .exit)) ≡ writeOf c (now (out .entry)) ⌝ }
 {

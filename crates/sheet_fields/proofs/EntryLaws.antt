@@ -1,11 +1,11 @@
--- 16 bits in two's complement.
+-- 16 bits in two's complement, and 32.
 use Prim.Native.Nat.{ℕ, suc, _+_, _-_, _%_, _≤_, _<_}
 use mathlib.Core.Path.{_≡_, refl, ap}
 use native.Mathlib.Omega.{arith}
 use lib.IntN.{ℤ, pos, negsuc, _+ℤ_, _-ℤ_}
 use lib.Signed.{mag}
 use borrow.Author.Tests.{le-ltb, lt-ltb}
-use Rattle.model.specs.Numbers.{signed, pattern}
+use Rattle.model.specs.Numbers.{signed, pattern, signedWord, wordPattern}
 
 pub signed-low : (w : ℕ) → w < 32768 → pos w ≡ signed w
 unfolding signed
@@ -38,3 +38,35 @@ pub raised-pattern : (z : ℤ) → mag z < 32768 → raised z % 65536 ≡ patter
 unfolding pattern
 raised-pattern (pos n) h = omega arith
 raised-pattern (negsuc n) h = omega arith
+
+pub signed-word-low : (w : ℕ) → w < 2147483648 → pos w ≡ signedWord w
+unfolding signedWord
+signed-word-low w h = rw (lt-ltb _ _ h)
+
+pub signed-word-high : (w : ℕ) → 2147483648 ≤ w → w < 4294967296 → pos w -ℤ pos 4294967296 ≡ signedWord w
+unfolding signedWord
+signed-word-high w h l =
+    let e : 4294967296 - suc w ≡ 4294967295 - w = omega arith in
+    rw (le-ltb _ _ h, lt-ltb w 4294967296 l) (ap negsuc e)
+
+pub signed-word-small : (w : ℕ) → 2147483648 ≤ w → w < 4294967296 → mag (signedWord w) < 2147483648
+unfolding signedWord
+signed-word-small w h l = rw (le-ltb _ _ h) (omega arith)
+
+-- An index and 4294967296 more.
+abbrev pub lifted : ℤ → ℕ
+lifted (pos n) = n + 4294967296
+lifted (negsuc n) = 4294967295 - n
+
+pub sum-lifted : (z : ℤ) → mag z < 2147483648 → z +ℤ pos 4294967296 ≡ pos (lifted z)
+sum-lifted (pos n) h = refl
+sum-lifted (negsuc n) h = rw (le-ltb 4294967296 (suc n) (omega arith)) (ap pos (omega arith))
+
+pub lifted-small : (z : ℤ) → mag z < 2147483648 → lifted z < 8589934592
+lifted-small (pos n) h = omega arith
+lifted-small (negsuc n) h = omega arith
+
+pub lifted-pattern : (z : ℤ) → mag z < 2147483648 → lifted z % 4294967296 ≡ wordPattern z
+unfolding wordPattern
+lifted-pattern (pos n) h = omega arith
+lifted-pattern (negsuc n) h = omega arith

@@ -13,8 +13,8 @@ use lib.Seq.{sets, drop-cons, ext-getD, getD-set-same, getD-set-other}
 use borrow.Author.Tests.{ne-eqb, lt-ltb, le-ltb}
 use Rattle.model.specs.declared.Kernel.the-variants as kernel
 use Rattle.model.specs.Lists.{tabulate}
-use Rattle.model.specs.Numbers.{byteAt, halfAt, wordAt, signed}
-use Rattle.model.specs.Reading.{sizesIn, entriesIn, filtersIn, kernelIn}
+use Rattle.model.specs.Numbers.{byteAt, halfAt, wordAt, signed, signedWord}
+use Rattle.model.specs.Reading.{sizesIn, entriesIn, lowestIn, highestIn, filtersIn, kernelIn}
 use Rattle.model.proofs.ListLaws.{length-tabulate, getD-tabulate}
 
 -- Entries of xs put in one after the other: entry t in place i of l, and no more of them.
@@ -37,6 +37,16 @@ module _ (x : List ℕ) where
       → a ∷ b ∷ c ∷ d ∷ [] ≡ entriesIn x
   unfolding entriesIn
   four-entries a b c d e f g h = rw (e, f, g, h)
+
+  pub four-lowest : (a b c d : ℤ) → a ≡ signedWord (wordAt x 1) → b ≡ signedWord (wordAt x 9) → c ≡ signedWord (wordAt x 17) → d ≡ signedWord (wordAt x 25)
+      → a ∷ b ∷ c ∷ d ∷ [] ≡ lowestIn x
+  unfolding lowestIn
+  four-lowest a b c d e f g h = rw (e, f, g, h)
+
+  pub four-highest : (a b c d : ℤ) → a ≡ signedWord (wordAt x 5) → b ≡ signedWord (wordAt x 13) → c ≡ signedWord (wordAt x 21) → d ≡ signedWord (wordAt x 29)
+      → a ∷ b ∷ c ∷ d ∷ [] ≡ highestIn x
+  unfolding highestIn
+  four-highest a b c d e f g h = rw (e, f, g, h)
 
   pub kernel-raw : byteAt x 1 ≡ 0 → kernel.Raw ≡ kernelIn x
   unfolding kernelIn

@@ -1,4 +1,4 @@
-// What stands on a line: its numbers from the line's bytes, and the patterns that are written for an entry and a factor.
+// What stands on a line: its numbers from the line's bytes, and the patterns that are written for an entry, an index and a factor.
 use model::Factors;
 use model::KEPT;
 use model::Kernel;
@@ -6,8 +6,8 @@ use values::lesser;
 ghost use mathlib.Core.Path.{_≡_};
 ghost use Prim.Native.Nat.{_+_, _*_};
 ghost use lib.Ieee.{ofBits, toBits, binary32};
-ghost use Rattle.model.specs.Numbers.{wordAt, signed, pattern};
-ghost use Rattle.model.specs.Reading.{sizesIn, entriesIn, filtersIn, kernelIn};
+ghost use Rattle.model.specs.Numbers.{wordAt, signed, pattern, signedWord, wordPattern};
+ghost use Rattle.model.specs.Reading.{sizesIn, entriesIn, lowestIn, highestIn, filtersIn, kernelIn};
 
 // Four bytes, most significant first.
 fn word(a: u8, b: u8, c: u8, d: u8) -> u32
@@ -31,6 +31,16 @@ pub fn entry(w: u16) -> i16
         return w as i16;
     }
     (w as i32 - 65536) as i16
+}
+
+// 32 bits in two's complement.
+pub fn index(w: u32) -> i32
+    ensures { λ r. ⌜ r ≡ signedWord w ⌝ }
+{
+    if w < 2147483648 {
+        return w as i32;
+    }
+    (w as i64 - 4294967296) as i32
 }
 
 // The float of its bits; one for all the patterns that are not a number.
@@ -65,6 +75,30 @@ pub fn entries_in(x: [u8; KEPT]) -> [i16; 4]
         entry(half(x[3], x[4])),
         entry(half(x[5], x[6])),
         entry(half(x[7], x[8])),
+    ]
+}
+
+// The lowest indices on an `08` line, 0 past its end,
+pub fn lowest_in(x: [u8; KEPT]) -> [i32; 4]
+    ensures { λ r. ⌜ r ≡ lowestIn x ⌝ }
+{
+    [
+        index(word(x[1], x[2], x[3], x[4])),
+        index(word(x[9], x[10], x[11], x[12])),
+        index(word(x[17], x[18], x[19], x[20])),
+        index(word(x[25], x[26], x[27], x[28])),
+    ]
+}
+
+// and the highest.
+pub fn highest_in(x: [u8; KEPT]) -> [i32; 4]
+    ensures { λ r. ⌜ r ≡ highestIn x ⌝ }
+{
+    [
+        index(word(x[5], x[6], x[7], x[8])),
+        index(word(x[13], x[14], x[15], x[16])),
+        index(word(x[21], x[22], x[23], x[24])),
+        index(word(x[29], x[30], x[31], x[32])),
     ]
 }
 
@@ -114,6 +148,14 @@ pub fn pattern_of(e: i16) -> u16
 {
     let above = e as i32 + 65536;
     (above as u32 % 65536) as u16
+}
+
+// An index's 32 bits.
+pub fn word_pattern_of(e: i32) -> u32
+    ensures { λ r. ⌜ r ≡ wordPattern e ⌝ }
+{
+    let above = e as i64 + 4294967296;
+    (above as u64 % 4294967296) as u32
 }
 
 // A factor's bits.

@@ -21,7 +21,7 @@ use Rattle.model.specs.Numbers.{byteAt}
 use Rattle.model.specs.NamedWindows.{badName}
 use Rattle.model.specs.Reading.{kindOf, secondOf, badKernel, badForm, malformed, badLength, sizesIn, lineChecks, lineVerdict}
 use Rattle.model.specs.Reading.{nextInRequest, nextInChain, miscounted, among, misplaced, closes, complete}
-use Rattle.model.specs.Reading.{taken, withGrid, withOffset, withName, withCapacity, withOrder, withKernel}
+use Rattle.model.specs.Reading.{taken, withGrid, withOffset, withName, withBox, withCapacity, withOrder, withKernel}
 use Rattle.sheet_laws.proofs.Cases.{by-eq, never, of-kind, both, neither, or-false}
 
 -- A refusal is no acceptance.
@@ -34,10 +34,15 @@ unfolding firstOf
 clear true r cs h = absurd (refused-accepted h)
 clear false r cs h = (refl, h)
 
--- What stood last where the `04` line is in its place: an `02` line, in a chain sheet an `03` or `06` line, in a request sheet an `07` line.
+-- What stood last where an `03` or `06` line is in its place: an `02`, `08` or `03` line.
+pub data BehindOffsets (last : Last) : Type 0 where
+  offsets : last ≡ stood.Offset → BehindOffsets last
+  bounds : last ≡ stood.Box → BehindOffsets last
+  capacities : last ≡ stood.Capacity → BehindOffsets last
+
+-- And where the `04` line is: one of these, in a chain sheet an `06` line, in a request sheet an `07` line.
 pub data BehindWindow (chainSheet : Bool) (last : Last) : Type 0 where
-  offsets : last ≡ stood.Offset → BehindWindow chainSheet last
-  capacities : last ≡ stood.Capacity → BehindWindow chainSheet last
+  filters : BehindOffsets last → BehindWindow chainSheet last
   terms : chainSheet ≡ true → last ≡ stood.Order → BehindWindow chainSheet last
   named : chainSheet ≡ false → last ≡ stood.Name → BehindWindow chainSheet last
 
@@ -46,8 +51,9 @@ pub data Admitted (chainSheet : Bool) (r : Reading) (l : Seen) : Type 0 where
   grid : kindOf l ≡ 1 → r .last ≡ stood.Nothing → 0 < secondOf l → secondOf l ≤ 4 → l .len ≡ 2 + 4 * secondOf l
       → badSizes (take (secondOf l) (sizesIn (l .first))) ≡ false → Admitted chainSheet r l
   offset : kindOf l ≡ 2 → (r .last ≡ stood.Grid) ⊎ (r .last ≡ stood.Offset) → l .len ≡ 1 + 2 * r .chain .grid .dims → r .chain .window .count < 32 → Admitted chainSheet r l
-  capacity : kindOf l ≡ 3 → (r .last ≡ stood.Offset) ⊎ (r .last ≡ stood.Capacity) → chainSheet ≡ true → r .given + 1 < r .chain .window .count → l .len ≡ 5 → Admitted chainSheet r l
-  order : kindOf l ≡ 6 → (r .last ≡ stood.Offset) ⊎ (r .last ≡ stood.Capacity) → chainSheet ≡ true → r .chain .window .count ≡ r .given + 1
+  box : kindOf l ≡ 8 → (r .last ≡ stood.Offset) ⊎ ((chainSheet ≡ false) × (r .last ≡ stood.Name)) → l .len ≡ 1 + 8 * r .chain .grid .dims → Admitted chainSheet r l
+  capacity : kindOf l ≡ 3 → BehindOffsets (r .last) → chainSheet ≡ true → r .given + 1 < r .chain .window .count → l .len ≡ 5 → Admitted chainSheet r l
+  order : kindOf l ≡ 6 → BehindOffsets (r .last) → chainSheet ≡ true → r .chain .window .count ≡ r .given + 1
       → l .len ≡ 1 + r .chain .window .count → Admitted chainSheet r l
   kernel : kindOf l ≡ 4 → BehindWindow chainSheet (r .last) → (chainSheet ≡ true → r .chain .window .count ≡ r .given + 1)
       → badKernel (l .len) (secondOf l) ≡ false → Admitted chainSheet r l
@@ -71,12 +77,12 @@ module _ (sound : Bool) (len kind second : ℕ) (h : malformed sound len kind se
   unfolding badForm
   formed-name e = eqb-true len 2 (not-false _ (rw e at (well-formed .1)))
 
-  formed-cell : (kind ≡ 1 → ⊥) → (kind ≡ 2 → ⊥) → (kind ≡ 3 → ⊥) → (kind ≡ 4 → ⊥) → (kind ≡ 6 → ⊥) → (kind ≡ 7 → ⊥) → kind ≡ 5
+  formed-cell : (kind ≡ 1 → ⊥) → (kind ≡ 2 → ⊥) → (kind ≡ 3 → ⊥) → (kind ≡ 4 → ⊥) → (kind ≡ 6 → ⊥) → (kind ≡ 7 → ⊥) → (kind ≡ 8 → ⊥) → kind ≡ 5
   unfolding badForm
-  formed-cell a b c d f g =
+  formed-cell a b c d f g i =
       by-eq kind 5
       (λ e. e)
-      (λ e. absurd (never (simp (ne-eqb _ _ a, ne-eqb _ _ b, ne-eqb _ _ c, ne-eqb _ _ d, ne-eqb _ _ e, ne-eqb _ _ f, ne-eqb _ _ g) at (well-formed .1))))
+      (λ e. absurd (never (simp (ne-eqb _ _ a, ne-eqb _ _ b, ne-eqb _ _ c, ne-eqb _ _ d, ne-eqb _ _ e, ne-eqb _ _ f, ne-eqb _ _ g, ne-eqb _ _ i) at (well-formed .1))))
 
 -- What stood last, where a line of each kind is in its place.
 module _ (given count : ℕ) where
@@ -89,6 +95,8 @@ module _ (given count : ℕ) where
   placed-grid false stood.Offset h = absurd (never h)
   placed-grid true stood.Name h = absurd (never h)
   placed-grid false stood.Name h = absurd (never h)
+  placed-grid true stood.Box h = absurd (never h)
+  placed-grid false stood.Box h = absurd (never h)
   placed-grid true stood.Capacity h = absurd (never h)
   placed-grid false stood.Capacity h = absurd (never h)
   placed-grid true stood.Order h = absurd (never h)
@@ -104,6 +112,8 @@ module _ (given count : ℕ) where
   placed-offset chainSheet stood.Offset h = inr refl
   placed-offset true stood.Name h = absurd (never h)
   placed-offset false stood.Name h = absurd (never h)
+  placed-offset true stood.Box h = absurd (never h)
+  placed-offset false stood.Box h = absurd (never h)
   placed-offset true stood.Capacity h = absurd (never h)
   placed-offset false stood.Capacity h = absurd (never h)
   placed-offset true stood.Order h = absurd (never h)
@@ -112,19 +122,21 @@ module _ (given count : ℕ) where
   placed-offset false stood.Kernel h = absurd (never h)
 
   placed-capacity : (chainSheet : Bool) (last : Last) → misplaced chainSheet last given count 3 ≡ false
-      → ((last ≡ stood.Offset) ⊎ (last ≡ stood.Capacity)) × (chainSheet ≡ true) × (given + 1 < count)
+      → BehindOffsets last × (chainSheet ≡ true) × (given + 1 < count)
   unfolding misplaced among any nextInRequest nextInChain miscounted
   placed-capacity true stood.Nothing h = absurd (never h)
   placed-capacity true stood.Grid h = absurd (never h)
-  placed-capacity true stood.Offset h = (inl refl, refl, leb-false _ _ h)
+  placed-capacity true stood.Offset h = (offsets refl, refl, leb-false _ _ h)
   placed-capacity true stood.Name h = absurd (never h)
-  placed-capacity true stood.Capacity h = (inr refl, refl, leb-false _ _ h)
+  placed-capacity true stood.Box h = (bounds refl, refl, leb-false _ _ h)
+  placed-capacity true stood.Capacity h = (capacities refl, refl, leb-false _ _ h)
   placed-capacity true stood.Order h = absurd (never h)
   placed-capacity true stood.Kernel h = absurd (never h)
   placed-capacity false stood.Nothing h = absurd (never h)
   placed-capacity false stood.Grid h = absurd (never h)
   placed-capacity false stood.Offset h = absurd (never h)
   placed-capacity false stood.Name h = absurd (never h)
+  placed-capacity false stood.Box h = absurd (never h)
   placed-capacity false stood.Capacity h = absurd (never h)
   placed-capacity false stood.Order h = absurd (never h)
   placed-capacity false stood.Kernel h = absurd (never h)
@@ -134,33 +146,37 @@ module _ (given count : ℕ) where
   unfolding misplaced among any nextInRequest nextInChain miscounted
   placed-kernel true stood.Nothing h = absurd (never h)
   placed-kernel true stood.Grid h = absurd (never h)
-  placed-kernel true stood.Offset h = (offsets refl, λ z. eqb-true _ _ (not-false _ h))
+  placed-kernel true stood.Offset h = (filters (offsets refl), λ z. eqb-true _ _ (not-false _ h))
   placed-kernel true stood.Name h = absurd (never h)
-  placed-kernel true stood.Capacity h = (capacities refl, λ z. eqb-true _ _ (not-false _ h))
+  placed-kernel true stood.Box h = (filters (bounds refl), λ z. eqb-true _ _ (not-false _ h))
+  placed-kernel true stood.Capacity h = (filters (capacities refl), λ z. eqb-true _ _ (not-false _ h))
   placed-kernel true stood.Order h = (terms refl refl, λ z. eqb-true _ _ (not-false _ h))
   placed-kernel true stood.Kernel h = absurd (never h)
   placed-kernel false stood.Nothing h = absurd (never h)
   placed-kernel false stood.Grid h = absurd (never h)
-  placed-kernel false stood.Offset h = (offsets refl, λ z. absurd (never (sym z)))
+  placed-kernel false stood.Offset h = (filters (offsets refl), λ z. absurd (never (sym z)))
   placed-kernel false stood.Name h = (named refl refl, λ z. absurd (never (sym z)))
+  placed-kernel false stood.Box h = (filters (bounds refl), λ z. absurd (never (sym z)))
   placed-kernel false stood.Capacity h = absurd (never h)
   placed-kernel false stood.Order h = absurd (never h)
   placed-kernel false stood.Kernel h = absurd (never h)
 
   placed-order : (chainSheet : Bool) (last : Last) → misplaced chainSheet last given count 6 ≡ false
-      → ((last ≡ stood.Offset) ⊎ (last ≡ stood.Capacity)) × (chainSheet ≡ true) × (count ≡ given + 1)
+      → BehindOffsets last × (chainSheet ≡ true) × (count ≡ given + 1)
   unfolding misplaced among any nextInRequest nextInChain miscounted
   placed-order true stood.Nothing h = absurd (never h)
   placed-order true stood.Grid h = absurd (never h)
-  placed-order true stood.Offset h = (inl refl, refl, eqb-true _ _ (not-false _ h))
+  placed-order true stood.Offset h = (offsets refl, refl, eqb-true _ _ (not-false _ h))
   placed-order true stood.Name h = absurd (never h)
-  placed-order true stood.Capacity h = (inr refl, refl, eqb-true _ _ (not-false _ h))
+  placed-order true stood.Box h = (bounds refl, refl, eqb-true _ _ (not-false _ h))
+  placed-order true stood.Capacity h = (capacities refl, refl, eqb-true _ _ (not-false _ h))
   placed-order true stood.Order h = absurd (never h)
   placed-order true stood.Kernel h = absurd (never h)
   placed-order false stood.Nothing h = absurd (never h)
   placed-order false stood.Grid h = absurd (never h)
   placed-order false stood.Offset h = absurd (never h)
   placed-order false stood.Name h = absurd (never h)
+  placed-order false stood.Box h = absurd (never h)
   placed-order false stood.Capacity h = absurd (never h)
   placed-order false stood.Order h = absurd (never h)
   placed-order false stood.Kernel h = absurd (never h)
@@ -171,6 +187,7 @@ module _ (given count : ℕ) where
   never-cell true stood.Grid h = never h
   never-cell true stood.Offset h = never h
   never-cell true stood.Name h = never h
+  never-cell true stood.Box h = never h
   never-cell true stood.Capacity h = never h
   never-cell true stood.Order h = never h
   never-cell true stood.Kernel h = never h
@@ -178,6 +195,7 @@ module _ (given count : ℕ) where
   never-cell false stood.Grid h = never h
   never-cell false stood.Offset h = never h
   never-cell false stood.Name h = never h
+  never-cell false stood.Box h = never h
   never-cell false stood.Capacity h = never h
   never-cell false stood.Order h = never h
   never-cell false stood.Kernel h = never h
@@ -188,6 +206,7 @@ module _ (given count : ℕ) where
   placed-name true stood.Grid h = absurd (never h)
   placed-name true stood.Offset h = absurd (never h)
   placed-name true stood.Name h = absurd (never h)
+  placed-name true stood.Box h = absurd (never h)
   placed-name true stood.Capacity h = absurd (never h)
   placed-name true stood.Order h = absurd (never h)
   placed-name true stood.Kernel h = absurd (never h)
@@ -195,9 +214,30 @@ module _ (given count : ℕ) where
   placed-name false stood.Grid h = (refl, refl)
   placed-name false stood.Offset h = absurd (never h)
   placed-name false stood.Name h = absurd (never h)
+  placed-name false stood.Box h = absurd (never h)
   placed-name false stood.Capacity h = absurd (never h)
   placed-name false stood.Order h = absurd (never h)
   placed-name false stood.Kernel h = absurd (never h)
+
+  placed-box : (chainSheet : Bool) (last : Last) → misplaced chainSheet last given count 8 ≡ false
+      → (last ≡ stood.Offset) ⊎ ((chainSheet ≡ false) × (last ≡ stood.Name))
+  unfolding misplaced among any nextInRequest nextInChain
+  placed-box true stood.Nothing h = absurd (never h)
+  placed-box true stood.Grid h = absurd (never h)
+  placed-box true stood.Offset h = inl refl
+  placed-box true stood.Name h = absurd (never h)
+  placed-box true stood.Box h = absurd (never h)
+  placed-box true stood.Capacity h = absurd (never h)
+  placed-box true stood.Order h = absurd (never h)
+  placed-box true stood.Kernel h = absurd (never h)
+  placed-box false stood.Nothing h = absurd (never h)
+  placed-box false stood.Grid h = absurd (never h)
+  placed-box false stood.Offset h = inl refl
+  placed-box false stood.Name h = inr (refl, refl)
+  placed-box false stood.Box h = absurd (never h)
+  placed-box false stood.Capacity h = absurd (never h)
+  placed-box false stood.Order h = absurd (never h)
+  placed-box false stood.Kernel h = absurd (never h)
 
 pub dims-in-order : (dims : ℕ) → badDims dims ≡ false → (0 < dims) × (dims ≤ 4)
 unfolding badDims
@@ -217,6 +257,10 @@ module _ (len kind second dims count : ℕ) (h : badLength len kind second dims 
   order-length : kind ≡ 6 → len ≡ 1 + count
   unfolding badLength
   order-length e = eqb-true len _ (not-false _ (rw e at h))
+
+  box-length : kind ≡ 8 → len ≡ 1 + 8 * dims
+  unfolding badLength
+  box-length e = eqb-true len _ (not-false _ (rw e at h))
 
 pub admitted : (chainSheet : Bool) (r : Reading) (l : Seen) → lineVerdict chainSheet r l ≡ verdict.Accepted → (l .sound ≡ true) × Admitted chainSheet r l
 unfolding lineVerdict lineChecks
@@ -256,21 +300,28 @@ admitted chainSheet r l h =
               (λ e. let p = placed-order given count chainSheet (r .last) (rw e at place) in order e (p .0) (p .1) (p .2) (order-length _ _ _ _ _ size e))
               (λ n6. by-eq (kindOf l) 7
               (λ e. let p = placed-name given count chainSheet (r .last) (rw e at place) in name e (p .0) (p .1) (formed-name _ _ _ _ form e) (of-kind _ 7 _ names e))
-              (λ n7. let e = formed-cell _ _ _ _ form n1 n2 n3 n4 n6 n7 in absurd (never-cell given count chainSheet (r .last) (rw e at place)))))))),
+              (λ n7. by-eq (kindOf l) 8
+              (λ e. box e (placed-box given count chainSheet (r .last) (rw e at place)) (box-length _ _ _ _ _ size e))
+              (λ n8. let e = formed-cell _ _ _ _ form n1 n2 n3 n4 n6 n7 n8 in absurd (never-cell given count chainSheet (r .last) (rw e at place))))))))),
         )
 
 -- No line comes behind the `04` line.
+not-closed : {last : Last} → BehindOffsets last → closes last ≡ false
+unfolding closes
+not-closed (offsets e) = ap closes e
+not-closed (bounds e) = ap closes e
+not-closed (capacities e) = ap closes e
+
 pub not-complete : (chainSheet : Bool) (r : Reading) (l : Seen) → Admitted chainSheet r l → complete r ≡ false
 unfolding complete closes
 not-complete chainSheet r l (grid e last some few len sizes) = ap closes last
 not-complete chainSheet r l (offset e (inl last) len count) = ap closes last
 not-complete chainSheet r l (offset e (inr last) len count) = ap closes last
-not-complete chainSheet r l (capacity e (inl last) chain given len) = ap closes last
-not-complete chainSheet r l (capacity e (inr last) chain given len) = ap closes last
-not-complete chainSheet r l (order e (inl last) chain given len) = ap closes last
-not-complete chainSheet r l (order e (inr last) chain given len) = ap closes last
-not-complete chainSheet r l (kernel e (offsets last) given form) = ap closes last
-not-complete chainSheet r l (kernel e (capacities last) given form) = ap closes last
+not-complete chainSheet r l (box e (inl last) len) = ap closes last
+not-complete chainSheet r l (box e (inr (request, last)) len) = ap closes last
+not-complete chainSheet r l (capacity e behind chain given len) = not-closed behind
+not-complete chainSheet r l (order e behind chain given len) = not-closed behind
+not-complete chainSheet r l (kernel e (filters behind) given form) = not-closed behind
 not-complete chainSheet r l (kernel e (terms chain last) given form) = ap closes last
 not-complete chainSheet r l (kernel e (named request last) given form) = ap closes last
 not-complete chainSheet r l (name e last request len ok) = ap closes last
@@ -300,3 +351,7 @@ module _ (r : Reading) (x : List ℕ) where
   pub taken-name : byteAt x 0 ≡ 7 → taken r x ≡ withName r x
   unfolding taken
   taken-name e = rw e
+
+  pub taken-box : byteAt x 0 ≡ 8 → taken r x ≡ withBox r x
+  unfolding taken
+  taken-box e = rw e

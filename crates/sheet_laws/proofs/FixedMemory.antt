@@ -16,12 +16,12 @@ use Rattle.model.specs.Judging.{badDims}
 use Rattle.model.specs.Frames.{kept, Seen, seenOf, emptyFrame, feeds, shown}
 use Rattle.model.specs.Numbers.{byteAt}
 use Rattle.model.specs.Reading.{badKernel, badForm, malformed, badLength, lineChecks, lineVerdict}
-use Rattle.model.specs.Reading.{taken, withGrid, withOffset, withName, withCapacity, withOrder, withKernel, stepOf, start, cellVerdict}
+use Rattle.model.specs.Reading.{taken, withGrid, withOffset, withName, withBox, withCapacity, withOrder, withKernel, stepOf, start, cellVerdict}
 use Rattle.model.proofs.NameLaws.{few-references}
 use Rattle.sheet_laws.proofs.Cases.{by-bool, by-eq, by-lt, of-kind}
 use Rattle.sheet_laws.proofs.FrameLaws.{capped, capped-few, capped-many, seen-alike}
-use Rattle.sheet_laws.proofs.AcceptedLines.{Admitted, admitted, dims-in-order, taken-grid, taken-offset, taken-name, taken-capacity, taken-order, taken-kernel}
-use Rattle.sheet_laws.proofs.AcceptedLines.Admitted.{grid, offset, capacity, order, kernel, name}
+use Rattle.sheet_laws.proofs.AcceptedLines.{Admitted, admitted, dims-in-order, taken-grid, taken-offset, taken-name, taken-box, taken-capacity, taken-order, taken-kernel}
+use Rattle.sheet_laws.proofs.AcceptedLines.Admitted.{grid, offset, box, capacity, order, kernel, name}
 
 -- What the lengths of lines hang on is small.
 pub record Bounded (r : Reading) : Type 0 where
@@ -62,7 +62,7 @@ unfolding badLength
 cap-length n kind second dims count h m b =
     by-eq kind 1
     (λ e. rw (eq-eqb _ _ e, cap-eqb n (2 + 4 * second) (omega (arith, dims-in-order second (of-kind kind 1 _ b e) .1))))
-    (λ e. rw (ne-eqb _ _ e, cap-eqb n (1 + 2 * dims) (omega arith), cap-eqb n (1 + count) (omega arith)))
+    (λ e. rw (ne-eqb _ _ e, cap-eqb n (1 + 2 * dims) (omega arith), cap-eqb n (1 + count) (omega arith), cap-eqb n (1 + 8 * dims) (omega arith)))
 
 behind-third : (a b : Check) (m : Refusal) (xs ys : List Check) → firstOf (a ∷ b ∷ check true m ∷ xs) ≡ firstOf (a ∷ b ∷ check true m ∷ ys)
 unfolding firstOf
@@ -111,12 +111,13 @@ no-line-feed chainSheet r ds = rw (unsound-verdict chainSheet r (seenOf false ds
 
 -- What was read stays small.
 pub keeps-bounded : (chainSheet : Bool) (r : Reading) (l : Seen) → Bounded r → Bounded (stepOf chainSheet r l .reading)
-unfolding stepOf withGrid withOffset withName withCapacity withOrder withKernel
+unfolding stepOf withGrid withOffset withName withBox withCapacity withOrder withKernel
 keeps-bounded chainSheet r l h = go (lineVerdict chainSheet r l) refl
   where
     by : Admitted chainSheet r l → Bounded (taken r (l .first))
     by (grid e last some few len sizes) = rw (taken-grid _ _ e) (record { dims = few; count = h .count })
     by (offset e last len count) = rw (taken-offset _ _ e) (record { dims = h .dims; count = omega arith })
+    by (box e last len) = rw (taken-box _ _ e) (record { dims = h .dims; count = h .count })
     by (capacity e last chain given len) = rw (taken-capacity _ _ e) (record { dims = h .dims; count = h .count })
     by (order e last chain given len) = rw (taken-order _ _ e) (record { dims = h .dims; count = h .count })
     by (kernel e last given form) = rw (taken-kernel _ _ e) (record { dims = h .dims; count = h .count })

@@ -7,16 +7,17 @@ use native.Mathlib.Nat.{zero-add}
 use native.Mathlib.Omega.{arith}
 use lib.IntN.{ℤ}
 use lib.ListN.{length, getD, length-append}
+use Rattle.model.specs.declared.Bounds.{Bounds}
 use Rattle.model.specs.declared.Chain.{Chain}
 use Rattle.model.specs.declared.Kernel.{Kernel}
 use Rattle.model.specs.declared.Kernel.the-variants as kernel
 use Rattle.model.specs.declared.Order.{Order}
-use Rattle.model.specs.Lists.{tabulate}
+use Rattle.model.specs.Lists.{tabulate, upTo}
 use Rattle.model.specs.Values.{sizesOf, entryOf, offsetOf, offsetsOf, capacityOf, capacitiesOf, orderOf}
 use Rattle.model.specs.Lines.{lineFeed}
 use Rattle.model.specs.Frames.{digitsOf, framed}
 use Rattle.model.specs.Numbers.{halfBytes, wordBytes, pattern}
-use Rattle.model.specs.Writing.{gridLine, offsetLine, capacityLine, orderLines, kernelLine, chainLines, sheetOf, longestSheet}
+use Rattle.model.specs.Writing.{gridLine, offsetLine, indexPair, boxLines, capacityLine, orderLines, kernelLine, chainLines, sheetOf, longestSheet}
 use Rattle.model.proofs.ListLaws.{length-tabulate}
 use Rattle.model.proofs.ChainLaws.{length-order}
 
@@ -71,6 +72,22 @@ capacities-length (suc n) f =
       capacities-length n (λ i. f (suc i)),
     )
 
+pub pairs-length : (b : Bounds) (ds : List ℕ) → length (flatMap (indexPair b) ds) ≡ 8 * length ds
+unfolding flatMap indexPair wordBytes
+pairs-length b [] = refl
+pairs-length b (d ∷ ds) = omega (arith, pairs-length b ds)
+
+box-length : (d : ℕ) (b : Bounds) → d ≤ 4 → length (flatMap framed (boxLines d b)) ≤ 67
+unfolding flatMap boxLines upTo
+box-length d b h = go (b .stood)
+  where
+    pairs : List ℕ
+    pairs = flatMap (indexPair b) (upTo d)
+
+    go : (s : Bool) → length (flatMap framed (cond s ((8 ∷ pairs) ∷ []) [])) ≤ 67
+    go true = omega (arith, length-append (framed (8 ∷ pairs)) [], framed-length (8 ∷ pairs), pairs-length b (upTo d), length-tabulate d (λ k. k))
+    go false = omega arith
+
 order-length : (n : ℕ) (o : Order) → n ≤ 32 → length (flatMap framed (orderLines n o)) ≤ 67
 unfolding flatMap orderLines
 order-length n o h = go (o .stood) (length-order n o)
@@ -86,24 +103,27 @@ kernel-length kernel.Difference = omega arith
 kernel-length (kernel.Scaled f) = omega arith
 kernel-length (kernel.Blend g) = omega arith
 
--- An `01` line of 37 characters, 32 `02` lines of 19, 31 `03` lines of 11, an `06` line of 67 and an `04` line of 21.
+-- An `01` line of 37 characters, 32 `02` lines of 19, an `08` line of 67, 31 `03` lines of 11, an `06` line of 67 and an `04` line of 21.
 pub sheet-length : (c : Chain) → c .grid .dims ≤ 4 → c .window .count ≤ 32 → length (sheetOf c) ≤ longestSheet
 unfolding sheetOf chainLines flatMap gridLine sizesOf offsetsOf offsetOf capacitiesOf
 sheet-length c dims count =
     let offsets = map offsetLine (offsetsOf (c .grid .dims) (c .window)) in
+    let box = boxLines (c .grid .dims) (c .bounds) in
     let capacities = map capacityLine (capacitiesOf c) in
     let order = orderLines (c .window .count) (c .order) in
     let kernel = kernelLine (c .kernel) ∷ [] in
     omega (
       arith,
-      length-append (framed (gridLine (c .grid))) (flatMap framed (offsets ++ (capacities ++ (order ++ kernel)))),
+      length-append (framed (gridLine (c .grid))) (flatMap framed (offsets ++ (box ++ (capacities ++ (order ++ kernel))))),
       framed-length (gridLine (c .grid)),
       words-length (sizesOf (c .grid)),
       length-tabulate (c .grid .dims) (λ d. getD (c .grid .sizes) d 0),
-      flat-append framed offsets (capacities ++ (order ++ kernel)),
+      flat-append framed offsets (box ++ (capacities ++ (order ++ kernel))),
+      flat-append framed box (capacities ++ (order ++ kernel)),
       flat-append framed capacities (order ++ kernel),
       flat-append framed order kernel,
       offsets-length (c .window .count) (offsetOf (c .grid .dims) (c .window)) (λ k. omega (arith, length-tabulate (c .grid .dims) (λ d. entryOf (c .window) k d))),
+      box-length (c .grid .dims) (c .bounds) dims,
       capacities-length (c .window .count - 1) (λ k. capacityOf c k),
       order-length (c .window .count) (c .order) count,
       kernel-length (c .kernel),

@@ -2,26 +2,27 @@
 use Prim.Native.Nat.{ℕ, zero, suc, _+_, _-_, _*_, _≤_, _<_}
 use mathlib.Core.Bool.{Bool, true, false, cond}
 use mathlib.Core.List.{List, [], _∷_, _++_, map, flatMap, append-assoc}
-use mathlib.Core.Path.{_≡_, refl, sym, ap, _∙_}
+use mathlib.Core.Path.{_≡_, refl, sym, ap, ap₂, _∙_}
 use native.Mathlib.Omega.{arith}
 use lib.IntN.{ℤ}
 use lib.ListN.{take, getD}
 use lib.Seq.{take-length}
 use borrow.Author.Tests.{lt-ltb, le-ltb}
+use Rattle.model.specs.declared.Bounds.{Bounds}
 use Rattle.model.specs.declared.Chain.{Chain}
 use Rattle.model.specs.declared.Grid.{Grid}
 use Rattle.model.specs.declared.Order.{Order}
 use Rattle.model.specs.declared.Window.{Window}
-use Rattle.model.specs.Lists.{tabulate}
+use Rattle.model.specs.Lists.{tabulate, upTo}
 use Rattle.model.specs.Values.{sizesOf, entryOf, offsetOf, offsetsOf, capacityOf, capacitiesOf, orderOf}
 use Rattle.model.specs.Frames.{framed}
 use Rattle.model.specs.Numbers.{halfBytes, wordBytes, pattern}
-use Rattle.model.specs.Writing.{gridLine, offsetLine, capacityLine, orderLines, kernelLine, chainLines, sheetOf}
+use Rattle.model.specs.Writing.{gridLine, offsetLine, indexPair, boxLines, capacityLine, orderLines, kernelLine, chainLines, sheetOf}
 use Rattle.sheet_laws.specs.declared.Part.{Part}
 use Rattle.sheet_laws.specs.declared.Part.the-variants as part
-use Rattle.sheet_laws.specs.Rows.{gridRow, offsetRow, orderRow, rowOf, lenOf, partAt, linesBehind, lineAt, linesFrom}
+use Rattle.sheet_laws.specs.Rows.{gridRow, offsetRow, boxRow, orderRow, rowOf, lenOf, toCapacities, partBehind, partAt, linesBehind, lineAt, linesFrom}
 
--- Up to four words and halves are the front of four.
+-- Up to four words, halves and pairs are the front of four.
 four-words : (d : ℕ) (f : ℕ → ℕ) → d ≤ 4
     → flatMap wordBytes (tabulate d f) ≡ take (4 * d) (wordBytes (f 0) ++ (wordBytes (f 1) ++ (wordBytes (f 2) ++ wordBytes (f 3))))
 unfolding flatMap tabulate wordBytes
@@ -43,6 +44,15 @@ four-halves (suc (suc (suc zero))) f h = refl
 four-halves (suc (suc (suc (suc zero)))) f h = refl
 four-halves (suc (suc (suc (suc (suc d))))) f h = absurd (omega arith)
 
+four-pairs : (d : ℕ) (b : Bounds) → d ≤ 4 → flatMap (indexPair b) (upTo d) ≡ take (8 * d) (indexPair b 0 ++ (indexPair b 1 ++ (indexPair b 2 ++ indexPair b 3)))
+unfolding flatMap upTo tabulate indexPair wordBytes
+four-pairs zero b h = refl
+four-pairs (suc zero) b h = refl
+four-pairs (suc (suc zero)) b h = refl
+four-pairs (suc (suc (suc zero))) b h = refl
+four-pairs (suc (suc (suc (suc zero)))) b h = refl
+four-pairs (suc (suc (suc (suc (suc d))))) b h = absurd (omega arith)
+
 -- A line is the front of its row.
 pub grid-front : (g : Grid) → g .dims ≤ 4 → gridLine g ≡ take (2 + 4 * g .dims) (gridRow g)
 unfolding gridLine gridRow sizesOf
@@ -56,6 +66,12 @@ offset-front d w k h =
     let e : 1 + 2 * d ≡ suc (2 * d) = omega arith in
     rw e (ap (λ t. 2 ∷ t) (four-halves d (λ i. entryOf w k i) h))
 
+pub box-front : (d : ℕ) (b : Bounds) → d ≤ 4 → 8 ∷ flatMap (indexPair b) (upTo d) ≡ take (1 + 8 * d) (boxRow b)
+unfolding boxRow
+box-front d b h =
+    let e : 1 + 8 * d ≡ suc (8 * d) = omega arith in
+    rw e (ap (λ t. 8 ∷ t) (four-pairs d b h))
+
 take-tabulate : (n m : ℕ) (f : ℕ → ℕ) → n ≤ m → take n (tabulate m f) ≡ tabulate n f
 unfolding tabulate
 take-tabulate zero m f h = refl
@@ -68,31 +84,52 @@ order-front n o stood h =
     let e : 1 + n ≡ suc n = omega arith in
     rw (e, stood) (ap (λ t. 6 ∷ t) (sym (take-tabulate n 32 (λ t. getD (o .filters) t 0) h)))
 
--- The sections behind the capacities'.
-part-order : (n : ℕ) → 0 < n → partAt true n (2 * n - 1) ≡ part.Order
+-- The sections behind the offsets'.
+part-box : (ordered : Bool) (n : ℕ) → partAt true ordered n n ≡ part.Box
 unfolding partAt
-part-order n h =
-    let l : n ≤ 2 * n - 1 = omega arith in
-    let q : n ≤ 2 * n - 1 - n + 1 = omega arith in
-    let s : 2 * n - 1 - n < n = omega arith in
-    rw (le-ltb _ _ l, le-ltb _ _ q, lt-ltb _ _ s)
+part-box ordered n =
+    let l : n ≤ n = omega arith in
+    let q : n < n + 1 = omega arith in
+    rw (le-ltb _ _ l, lt-ltb _ _ q)
 
-part-kernel : (ordered : Bool) (n : ℕ) → 0 < n → partAt ordered n (2 * n - 1 + cond ordered 1 0) ≡ part.Kernel
+-- Line i behind these and the box's.
+part-behind : (boxed ordered : Bool) (n i : ℕ) → partAt boxed ordered n (toCapacities boxed n + i) ≡ partBehind ordered n i
 unfolding partAt
-part-kernel true n h =
-    let l : n ≤ 2 * n - 1 + 1 = omega arith in
-    let q : n ≤ 2 * n - 1 + 1 - n + 1 = omega arith in
-    let s : n ≤ 2 * n - 1 + 1 - n = omega arith in
-    rw (le-ltb _ _ l, le-ltb _ _ q, le-ltb _ _ s)
-part-kernel false n h =
-    let l : n ≤ 2 * n - 1 + 0 = omega arith in
-    let q : n ≤ 2 * n - 1 + 0 - n + 1 = omega arith in
-    let s : 2 * n - 1 + 0 - n < n = omega arith in
-    rw (le-ltb _ _ l, le-ltb _ _ q, lt-ltb _ _ s)
+part-behind boxed ordered n i =
+    let a : ℕ = toCapacities boxed n in
+    let l : n ≤ a + i = omega arith in
+    let q : a ≤ a + i = omega arith in
+    let e : a + i - a ≡ i = omega arith in
+    rw (le-ltb _ _ l, le-ltb _ _ q, e)
+
+part-capacity : (boxed ordered : Bool) (n i : ℕ) → i + 1 < n → partAt boxed ordered n (toCapacities boxed n + i) ≡ part.Capacity i
+unfolding partBehind
+part-capacity boxed ordered n i h = part-behind boxed ordered n i ∙ rw (lt-ltb _ _ h)
+
+part-order : (boxed : Bool) (n : ℕ) → 0 < n → partAt boxed true n (toCapacities boxed n + (n - 1)) ≡ part.Order
+unfolding partBehind
+part-order boxed n h =
+    let q : n ≤ n - 1 + 1 = omega arith in
+    let s : n - 1 < n = omega arith in
+    part-behind boxed true n (n - 1) ∙ rw (le-ltb _ _ q, lt-ltb _ _ s)
+
+part-kernel : (boxed ordered : Bool) (n : ℕ) → 0 < n → partAt boxed ordered n (toCapacities boxed n + (n - 1 + cond ordered 1 0)) ≡ part.Kernel
+unfolding partBehind
+part-kernel boxed true n h =
+    let q : n ≤ n - 1 + 1 + 1 = omega arith in
+    let s : n ≤ n - 1 + 1 = omega arith in
+    part-behind boxed true n (n - 1 + 1) ∙ rw (le-ltb _ _ q, le-ltb _ _ s)
+part-kernel boxed false n h =
+    let q : n ≤ n - 1 + 0 + 1 = omega arith in
+    let s : n - 1 + 0 < n = omega arith in
+    part-behind boxed false n (n - 1 + 0) ∙ rw (le-ltb _ _ q, lt-ltb _ _ s)
 
 -- Line m by its place.
 module _ (c : Chain) where
-  line-of : (m : ℕ) (p : Part) → partAt (c .order .stood) (c .window .count) m ≡ p → lineAt c (suc m) ≡ take (lenOf c p) (rowOf c p)
+  abbrev ahead : ℕ
+  ahead = toCapacities (c .bounds .stood) (c .window .count)
+
+  line-of : (m : ℕ) (p : Part) → partAt (c .bounds .stood) (c .order .stood) (c .window .count) m ≡ p → lineAt c (suc m) ≡ take (lenOf c p) (rowOf c p)
   unfolding lineAt
   line-of m p e = ap (λ (p : Part). take (lenOf c p) (rowOf c p)) e
 
@@ -106,32 +143,40 @@ module _ (c : Chain) where
       let e : 1 + j ≡ suc j = omega arith in
       rw (e, lt-ltb _ _ h)
 
-  pub line-capacity : (j : ℕ) → j + 1 < c .window .count → lineAt c (1 + c .window .count + j) ≡ capacityLine (capacityOf c j)
-  unfolding lineAt lenOf rowOf partAt capacityLine wordBytes
-  line-capacity j h =
+  pub line-box : c .bounds .stood ≡ true → c .grid .dims ≤ 4 → lineAt c (1 + c .window .count) ≡ 8 ∷ flatMap (indexPair (c .bounds)) (upTo (c .grid .dims))
+  unfolding lenOf rowOf
+  line-box stood few =
       let n = c .window .count in
-      let e : 1 + n + j ≡ suc (n + j) = omega arith in
-      let l : n ≤ n + j = omega arith in
-      let f : n + j - n ≡ j = omega arith in
-      rw (e, le-ltb _ _ l, f, lt-ltb _ _ h)
+      let e : 1 + n ≡ suc n = omega arith in
+      ap (lineAt c) e
+      ∙ line-of n part.Box (ap (λ (b : Bool). partAt b (c .order .stood) n n) stood ∙ part-box (c .order .stood) n)
+      ∙ sym (box-front (c .grid .dims) (c .bounds) few)
+
+  pub line-capacity : (j : ℕ) → j + 1 < c .window .count → lineAt c (1 + ahead + j) ≡ capacityLine (capacityOf c j)
+  unfolding lenOf rowOf capacityLine wordBytes
+  line-capacity j h =
+      let e : 1 + ahead + j ≡ suc (ahead + j) = omega arith in
+      ap (lineAt c) e ∙ line-of (ahead + j) (part.Capacity j) (part-capacity (c .bounds .stood) (c .order .stood) (c .window .count) j h)
 
   pub line-order : c .order .stood ≡ true → 0 < c .window .count → c .window .count ≤ 32
-      → lineAt c (2 * c .window .count) ≡ 6 ∷ orderOf (c .window .count) (c .order)
+      → lineAt c (ahead + c .window .count) ≡ 6 ∷ orderOf (c .window .count) (c .order)
   unfolding lenOf rowOf
   line-order stood h most =
       let n = c .window .count in
-      let e : 2 * n ≡ suc (2 * n - 1) = omega arith in
+      let e : ahead + n ≡ suc (ahead + (n - 1)) = omega arith in
       ap (lineAt c) e
-      ∙ line-of (2 * n - 1) part.Order (ap (λ (b : Bool). partAt b n (2 * n - 1)) stood ∙ part-order n h)
+      ∙ line-of (ahead + (n - 1)) part.Order (ap (λ (b : Bool). partAt (c .bounds .stood) b n (ahead + (n - 1))) stood ∙ part-order (c .bounds .stood) n h)
       ∙ sym (order-front n (c .order) stood most)
 
-  pub line-kernel : 0 < c .window .count → lineAt c (linesBehind (c .order .stood) (c .window .count)) ≡ kernelLine (c .kernel)
+  pub line-kernel : 0 < c .window .count → lineAt c (linesBehind (c .bounds .stood) (c .order .stood) (c .window .count)) ≡ kernelLine (c .kernel)
   unfolding lenOf rowOf linesBehind
   line-kernel h =
       let n = c .window .count in
       let s : ℕ = cond (c .order .stood) 1 0 in
-      let e : 2 * n + s ≡ suc (2 * n - 1 + s) = omega arith in
-      ap (lineAt c) e ∙ line-of (2 * n - 1 + s) part.Kernel (part-kernel (c .order .stood) n h) ∙ take-length (kernelLine (c .kernel))
+      let e : ahead + n + s ≡ suc (ahead + (n - 1 + s)) = omega arith in
+      ap (lineAt c) e
+      ∙ line-of (ahead + (n - 1 + s)) part.Kernel (part-kernel (c .bounds .stood) (c .order .stood) n h)
+      ∙ take-length (kernelLine (c .kernel))
 
 -- Lines one after the other.
 pub lines-join : (c : Chain) (m a b : ℕ) → linesFrom c m a ++ linesFrom c (m + a) b ≡ linesFrom c m (a + b)
@@ -151,6 +196,11 @@ frames-join : (xs ys : List (List ℕ)) → flatMap framed (xs ++ ys) ≡ flatMa
 unfolding flatMap
 frames-join [] ys = refl
 frames-join (x ∷ xs) ys = ap (λ t. framed x ++ t) (frames-join xs ys) ∙ sym (append-assoc (framed x) (flatMap framed xs) (flatMap framed ys))
+
+-- A section and those behind it.
+sections-join : (c : Chain) (xs ys : List (List ℕ)) (m a b : ℕ) → flatMap framed xs ≡ linesFrom c m a → flatMap framed ys ≡ linesFrom c (m + a) b
+    → flatMap framed (xs ++ ys) ≡ linesFrom c m (a + b)
+sections-join c xs ys m a b p q = frames-join xs ys ∙ ap₂ _++_ p q ∙ lines-join c m a b
 
 pub tabulate-same : {A : Type 0} (n : ℕ) (f g : ℕ → A) → ((i : ℕ) → f i ≡ g i) → tabulate n f ≡ tabulate n g
 unfolding tabulate
@@ -175,11 +225,11 @@ module _ (c : Chain) (few : c .grid .dims ≤ 4) where
       (ap (λ u. framed (offsetLine (offsetAt j)) ++ flatMap framed (map offsetLine u)) (tabulate-same i _ _ t)
       ∙ ap (λ u. framed (offsetLine (offsetAt j)) ++ u) (offset-lines i (suc j) (omega arith)))
 
-  capacity-lines : (i j : ℕ) → j + i + 1 ≤ n → flatMap framed (map capacityLine (tabulate i (λ k. capacityOf c (j + k)))) ≡ linesFrom c (1 + n + j) i
+  capacity-lines : (i j : ℕ) → j + i + 1 ≤ n → flatMap framed (map capacityLine (tabulate i (λ k. capacityOf c (j + k)))) ≡ linesFrom c (1 + ahead c + j) i
   unfolding linesFrom flatMap tabulate
   capacity-lines zero j h = refl
   capacity-lines (suc i) j h =
-      let y : 1 + n + j + 1 ≡ 1 + n + suc j = omega arith in
+      let y : 1 + ahead c + j + 1 ≡ 1 + ahead c + suc j = omega arith in
       let z : j + 0 ≡ j = omega arith in
       let t : (k : ℕ) → capacityOf c (j + suc k) ≡ capacityOf c (suc j + k) = λ k. ap (λ m. capacityOf c m) (omega arith) in
       rw (y, z, line-capacity c j (omega arith))
@@ -195,55 +245,60 @@ module _ (c : Chain) (few : c .grid .dims ≤ 4) where
       ap (λ u. flatMap framed (map offsetLine u)) (tabulate-same n _ _ (λ k. ap (λ m. offsetAt m) (from-zero k)))
       ∙ offset-lines n 0 (omega arith)
 
+  abbrev boxes : ℕ
+  boxes = cond (c .bounds .stood) 1 0
+
+  box-line : flatMap framed (boxLines (c .grid .dims) (c .bounds)) ≡ linesFrom c (1 + n) boxes
+  unfolding boxLines flatMap linesFrom
+  box-line = go (c .bounds .stood) refl
+    where
+      go : (b : Bool) → c .bounds .stood ≡ b
+          → flatMap framed (cond b ((8 ∷ flatMap (indexPair (c .bounds)) (upTo (c .grid .dims))) ∷ []) []) ≡ linesFrom c (1 + n) (cond b 1 0)
+      go true e = ap (λ l. framed l ++ []) (sym (line-box c e few))
+      go false e = refl
+
   module _ (some : 0 < n) (most : n ≤ 32) where
     abbrev ordered : Bool
     ordered = c .order .stood
 
-    all-capacities : flatMap framed (map capacityLine (capacitiesOf c)) ≡ linesFrom c (1 + n) (n - 1)
+    abbrev orders : ℕ
+    orders = cond (c .order .stood) 1 0
+
+    all-capacities : flatMap framed (map capacityLine (capacitiesOf c)) ≡ linesFrom c (1 + n + boxes) (n - 1)
     unfolding capacitiesOf
     all-capacities =
-        let z : 1 + n + 0 ≡ 1 + n = omega arith in
+        let z : 1 + ahead c + 0 ≡ 1 + n + boxes = omega arith in
         ap (λ u. flatMap framed (map capacityLine u)) (tabulate-same (n - 1) _ _ (λ k. ap (λ m. capacityOf c m) (from-zero k)))
         ∙ capacity-lines (n - 1) 0 (omega arith)
         ∙ ap (λ m. linesFrom c m (n - 1)) z
 
-    order-line : flatMap framed (orderLines n (c .order)) ≡ linesFrom c (2 * n) (cond ordered 1 0)
+    order-line : flatMap framed (orderLines n (c .order)) ≡ linesFrom c (1 + n + boxes + (n - 1)) orders
     unfolding orderLines flatMap linesFrom
-    order-line = go ordered refl
+    order-line =
+        let z : ahead c + n ≡ 1 + n + boxes + (n - 1) = omega arith in
+        go ordered refl ∙ ap (λ m. linesFrom c m orders) z
       where
-        go : (b : Bool) → ordered ≡ b → flatMap framed (cond b ((6 ∷ orderOf n (c .order)) ∷ []) []) ≡ linesFrom c (2 * n) (cond b 1 0)
+        go : (b : Bool) → ordered ≡ b → flatMap framed (cond b ((6 ∷ orderOf n (c .order)) ∷ []) []) ≡ linesFrom c (ahead c + n) (cond b 1 0)
         go true e = ap (λ l. framed l ++ []) (sym (line-order c e some most))
         go false e = refl
 
-    last-line : flatMap framed (kernelLine (c .kernel) ∷ []) ≡ linesFrom c (linesBehind ordered n) 1
-    unfolding flatMap linesFrom
-    last-line = ap (λ l. framed l ++ []) (sym (line-kernel c some))
+    last-line : flatMap framed (kernelLine (c .kernel) ∷ []) ≡ linesFrom c (1 + n + boxes + (n - 1) + orders) 1
+    unfolding flatMap linesFrom linesBehind
+    last-line =
+        let z : ahead c + n + orders ≡ 1 + n + boxes + (n - 1) + orders = omega arith in
+        ap (λ l. framed l ++ []) (sym (line-kernel c some)) ∙ ap (λ m. linesFrom c m 1) z
 
     first-line : (ls : List (List ℕ)) (k : ℕ) → flatMap framed ls ≡ linesFrom c 1 k → flatMap framed (gridLine (c .grid) ∷ ls) ≡ linesFrom c 0 (suc k)
     unfolding flatMap linesFrom lineAt
     first-line ls k e = ap (λ t. framed (gridLine (c .grid)) ++ t) e
 
-    pub sheet-rows : sheetOf c ≡ linesFrom c 0 (linesBehind ordered n + 1)
+    pub sheet-rows : sheetOf c ≡ linesFrom c 0 (linesBehind (c .bounds .stood) ordered n + 1)
     unfolding sheetOf chainLines linesBehind
     sheet-rows =
-        let os = map offsetLine (offsetsOf (c .grid .dims) (c .window)) in
-        let cs = map capacityLine (capacitiesOf c) in
-        let ts = orderLines n (c .order) in
-        let last = kernelLine (c .kernel) ∷ [] in
-        let s : ℕ = cond ordered 1 0 in
-        let e : 2 * n ≡ 1 + n + (n - 1) = omega arith in
-        let f : 2 * n + s + 1 ≡ suc (n + (n - 1 + (s + 1))) = omega arith in
-        let behind : flatMap framed (os ++ (cs ++ (ts ++ last))) ≡ linesFrom c 1 (n + (n - 1 + (s + 1))) =
-        frames-join os (cs ++ (ts ++ last))
-        ∙ ap (λ t. flatMap framed os ++ t) (frames-join cs (ts ++ last))
-        ∙ ap (λ t. t ++ (flatMap framed cs ++ flatMap framed (ts ++ last))) all-offsets
-        ∙ ap (λ t. linesFrom c 1 n ++ (t ++ flatMap framed (ts ++ last))) all-capacities
-        ∙ ap (λ t. linesFrom c 1 n ++ (linesFrom c (1 + n) (n - 1) ++ t))
-        (frames-join ts last
-        ∙ ap (λ t. t ++ flatMap framed last) order-line
-        ∙ ap (λ t. linesFrom c (2 * n) s ++ t) last-line
-        ∙ lines-join c (2 * n) s 1
-        ∙ ap (λ m. linesFrom c m (s + 1)) e)
-        ∙ ap (λ t. linesFrom c 1 n ++ t) (lines-join c (1 + n) (n - 1) (s + 1))
-        ∙ lines-join c 1 n (n - 1 + (s + 1)) in
-        first-line (os ++ (cs ++ (ts ++ last))) (n + (n - 1 + (s + 1))) behind ∙ ap (linesFrom c 0) (sym f)
+        let e : suc (n + (boxes + (n - 1 + (orders + 1)))) ≡ ahead c + n + orders + 1 = omega arith in
+        first-line _ (n + (boxes + (n - 1 + (orders + 1))))
+        (sections-join c _ _ 1 n (boxes + (n - 1 + (orders + 1))) all-offsets
+        (sections-join c _ _ (1 + n) boxes (n - 1 + (orders + 1)) box-line
+        (sections-join c _ _ (1 + n + boxes) (n - 1) (orders + 1) all-capacities
+        (sections-join c _ _ (1 + n + boxes + (n - 1)) orders 1 order-line last-line))))
+        ∙ ap (linesFrom c 0) e

@@ -1,9 +1,10 @@
--- A chain sheet by the numbers of its lines: line 0 is the grid's; behind it come sections of lines, the offsets', the capacities', the order's, and last the kernel's.
+-- A chain sheet by the numbers of its lines: line 0 is the grid's; behind it come sections of lines, the offsets', the box's, the capacities', the order's, and last the kernel's.
 use Prim.Native.Nat.{ℕ, zero, suc, _+_, _-_, _*_}
 use mathlib.Core.Bool.{Bool, cond, _&&_}
 use mathlib.Core.List.{List, [], _∷_, _++_}
 use lib.Dec.{ltb}
 use lib.ListN.{length, take, getD}
+use Rattle.model.specs.declared.Bounds.{Bounds}
 use Rattle.model.specs.declared.Chain.{Chain}
 use Rattle.model.specs.declared.Grid.{Grid}
 use Rattle.model.specs.declared.Order.{Order}
@@ -12,11 +13,11 @@ use Rattle.model.specs.Lists.{tabulate}
 use Rattle.model.specs.Values.{entryOf, capacityOf}
 use Rattle.model.specs.Frames.{framed}
 use Rattle.model.specs.Numbers.{halfBytes, wordBytes, pattern}
-use Rattle.model.specs.Writing.{gridLine, capacityLine, kernelLine}
+use Rattle.model.specs.Writing.{gridLine, indexPair, capacityLine, kernelLine}
 use Rattle.sheet_laws.specs.declared.Part.{Part}
 use Rattle.sheet_laws.specs.declared.Part.the-variants as part
 
--- Rows: lines with all four sizes or entries, whatever the dimension count, and with all 32 filter numbers, however many references there are.
+-- Rows: lines with all four sizes, entries or pairs of indices, whatever the dimension count, and with all 32 filter numbers, however many references there are.
 unfoldable pub gridRow : Grid → List ℕ
 gridRow g =
     1 ∷ g .dims
@@ -28,11 +29,15 @@ offsetRow w k =
     ∷ (halfBytes (pattern (entryOf w k 0))
     ++ (halfBytes (pattern (entryOf w k 1)) ++ (halfBytes (pattern (entryOf w k 2)) ++ halfBytes (pattern (entryOf w k 3)))))
 
+unfoldable pub boxRow : Bounds → List ℕ
+boxRow b = 8 ∷ (indexPair b 0 ++ (indexPair b 1 ++ (indexPair b 2 ++ indexPair b 3)))
+
 unfoldable pub orderRow : Order → List ℕ
 orderRow o = 6 ∷ tabulate 32 (λ t. getD (o .filters) t 0)
 
 unfoldable pub rowOf : Chain → Part → List ℕ
 rowOf c (part.Offset k) = offsetRow (c .window) k
+rowOf c part.Box = boxRow (c .bounds)
 rowOf c (part.Capacity k) = capacityLine (capacityOf c k)
 rowOf c part.Order = orderRow (c .order)
 rowOf c part.Kernel = kernelLine (c .kernel)
@@ -40,26 +45,36 @@ rowOf c part.Kernel = kernelLine (c .kernel)
 -- How much of its row a line is.
 unfoldable pub lenOf : Chain → Part → ℕ
 lenOf c (part.Offset k) = 1 + 2 * c .grid .dims
+lenOf c part.Box = 1 + 8 * c .grid .dims
 lenOf c (part.Capacity k) = 5
 lenOf c part.Order = 1 + c .window .count
 lenOf c part.Kernel = length (kernelLine (c .kernel))
 
--- Line m behind the grid's, of a sheet with n offsets: the sections have n, n - 1, 1 (0 where no order stands) and 1 lines;
-unfoldable pub partAt : (ordered : Bool) (n m : ℕ) → Part
-partAt ordered n m =
-    let behind = m - n in
-    cond (ltb m n) (part.Offset m)
-    (cond (ltb (behind + 1) n) (part.Capacity behind)
+-- The lines between the grid's and the capacities', of a sheet with n offsets: theirs, and the box's where one stands.
+abbrev pub toCapacities : (boxed : Bool) (n : ℕ) → ℕ
+toCapacities boxed n = n + cond boxed 1 0
+
+-- Line `behind` from the capacities' on, counted from 0; and line m behind the grid's: the sections have n, 1 (0 where no box stands), n - 1, 1 (0 where no order stands)
+-- and 1 lines;
+unfoldable pub partBehind : (ordered : Bool) (n behind : ℕ) → Part
+partBehind ordered n behind =
+    cond (ltb (behind + 1) n) (part.Capacity behind)
     (cond (ltb behind n && ordered) part.Order
-    part.Kernel))
+    part.Kernel)
+
+unfoldable pub partAt : (boxed ordered : Bool) (n m : ℕ) → Part
+partAt boxed ordered n m =
+    cond (ltb m n) (part.Offset m)
+    (cond (ltb m (toCapacities boxed n)) part.Box
+    (partBehind ordered n (m - toCapacities boxed n)))
 
 -- and how many lines there are in all.
-unfoldable pub linesBehind : (ordered : Bool) (n : ℕ) → ℕ
-linesBehind ordered n = 2 * n + cond ordered 1 0
+unfoldable pub linesBehind : (boxed ordered : Bool) (n : ℕ) → ℕ
+linesBehind boxed ordered n = toCapacities boxed n + n + cond ordered 1 0
 
 unfoldable pub lineAt : Chain → ℕ → List ℕ
 lineAt c zero = gridLine (c .grid)
-lineAt c (suc m) = let p = partAt (c .order .stood) (c .window .count) m in take (lenOf c p) (rowOf c p)
+lineAt c (suc m) = let p = partAt (c .bounds .stood) (c .order .stood) (c .window .count) m in take (lenOf c p) (rowOf c p)
 
 -- So many lines from line m on.
 unfoldable pub linesFrom : Chain → ℕ → ℕ → List ℕ

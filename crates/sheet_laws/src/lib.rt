@@ -3,6 +3,7 @@
 // Where a line of a chain sheet stands behind the grid's: in which section, and which of its lines it is.
 pub enum Part {
     Offset(usize),
+    Box,
     Capacity(usize),
     Order,
     Kernel,

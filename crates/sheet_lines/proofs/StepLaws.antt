@@ -9,7 +9,7 @@ use Rattle.model.specs.declared.Verdict.the-variants as verdict
 use Rattle.model.specs.Frames.{Seen}
 use Rattle.model.specs.Reading.{lineVerdict, taken, stepOf}
 use Rattle.sheet_laws.proofs.AcceptedLines.{Admitted, admitted}
-use Rattle.sheet_laws.proofs.AcceptedLines.Admitted.{grid, offset, capacity, order, kernel, name}
+use Rattle.sheet_laws.proofs.AcceptedLines.Admitted.{grid, offset, capacity, order, kernel, name, box}
 use Rattle.sheet_lines.specs.Room.{Room}
 
 pub accepted-room : (chained : Bool) (r : Reading) (l : Seen) → lineVerdict chained r l ≡ verdict.Accepted → Room r (l .first)
@@ -24,6 +24,7 @@ accepted-room chained r l h = go (admitted chained r l h .1)
     go (capacity e last chain given len) = record { offset = λ z. absurd (other e z (λ y. omega arith)); capacity = λ z. given }
     go (order e last chain given len) = record { offset = λ z. absurd (other e z (λ y. omega arith)); capacity = λ z. absurd (other e z (λ y. omega arith)) }
     go (name e last request len ok) = record { offset = λ z. absurd (other e z (λ y. omega arith)); capacity = λ z. absurd (other e z (λ y. omega arith)) }
+    go (box e last len) = record { offset = λ z. absurd (other e z (λ y. omega arith)); capacity = λ z. absurd (other e z (λ y. omega arith)) }
     go (kernel e last given form) = record { offset = λ z. absurd (other e z (λ y. omega arith)); capacity = λ z. absurd (other e z (λ y. omega arith)) }
 
 module _ (chained : Bool) (r : Reading) (l : Seen) where

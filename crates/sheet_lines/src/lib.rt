@@ -1,4 +1,5 @@
 // Reading a sheet, line by line.
+use model::Bounds;
 use model::Frame;
 use model::Grid;
 use model::KEPT;
@@ -15,7 +16,7 @@ ghost use Prim.Native.Nat.{_+_, _<_};
 ghost use lib.ListN.{set};
 ghost use Rattle.model.specs.Frames.{shown};
 ghost use Rattle.model.specs.Lines.{linesOf};
-ghost use Rattle.model.specs.Reading.{withGrid, withOffset, withName, withCapacity, withOrder, withKernel, taken, stepOf, start, complete, readLines};
+ghost use Rattle.model.specs.Reading.{withGrid, withOffset, withName, withBox, withCapacity, withOrder, withKernel, taken, stepOf, start, complete, readLines};
 ghost use Rattle.sheet_lines.specs.Room.{Room};
 
 // Before the first line.
@@ -70,6 +71,21 @@ fn with_name(r: Reading, x: [u8; KEPT]) -> Reading
         last: Last::Name,
         given: r.given,
         chain: values::set_window(r.chain, window),
+    }
+}
+
+fn with_box(r: Reading, x: [u8; KEPT]) -> Reading
+    ensures { λ s. ⌜ s ≡ withBox r x ⌝ }
+{
+    let bounds = Bounds {
+        stood: true,
+        lowest: sheet_fields::lowest_in(x),
+        highest: sheet_fields::highest_in(x),
+    };
+    Reading {
+        last: Last::Box,
+        given: r.given,
+        chain: values::set_bounds(r.chain, bounds),
     }
 }
 
@@ -148,6 +164,9 @@ fn take_line(r: Reading, x: [u8; KEPT]) -> Reading
     if kind == 7 {
         return with_name(r, x);
     }
+    if kind == 8 {
+        return with_box(r, x);
+    }
     with_kernel(r, x)
 }
 
@@ -182,6 +201,7 @@ pub fn is_complete(r: Reading) -> bool
         Last::Grid => false,
         Last::Offset => false,
         Last::Name => false,
+        Last::Box => false,
         Last::Capacity => false,
         Last::Order => false,
     }

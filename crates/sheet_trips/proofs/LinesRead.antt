@@ -11,14 +11,14 @@ use borrow.Author.Tests.{eq-eqb, ne-eqb, lt-leb, eqb-true, not-false}
 use Rattle.model.specs.Values.{orderOf}
 use Rattle.model.specs.Judging.{notFinite, badFactor}
 use Rattle.model.specs.Frames.{kept, padded}
-use Rattle.model.specs.Numbers.{byteAt, halfAt, wordAt, halfBytes, wordBytes, signed, pattern}
-use Rattle.model.specs.Reading.{badKernel, sizesIn, filtersIn, kernelIn}
-use Rattle.model.specs.Writing.{capacityLine, kernelLine}
+use Rattle.model.specs.Numbers.{byteAt, halfAt, wordAt, halfBytes, wordBytes, signed, pattern, signedWord, wordPattern}
+use Rattle.model.specs.Reading.{badKernel, sizesIn, lowestIn, highestIn, filtersIn, kernelIn}
+use Rattle.model.specs.Writing.{indexPair, capacityLine, kernelLine}
 use Rattle.model.proofs.ListLaws.{getD-tabulate, tabulate-back}
-use Rattle.sheet_laws.specs.Rows.{gridRow}
+use Rattle.sheet_laws.specs.Rows.{gridRow, boxRow}
 use Rattle.sheet_laws.proofs.Cases.{by-eq, never, or-false}
 use Rattle.sheet_trips.proofs.Bytes.{Small, small-at, small-padded, length-padded, take-padded, filters-read, half-back, word-back, half-small, word-small, upto, by-entries}
-use Rattle.sheet_trips.proofs.Values.{pattern-signed, bits-back}
+use Rattle.sheet_trips.proofs.Values.{pattern-signed, word-pattern-signed, bits-back}
 
 firsts : (n : ℕ) (bs : List ℕ) → n ≤ kept → take n (padded bs) ≡ upto (padded bs) 0 n
 firsts n bs h = by-entries n 0 (padded bs) (omega (arith, length-padded bs))
@@ -61,6 +61,15 @@ module _ (bs : List ℕ) (small : Small bs) where
       ≡ take 9 x
   unfolding upto
   offset-row e = rw (entry-bytes 1, entry-bytes 3, entry-bytes 5, entry-bytes 7) (ap (λ b. b ∷ upto x 1 8) (sym e) ∙ sym (firsts 9 bs (omega arith)))
+
+  index-bytes : (i : ℕ) → wordBytes (wordPattern (signedWord (wordAt x i))) ≡ byteAt x i ∷ byteAt x (i + 1) ∷ byteAt x (i + 2) ∷ byteAt x (i + 3) ∷ []
+  index-bytes i = ap wordBytes (word-pattern-signed _ (word-small x i s)) ∙ word-back x i s
+
+  pub box-row : byteAt x 0 ≡ 8 → boxRow (record { stood = true; lowest = lowestIn x; highest = highestIn x }) ≡ take 33 x
+  unfolding boxRow indexPair lowestIn highestIn upto
+  box-row e =
+      rw (index-bytes 1, index-bytes 5, index-bytes 9, index-bytes 13, index-bytes 17, index-bytes 21, index-bytes 25, index-bytes 29)
+      (ap (λ b. b ∷ upto x 1 32) (sym e) ∙ sym (firsts 33 bs (omega arith)))
 
   pub capacity-row : byteAt x 0 ≡ 3 → capacityLine (wordAt x 1) ≡ take 5 x
   unfolding capacityLine upto

@@ -28,12 +28,12 @@ use Rattle.model.specs.Frames.{valueOf, digitOf, whole, bytesOf, digitsOf, fram
 use Rattle.model.specs.Numbers.{byteAt}
 use Rattle.model.specs.NamedWindows.{windows, isName, namedOf, badName, entriesOf, offsetsNamed, withReferences, windowNamed}
 use Rattle.model.specs.Reading.{kindOf, badForm, malformed, nextInRequest, among, misplaced, badLength, lineChecks, lineVerdict}
-use Rattle.model.specs.Reading.{taken, withGrid, withName, withKernel, stepOf, start, closes, complete, readLines, endVerdict, readRequest}
+use Rattle.model.specs.Reading.{taken, withGrid, withName, withBox, withKernel, stepOf, start, closes, complete, readLines, endVerdict, readRequest}
 use Rattle.model.specs.Writing.{offsetLine, sheetOf}
 use Rattle.model.specs.Programs.{refusalText, planText}
 use Rattle.model.proofs.NameLaws.{by-name}
-use Rattle.sheet_laws.proofs.Cases.{by-bool, and-true}
-use Rattle.sheet_laws.proofs.AcceptedLines.{clear, taken-grid, taken-kernel, taken-name}
+use Rattle.sheet_laws.proofs.Cases.{by-bool, never, and-true}
+use Rattle.sheet_laws.proofs.AcceptedLines.{clear, taken-grid, taken-kernel, taken-name, taken-box}
 use Rattle.sheet_laws.proofs.FixedMemory.{unsound-verdict}
 use Rattle.sheet_laws.proofs.LineLaws.{line-front, firstLine, first-line}
 use Rattle.sheet_trips.specs.Names.{byName, writtenOut, BeginsWithOffset, ByName}
@@ -140,7 +140,7 @@ record Alike (one other : LineStep) : Type 0 where
 same-ends : {one other : LineStep} → one ≡ other → Alike one other
 same-ends e = record { verdict = ap (λ s. s .verdict) e; complete = ap (λ s. complete (s .reading)) e; chain = ap (λ s. s .reading .chain) e }
 
--- A line behind the window that is no `02` line: it is judged alike, and where it is not turned back it is the kernel's.
+-- A line behind the window that is no `02` line: it is judged alike, and where it is not turned back it is the box's or the kernel's.
 module _ (r : Reading) (name : ℕ) (l : Seen) (other : kindOf l ≡ 2 → ⊥) where
   abbrev afterName : Reading
   afterName = behind stood.Name r name
@@ -152,17 +152,19 @@ module _ (r : Reading) (name : ℕ) (l : Seen) (other : kindOf l ≡ 2 → ⊥) 
   unfolding lineVerdict lineChecks misplaced among any nextInRequest
   judged-alike = rw (ne-eqb _ _ other)
 
-  is-kernel : lineVerdict false afterName l ≡ verdict.Accepted → kindOf l ≡ 4
+  box-or-kernel : lineVerdict false afterName l ≡ verdict.Accepted → (kindOf l ≡ 8) ⊎ (kindOf l ≡ 4)
   unfolding lineVerdict lineChecks misplaced among any nextInRequest
-  is-kernel h = eqb-true (kindOf l) 4 (either (eqb (kindOf l) 4) (not-false _ (clear _ _ _ (clear _ _ _ h .1) .0)))
+  box-or-kernel h = either (not-false _ (clear _ _ _ (clear _ _ _ h .1) .0))
     where
-      either : (b : Bool) → (b || false) ≡ true → b ≡ true
-      either true e = refl
-      either false e = e
+      either : (eqb (kindOf l) 8 || (eqb (kindOf l) 4 || false)) ≡ true → (kindOf l ≡ 8) ⊎ (kindOf l ≡ 4)
+      either e = by-bool (eqb (kindOf l) 8)
+          (λ q. inl (eqb-true _ _ q))
+          (λ q. by-bool (eqb (kindOf l) 4) (λ u. inr (eqb-true _ _ u)) (λ u. absurd (never (sym (rw (q, u) at e)))))
 
-  taken-alike : kindOf l ≡ 4 → taken afterName (l .first) ≡ taken afterOffset (l .first)
-  unfolding withKernel
-  taken-alike e = taken-kernel afterName (l .first) e ∙ sym (taken-kernel afterOffset (l .first) e)
+  taken-alike : (kindOf l ≡ 8) ⊎ (kindOf l ≡ 4) → taken afterName (l .first) ≡ taken afterOffset (l .first)
+  unfolding withBox withKernel
+  taken-alike (inl e) = taken-box afterName (l .first) e ∙ sym (taken-box afterOffset (l .first) e)
+  taken-alike (inr e) = taken-kernel afterName (l .first) e ∙ sym (taken-kernel afterOffset (l .first) e)
 
 -- A sound line whose first byte is 2 begins with an `02`.
 begins : (chars : List ℕ) → whole chars ≡ true → byteAt (padded (bytesOf chars)) 0 ≡ 2 → (t : List ℕ) × (chars ≡ digitsOf (2 ∷ t))
@@ -196,7 +198,7 @@ module _ (r : Reading) (name : ℕ) where
       by-verdict : (kindOf seen ≡ 2 → ⊥) → (v : Verdict) → lineVerdict false (behind stood.Name r name) seen ≡ v
           → Alike (readLines false (behind stood.Name r name) (l ∷ ls)) (readLines false (behind stood.Offset r name) (l ∷ ls))
       by-verdict n verdict.Accepted e =
-          rw (e, sym (judged-alike r name seen n) ∙ e) (same-ends (ap (λ t. readLines false t ls) (taken-alike r name seen n (is-kernel r name seen n e))))
+          rw (e, sym (judged-alike r name seen n) ∙ e) (same-ends (ap (λ t. readLines false t ls) (taken-alike r name seen n (box-or-kernel r name seen n e))))
       by-verdict n (verdict.Refused x) e = rw (e, sym (judged-alike r name seen n) ∙ e) (record { verdict = refl; complete = refl; chain = refl })
 
   lines-alike : (rest : List ℕ) → (BeginsWithOffset rest → ⊥)

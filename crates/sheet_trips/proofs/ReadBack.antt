@@ -14,7 +14,7 @@ use Rattle.model.specs.declared.Grid.{Grid}
 use Rattle.model.specs.declared.Order.{Order}
 use Rattle.model.specs.declared.Window.{Window}
 use Rattle.model.specs.Lists.{tabulate}
-use Rattle.model.specs.Values.{sizesOf, entryOf, offsetOf, offsetsOf, capacityOf, capacitiesOf, orderOf, trimmed, chainOf}
+use Rattle.model.specs.Values.{sizesOf, entryOf, offsetOf, offsetsOf, capacityOf, capacitiesOf, orderOf, partOf, trimmed, boundsOf, chainOf}
 use Rattle.model.proofs.ListLaws.{length-tabulate, getD-tabulate}
 use Rattle.model.proofs.ChainLaws.{same-normal}
 use Rattle.sheet_laws.proofs.Cases.{by-lt}
@@ -48,6 +48,7 @@ unfoldable pub readBack : Chain → Chain
 readBack c = record {
   grid = record { dims = c .grid .dims; sizes = readSizes (c .grid) };
   window = record { count = c .window .count; offsets = readOffsets (c .grid .dims) (c .window) (c .window .count) };
+  bounds = boundsOf (partOf (c .grid .dims) (c .bounds));
   capacities = readCapacities (c .capacities) (c .window .count - 1);
   order = readOrder (c .window .count) (c .order .stood) (c .order .filters);
   kernel = c .kernel;

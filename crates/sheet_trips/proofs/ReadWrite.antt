@@ -10,8 +10,10 @@ use lib.ListN.{length, getD, length-set}
 use lib.Seq.{sets, length-sets, getD-set-same, getD-set-other}
 use borrow.Author.Tests.{eq-eqb, ne-eqb}
 use Rattle.model.specs.declared.Chain.{Chain}
+use Rattle.model.specs.declared.Kernel.{Kernel}
 use Rattle.model.specs.declared.Last.{Last}
 use Rattle.model.specs.declared.Last.the-variants as stood
+use Rattle.model.specs.declared.Order.{Order}
 use Rattle.model.specs.declared.Reading.{Reading}
 use Rattle.model.specs.declared.Refusal.{Refusal}
 use Rattle.model.specs.declared.Verdict.{Verdict}
@@ -21,20 +23,21 @@ use Rattle.model.specs.Lines.{Line, lineFeed, linesOf, into}
 use Rattle.model.specs.Frames.{framed, whole, bytesOf, padded, seenOf}
 use Rattle.model.specs.Numbers.{byteAt, wordAt}
 use Rattle.model.specs.Reading.{badKernel, entriesIn, kernelIn, lineVerdict}
-use Rattle.model.specs.Reading.{taken, withGrid, withOffset, withCapacity, withOrder, withKernel, stepOf, start, closes, complete, readLines}
+use Rattle.model.specs.Reading.{taken, withGrid, withOffset, withBox, withCapacity, withOrder, withKernel, stepOf, start, closes, complete, readLines}
 use Rattle.model.specs.Writing.{gridLine, capacityLine, sheetOf}
-use Rattle.sheet_laws.specs.Rows.{offsetRow, linesBehind, lineAt, linesFrom}
-use Rattle.sheet_laws.proofs.Cases.{by-eq, by-lt, never, and-true}
-use Rattle.sheet_laws.proofs.AcceptedLines.{BehindWindow, Admitted, admitted, refused-accepted, not-complete, taken-grid, taken-offset, taken-capacity, taken-order, taken-kernel}
-use Rattle.sheet_laws.proofs.AcceptedLines.BehindWindow.{offsets, capacities, terms, named}
-use Rattle.sheet_laws.proofs.AcceptedLines.Admitted.{grid, offset, capacity, order, kernel, name}
+use Rattle.sheet_laws.specs.Rows.{offsetRow, toCapacities, linesBehind, lineAt, linesFrom}
+use Rattle.sheet_laws.proofs.Cases.{by-bool, by-eq, by-lt, never, and-true}
+use Rattle.sheet_laws.proofs.AcceptedLines.{BehindOffsets, BehindWindow, Admitted, admitted, refused-accepted, not-complete, taken-grid, taken-offset, taken-box, taken-capacity, taken-order, taken-kernel}
+use Rattle.sheet_laws.proofs.AcceptedLines.BehindOffsets.{offsets, bounds, capacities}
+use Rattle.sheet_laws.proofs.AcceptedLines.BehindWindow.{filters, terms, named}
+use Rattle.sheet_laws.proofs.AcceptedLines.Admitted.{grid, offset, box, capacity, order, kernel, name}
 use Rattle.sheet_laws.proofs.AcceptedChains.{accepted-chain}
-use Rattle.sheet_laws.proofs.SheetRows.{line-grid, line-offset, line-capacity, line-order, line-kernel, lines-join, sheet-rows}
+use Rattle.sheet_laws.proofs.SheetRows.{box-front, line-grid, line-offset, line-box, line-capacity, line-order, line-kernel, lines-join, sheet-rows}
 use Rattle.sheet_trips.specs.RoundTrips.{ReadWrite}
 use Rattle.sheet_trips.proofs.Bytes.{Small, small-bytes, digits-back, take-padded, lineSeen}
 use Rattle.sheet_trips.proofs.Values.{sets-before, sets-at}
 use Rattle.sheet_trips.proofs.AcceptedSheets.{accepted-sheet, accepted-read}
-use Rattle.sheet_trips.proofs.LinesRead.{front, grid-row, offset-row, capacity-row, order-row, kernel-row}
+use Rattle.sheet_trips.proofs.LinesRead.{front, grid-row, offset-row, box-row, capacity-row, order-row, kernel-row}
 
 -- The text of a sheet's lines is the sheet.
 unfoldable text : List Line → List ℕ
@@ -72,17 +75,18 @@ grown c d k bs h e =
     ∙ ap (λ t. linesFrom c 0 k ++ t) (ap (λ m. linesFrom d m 1) z ∙ one-line d k ∙ ap framed e)
 
 -- How many lines were read, and what was read, written.
-unfoldable linesTo : Last → (ordered : Bool) (count given : ℕ) → ℕ
-linesTo stood.Nothing ordered count given = 0
-linesTo stood.Grid ordered count given = 1 + count + given
-linesTo stood.Offset ordered count given = 1 + count + given
-linesTo stood.Name ordered count given = 1 + count + given
-linesTo stood.Capacity ordered count given = 1 + count + given
-linesTo stood.Order ordered count given = 1 + count + given + 1
-linesTo stood.Kernel ordered count given = linesBehind ordered count + 1
+unfoldable linesTo : Last → (boxed ordered : Bool) (count given : ℕ) → ℕ
+linesTo stood.Nothing boxed ordered count given = 0
+linesTo stood.Grid boxed ordered count given = 1 + toCapacities boxed count + given
+linesTo stood.Offset boxed ordered count given = 1 + toCapacities boxed count + given
+linesTo stood.Name boxed ordered count given = 1 + toCapacities boxed count + given
+linesTo stood.Box boxed ordered count given = 1 + toCapacities boxed count + given
+linesTo stood.Capacity boxed ordered count given = 1 + toCapacities boxed count + given
+linesTo stood.Order boxed ordered count given = 1 + toCapacities boxed count + given + 1
+linesTo stood.Kernel boxed ordered count given = linesBehind boxed ordered count + 1
 
 unfoldable linesRead : Reading → ℕ
-linesRead r = linesTo (r .last) (r .chain .order .stood) (r .chain .window .count) (r .given)
+linesRead r = linesTo (r .last) (r .chain .bounds .stood) (r .chain .order .stood) (r .chain .window .count) (r .given)
 
 unfoldable written : Reading → List ℕ
 written r = linesFrom (r .chain) 0 (linesRead r)
@@ -101,9 +105,21 @@ Counted stood.Nothing count given = (count ≡ 0) × (given ≡ 0)
 Counted stood.Grid count given = given ≡ 0
 Counted stood.Offset count given = given ≡ 0
 Counted stood.Name count given = given ≡ 0
+Counted stood.Box count given = given ≡ 0
 Counted stood.Capacity count given = Unit {0}
 Counted stood.Order count given = Unit {0}
 Counted stood.Kernel count given = 0 < count
+
+-- Whether a box stood.
+unfoldable Boxed : Last → Bool → Type 0
+Boxed stood.Nothing b = b ≡ false
+Boxed stood.Grid b = b ≡ false
+Boxed stood.Offset b = b ≡ false
+Boxed stood.Name b = b ≡ false
+Boxed stood.Box b = Unit {0}
+Boxed stood.Capacity b = Unit {0}
+Boxed stood.Order b = Unit {0}
+Boxed stood.Kernel b = Unit {0}
 
 -- And whether an order stood.
 unfoldable Ordered : Last → Bool → Type 0
@@ -111,6 +127,7 @@ Ordered stood.Nothing b = b ≡ false
 Ordered stood.Grid b = b ≡ false
 Ordered stood.Offset b = b ≡ false
 Ordered stood.Name b = b ≡ false
+Ordered stood.Box b = b ≡ false
 Ordered stood.Capacity b = b ≡ false
 Ordered stood.Order b = b ≡ true
 Ordered stood.Kernel b = Unit {0}
@@ -122,25 +139,46 @@ record Kept (r : Reading) : Type 0 where
   dims : r .chain .grid .dims ≤ 4
   count : r .chain .window .count ≤ 32
   counted : Counted (r .last) (r .chain .window .count) (r .given)
+  boxed : Boxed (r .last) (r .chain .bounds .stood)
   ordered : Ordered (r .last) (r .chain .order .stood)
 
--- Line j of a sheet that has been read so far: the grid's, an offset's, or a capacity's.
-by-place : {A : Type 0} (n j : ℕ) → (j ≡ 0 → A) → ((i : ℕ) → i < n → j ≡ 1 + i → A) → ((i : ℕ) → j ≡ 1 + n + i → A) → A
-by-place n zero g o c = g refl
-by-place n (suc j) g o c =
+-- Line j of a sheet that has been read so far: the grid's, an offset's, the box's, or a capacity's.
+by-place : {A : Type 0} (boxed : Bool) (n j : ℕ) → (j ≡ 0 → A) → ((i : ℕ) → i < n → j ≡ 1 + i → A) → (boxed ≡ true → j ≡ 1 + n → A)
+    → ((i : ℕ) → j ≡ 1 + toCapacities boxed n + i → A) → A
+by-place boxed n zero g o b c = g refl
+by-place boxed n (suc j) g o b c =
     by-lt j n
     (λ l. o j l (omega arith))
-    (λ l. let e : suc j ≡ 1 + n + (j - n) = omega arith in c (j - n) e)
+    (λ l. by-bool boxed
+    (λ e. by-eq j n
+    (λ q. b e (omega arith))
+    (λ q. let z : suc j ≡ 1 + (n + 1) + (j - (n + 1)) = omega arith in c (j - (n + 1)) (z ∙ rw e)))
+    (λ e. let z : suc j ≡ 1 + (n + 0) + (j - n) = omega arith in c (j - n) (z ∙ rw e)))
 
 -- A line behind the capacities' and before the kernel's is the order's.
-orders-place : (ordered : Bool) (n j : ℕ) → 2 * n ≤ j → j < linesBehind ordered n → (ordered ≡ true) × (j ≡ 2 * n)
+orders-place : (boxed ordered : Bool) (n j : ℕ) → toCapacities boxed n + n ≤ j → j < linesBehind boxed ordered n → (ordered ≡ true) × (j ≡ toCapacities boxed n + n)
 unfolding linesBehind
-orders-place true n j h l = (refl, omega arith)
-orders-place false n j h l = absurd (omega arith)
+orders-place boxed true n j h l = (refl, omega arith)
+orders-place boxed false n j h l = absurd (omega arith)
 
 same-grid : (c d : Chain) → c .grid ≡ d .grid → lineAt c 0 ≡ lineAt d 0
 unfolding lineAt
 same-grid c d e = ap gridLine e
+
+-- A chain with other capacities, order and kernel: the lines up to its capacities' are the same.
+abbrev behindBox : Chain → List ℕ → Order → Kernel → Chain
+behindBox c a o k = record { grid = c .grid; window = c .window; bounds = c .bounds; capacities = a; order = o; kernel = k }
+
+same-front : (c : Chain) (a : List ℕ) (o : Order) (k : Kernel) → c .grid .dims ≤ 4 → (j : ℕ)
+    → ((i : ℕ) → j ≡ 1 + toCapacities (c .bounds .stood) (c .window .count) + i → lineAt (behindBox c a o k) j ≡ lineAt c j)
+    → lineAt (behindBox c a o k) j ≡ lineAt c j
+same-front c a o k few j rest =
+    let d = behindBox c a o k in
+    by-place (c .bounds .stood) (c .window .count) j
+    (λ z. rw z (same-grid d c refl))
+    (λ i h z. rw z (line-offset d i h ∙ sym (line-offset c i h)))
+    (λ is z. rw z (line-box d is few ∙ sym (line-box c is few)))
+    rest
 
 module _ (r : Reading) (keeps : Kept r) (bs : List ℕ) (small : Small bs) where
   abbrev x : List ℕ
@@ -152,64 +190,83 @@ module _ (r : Reading) (keeps : Kept r) (bs : List ℕ) (small : Small bs) where
   abbrev n : ℕ
   n = r .chain .window .count
 
-  lines-at : (l : Last) → r .last ≡ l → linesRead r ≡ linesTo l (c .order .stood) n (r .given)
+  lines-at : (l : Last) → r .last ≡ l → linesRead r ≡ linesTo l (c .bounds .stood) (c .order .stood) n (r .given)
   unfolding linesRead
-  lines-at l e = ap (λ (k : Last). linesTo k (c .order .stood) n (r .given)) e
+  lines-at l e = ap (λ (k : Last). linesTo k (c .bounds .stood) (c .order .stood) n (r .given)) e
 
   counted-at : (l : Last) → r .last ≡ l → Counted l n (r .given)
   counted-at l e = subst (λ (k : Last). Counted k n (r .given)) e (keeps .counted)
 
+  boxed-at : (l : Last) → r .last ≡ l → Boxed l (c .bounds .stood)
+  boxed-at l e = subst (λ (k : Last). Boxed k (c .bounds .stood)) e (keeps .boxed)
+
   ordered-at : (l : Last) → r .last ≡ l → Ordered l (c .order .stood)
   ordered-at l e = subst (λ (k : Last). Ordered k (c .order .stood)) e (keeps .ordered)
 
+  -- So many lines there are before the capacities', where no box stood.
+  offsets-only : c .bounds .stood ≡ false → (m : ℕ) → toCapacities (c .bounds .stood) m ≡ m
+  offsets-only none m = rw none (omega arith)
+
   grid-adds : byteAt x 0 ≡ 1 → r .last ≡ stood.Nothing → byteAt x 1 ≤ 4 → length bs ≡ 2 + 4 * byteAt x 1 → Adds r (withGrid r x) bs
-  unfolding withGrid linesRead linesTo Counted
+  unfolding withGrid linesRead linesTo Counted Boxed
   grid-adds e p few len =
       let z = counted-at stood.Nothing p in
-      let q : 1 + n + r .given ≡ 0 + 1 = omega (arith, z .0, z .1) in
+      let q : 1 + toCapacities (c .bounds .stood) n + r .given ≡ 0 + 1 = omega (arith, z .0, z .1, offsets-only (boxed-at stood.Nothing p) n) in
       adds r (withGrid r x) bs 0 (lines-at stood.Nothing p) q (λ j l. absurd (omega arith))
       (line-grid _ few ∙ front (2 + 4 * byteAt x 1) 18 bs _ (grid-row bs small e) (omega arith) (omega arith) len)
 
-  -- Where an `02` line may come no capacity was read; where another line behind the `01` line may come, as many lines as offsets and capacities, and one.
+  -- Where an `02` line may come no capacity was read, no box and no order; where another line behind the `01` line may come, as many lines as offsets, boxes and
+  -- capacities, and one.
   none-given : (r .last ≡ stood.Grid) ⊎ (r .last ≡ stood.Offset) → r .given ≡ 0
   unfolding Counted
   none-given (inl p) = counted-at stood.Grid p
   none-given (inr p) = counted-at stood.Offset p
+
+  no-box : (r .last ≡ stood.Grid) ⊎ (r .last ≡ stood.Offset) → c .bounds .stood ≡ false
+  unfolding Boxed
+  no-box (inl p) = boxed-at stood.Grid p
+  no-box (inr p) = boxed-at stood.Offset p
 
   no-order : (r .last ≡ stood.Grid) ⊎ (r .last ≡ stood.Offset) → c .order .stood ≡ false
   unfolding Ordered
   no-order (inl p) = ordered-at stood.Grid p
   no-order (inr p) = ordered-at stood.Offset p
 
-  behind-grid : (r .last ≡ stood.Grid) ⊎ (r .last ≡ stood.Offset) → linesRead r ≡ 1 + n + r .given
+  abbrev ahead : ℕ
+  ahead = toCapacities (c .bounds .stood) n
+
+  behind-grid : (r .last ≡ stood.Grid) ⊎ (r .last ≡ stood.Offset) → linesRead r ≡ 1 + ahead + r .given
   unfolding linesTo
   behind-grid (inl p) = lines-at stood.Grid p
   behind-grid (inr p) = lines-at stood.Offset p
 
-  behind-offsets : (r .last ≡ stood.Offset) ⊎ (r .last ≡ stood.Capacity) → linesRead r ≡ 1 + n + r .given
+  behind-offsets : BehindOffsets (r .last) → linesRead r ≡ 1 + ahead + r .given
   unfolding linesTo
-  behind-offsets (inl p) = lines-at stood.Offset p
-  behind-offsets (inr p) = lines-at stood.Capacity p
+  behind-offsets (offsets p) = lines-at stood.Offset p
+  behind-offsets (bounds p) = lines-at stood.Box p
+  behind-offsets (capacities p) = lines-at stood.Capacity p
 
   offset-adds : byteAt x 0 ≡ 2 → (r .last ≡ stood.Grid) ⊎ (r .last ≡ stood.Offset) → length bs ≡ 1 + 2 * c .grid .dims → n < 32 → Adds r (withOffset r x) bs
   unfolding withOffset linesRead linesTo entriesIn offsetRow
   offset-adds e p len few =
       let g = none-given p in
+      let none = no-box p in
       let d = withOffset r x .chain in
       let o = c .window .offsets in
       let es = entriesIn x in
       let room : 4 * n + 4 ≤ length o = omega (arith, keeps .offsets) in
-      let q : 1 + n + r .given ≡ 1 + n = omega arith in
-      let q′ : 1 + (n + 1) + r .given ≡ 1 + n + 1 = omega arith in
+      let q : 1 + ahead + r .given ≡ 1 + n = omega (arith, offsets-only none n) in
+      let q′ : 1 + toCapacities (c .bounds .stood) (n + 1) + r .given ≡ 1 + n + 1 = omega (arith, offsets-only none (n + 1)) in
       let old : (i k : ℕ) → k < 4 → i < n → getD (sets o (4 * n) es) (4 * i + k) (pos 0) ≡ getD o (4 * i + k) (pos 0) =
       λ i k l h. sets-before es o (4 * n) (4 * i + k) (pos 0) (omega arith) in
       adds r (withOffset r x) bs (1 + n) (behind-grid p ∙ q) q′
-      (λ j l. by-place n j
+      (λ j l. by-place (c .bounds .stood) n j
       (λ z. rw z (same-grid d c refl))
       (λ i h z. rw z
       (line-offset d i (omega arith)
       ∙ rw (old i 0 (omega arith) h, old i 1 (omega arith) h, old i 2 (omega arith) h, old i 3 (omega arith) h)
       (sym (line-offset c i h))))
+      (λ is z. absurd (omega arith))
       (λ i z. absurd (omega arith)))
       (line-offset d n (omega arith)
       ∙ front (1 + 2 * c .grid .dims) 9 bs _
@@ -222,17 +279,33 @@ module _ (r : Reading) (keeps : Kept r) (bs : List ℕ) (small : Small bs) where
       (offset-row bs small e))
       (omega (arith, keeps .dims)) (omega arith) len)
 
-  capacity-adds : byteAt x 0 ≡ 3 → (r .last ≡ stood.Offset) ⊎ (r .last ≡ stood.Capacity) → r .given + 1 < n → length bs ≡ 5 → Adds r (withCapacity r x) bs
+  box-adds : byteAt x 0 ≡ 8 → r .last ≡ stood.Offset → length bs ≡ 1 + 8 * c .grid .dims → Adds r (withBox r x) bs
+  unfolding withBox linesRead linesTo
+  box-adds e p len =
+      let g = none-given (inr p) in
+      let none = no-box (inr p) in
+      let d = withBox r x .chain in
+      let q : 1 + ahead + r .given ≡ 1 + n = omega (arith, offsets-only none n) in
+      let q′ : 1 + (n + 1) + r .given ≡ 1 + n + 1 = omega arith in
+      adds r (withBox r x) bs (1 + n) (behind-grid (inr p) ∙ q) q′
+      (λ j l. by-place (c .bounds .stood) n j
+      (λ z. rw z (same-grid d c refl))
+      (λ i h z. rw z (line-offset d i h ∙ sym (line-offset c i h)))
+      (λ is z. absurd (omega arith))
+      (λ i z. absurd (omega arith)))
+      (line-box d refl (keeps .dims)
+      ∙ box-front (c .grid .dims) (d .bounds) (keeps .dims)
+      ∙ front (1 + 8 * c .grid .dims) 33 bs _ (box-row bs small e) (omega (arith, keeps .dims)) (omega arith) len)
+
+  capacity-adds : byteAt x 0 ≡ 3 → BehindOffsets (r .last) → r .given + 1 < n → length bs ≡ 5 → Adds r (withCapacity r x) bs
   unfolding withCapacity linesRead linesTo
   capacity-adds e p g len =
       let d = withCapacity r x .chain in
       let a = c .capacities in
       let v = r .given in
-      let q : 1 + n + (v + 1) ≡ 1 + n + v + 1 = omega arith in
-      adds r (withCapacity r x) bs (1 + n + v) (behind-offsets p) q
-      (λ j l. by-place n j
-      (λ z. rw z (same-grid d c refl))
-      (λ i h z. rw z (line-offset d i h ∙ sym (line-offset c i h)))
+      let q : 1 + ahead + (v + 1) ≡ 1 + ahead + v + 1 = omega arith in
+      adds r (withCapacity r x) bs (1 + ahead + v) (behind-offsets p) q
+      (λ j l. same-front c (d .capacities) (d .order) (d .kernel) (keeps .dims) j
       (λ i z. let y : i ≡ v → ⊥ = λ u. omega arith in
       rw z (line-capacity d i (omega arith) ∙ ap capacityLine (getD-set-other a v i (wordAt x 1) 0 y) ∙ sym (line-capacity c i (omega arith)))))
       (line-capacity d v g
@@ -240,29 +313,27 @@ module _ (r : Reading) (keeps : Kept r) (bs : List ℕ) (small : Small bs) where
       ∙ capacity-row bs small e ∙ take-padded 5 bs (sym len) (omega arith))
 
   -- Before the order's line none stood.
-  unordered : (r .last ≡ stood.Offset) ⊎ (r .last ≡ stood.Capacity) → c .order .stood ≡ false
+  unordered : BehindOffsets (r .last) → c .order .stood ≡ false
   unfolding Ordered
-  unordered (inl p) = ordered-at stood.Offset p
-  unordered (inr p) = ordered-at stood.Capacity p
+  unordered (offsets p) = ordered-at stood.Offset p
+  unordered (bounds p) = ordered-at stood.Box p
+  unordered (capacities p) = ordered-at stood.Capacity p
 
-  order-adds : byteAt x 0 ≡ 6 → (r .last ≡ stood.Offset) ⊎ (r .last ≡ stood.Capacity) → n ≡ r .given + 1 → length bs ≡ 1 + n → Adds r (withOrder r x) bs
+  order-adds : byteAt x 0 ≡ 6 → BehindOffsets (r .last) → n ≡ r .given + 1 → length bs ≡ 1 + n → Adds r (withOrder r x) bs
   unfolding withOrder linesRead linesTo
   order-adds e p g len =
       let d = withOrder r x .chain in
       let v = r .given in
-      let w : 1 + n + v ≡ 2 * n = omega arith in
-      adds r (withOrder r x) bs (1 + n + v) (behind-offsets p) refl
-      (λ j l. by-place n j
-      (λ z. rw z (same-grid d c refl))
-      (λ i h z. rw z (line-offset d i h ∙ sym (line-offset c i h)))
+      let w : 1 + ahead + v ≡ ahead + n = omega arith in
+      adds r (withOrder r x) bs (1 + ahead + v) (behind-offsets p) refl
+      (λ j l. same-front c (d .capacities) (d .order) (d .kernel) (keeps .dims) j
       (λ i z. rw z (line-capacity d i (omega arith) ∙ sym (line-capacity c i (omega arith)))))
       (ap (lineAt d) w ∙ line-order d refl (omega arith) (keeps .count) ∙ order-row n bs e len (keeps .count))
 
   -- Behind as many lines as a sheet has before its kernel's.
-  before-kernel : BehindWindow true (r .last) → n ≡ r .given + 1 → linesRead r ≡ linesBehind (c .order .stood) n
+  before-kernel : BehindWindow true (r .last) → n ≡ r .given + 1 → linesRead r ≡ linesBehind (c .bounds .stood) (c .order .stood) n
   unfolding linesTo linesBehind Ordered
-  before-kernel (offsets p) g = lines-at stood.Offset p ∙ rw (unordered (inl p)) (omega arith)
-  before-kernel (capacities p) g = lines-at stood.Capacity p ∙ rw (unordered (inr p)) (omega arith)
+  before-kernel (filters p) g = behind-offsets p ∙ rw (unordered p) (omega arith)
   before-kernel (terms chain p) g = lines-at stood.Order p ∙ rw (ordered-at stood.Order p) (omega arith)
   before-kernel (named request p) g = absurd (never request)
 
@@ -272,13 +343,11 @@ module _ (r : Reading) (keeps : Kept r) (bs : List ℕ) (small : Small bs) where
   kernel-adds e p g ok finite =
       let d = withKernel r x .chain in
       let some : 0 < n = omega arith in
-      adds r (withKernel r x) bs (linesBehind (c .order .stood) n) (before-kernel p g) refl
-      (λ j l. by-place n j
-      (λ z. rw z (same-grid d c refl))
-      (λ i h z. rw z (line-offset d i h ∙ sym (line-offset c i h)))
+      adds r (withKernel r x) bs (linesBehind (c .bounds .stood) (c .order .stood) n) (before-kernel p g) refl
+      (λ j l. same-front c (d .capacities) (d .order) (d .kernel) (keeps .dims) j
       (λ i z. by-lt (i + 1) n
       (λ h. rw z (line-capacity d i h ∙ sym (line-capacity c i h)))
-      (λ h. let (is, at) = orders-place (c .order .stood) n j (omega arith) l in
+      (λ h. let (is, at) = orders-place (c .bounds .stood) (c .order .stood) n j (omega arith) l in
       rw at (line-order d is some (keeps .count) ∙ sym (line-order c is some (keeps .count))))))
       (line-kernel d some ∙ kernel-row bs small e ok finite)
 
@@ -307,7 +376,7 @@ by-verdict (verdict.Refused x) a f = f x refl
 -- Any line that is not turned back.
 step-adds : (r : Reading) → Kept r → (bs : List ℕ) → Small bs → lineVerdict true r (lineSeen bs) ≡ verdict.Accepted → Finite (taken r (padded bs))
     → Adds r (taken r (padded bs)) bs × Kept (taken r (padded bs))
-unfolding withGrid withOffset withCapacity withOrder withKernel Finite Counted Ordered complete closes
+unfolding withGrid withOffset withBox withCapacity withOrder withKernel Finite Counted Boxed Ordered complete closes
 step-adds r k bs small h finite = go (admitted true r _ h .1)
   where
     go : Admitted true r (lineSeen bs) → Adds r (taken r (padded bs)) bs × Kept (taken r (padded bs))
@@ -320,6 +389,7 @@ step-adds r k bs small h finite = go (admitted true r _ h .1)
             dims = few;
             count = k .count;
             counted = counted-at r k bs small stood.Nothing last .1;
+            boxed = boxed-at r k bs small stood.Nothing last;
             ordered = ordered-at r k bs small stood.Nothing last;
           },
         )
@@ -332,9 +402,24 @@ step-adds r k bs small h finite = go (admitted true r _ h .1)
             dims = k .dims;
             count = omega arith;
             counted = none-given r k bs small last;
+            boxed = no-box r k bs small last;
             ordered = no-order r k bs small last;
           },
         )
+    go (box e (inl last) len) =
+        rw (taken-box _ _ e) (
+          box-adds r k bs small e last len,
+          record {
+            offsets = k .offsets;
+            capacities = k .capacities;
+            dims = k .dims;
+            count = k .count;
+            counted = none-given r k bs small (inr last);
+            boxed = tt;
+            ordered = no-order r k bs small (inr last);
+          },
+        )
+    go (box e (inr (request, last)) len) = absurd (never request)
     go (capacity e last chain given len) =
         rw (taken-capacity _ _ e) (
           capacity-adds r k bs small e last given len,
@@ -344,13 +429,14 @@ step-adds r k bs small h finite = go (admitted true r _ h .1)
             dims = k .dims;
             count = k .count;
             counted = tt;
+            boxed = tt;
             ordered = unordered r k bs small last;
           },
         )
     go (order e last chain given len) =
         rw (taken-order _ _ e) (
           order-adds r k bs small e last given len,
-          record { offsets = k .offsets; capacities = k .capacities; dims = k .dims; count = k .count; counted = tt; ordered = refl },
+          record { offsets = k .offsets; capacities = k .capacities; dims = k .dims; count = k .count; counted = tt; boxed = tt; ordered = refl },
         )
     go (name e last request len ok) = absurd (never request)
     go (kernel e last given form) =
@@ -358,7 +444,7 @@ step-adds r k bs small h finite = go (admitted true r _ h .1)
         let same = taken-kernel r (padded bs) e in
         rw same (
           kernel-adds r k bs small e last counted form ((rw same at finite) refl),
-          record { offsets = k .offsets; capacities = k .capacities; dims = k .dims; count = k .count; counted = omega arith; ordered = tt },
+          record { offsets = k .offsets; capacities = k .capacities; dims = k .dims; count = k .count; counted = omega arith; boxed = tt; ordered = tt },
         )
 
 line-adds : (r : Reading) → Kept r → (l : Line) → lineVerdict true r (seenOf (l .ended) (l .chars)) ≡ verdict.Accepted
@@ -376,11 +462,12 @@ unfolding written linesRead complete closes linesTo Counted
 all-written r k e = go (r .last) e (k .counted)
   where
     go : (l : Last) → closes l ≡ true → Counted l (r .chain .window .count) (r .given)
-        → linesFrom (r .chain) 0 (linesTo l (r .chain .order .stood) (r .chain .window .count) (r .given)) ≡ sheetOf (r .chain)
+        → linesFrom (r .chain) 0 (linesTo l (r .chain .bounds .stood) (r .chain .order .stood) (r .chain .window .count) (r .given)) ≡ sheetOf (r .chain)
     go stood.Nothing h c = absurd (never (sym h))
     go stood.Grid h c = absurd (never (sym h))
     go stood.Offset h c = absurd (never (sym h))
     go stood.Name h c = absurd (never (sym h))
+    go stood.Box h c = absurd (never (sym h))
     go stood.Capacity h c = absurd (never (sym h))
     go stood.Order h c = absurd (never (sym h))
     go stood.Kernel h c = sym (sheet-rows (r .chain) (k .dims) c (k .count))
@@ -405,8 +492,8 @@ lines-back (l ∷ ls) r k h e f =
     (λ x q. absurd (refused-accepted (rw q at h)))
 
 kept-start : Kept start
-unfolding Counted Ordered
-kept-start = record { offsets = refl; capacities = refl; dims = omega arith; count = omega arith; counted = (refl, refl); ordered = refl }
+unfolding Counted Boxed Ordered
+kept-start = record { offsets = refl; capacities = refl; dims = omega arith; count = omega arith; counted = (refl, refl); boxed = refl; ordered = refl }
 
 none-written : written start ≡ []
 unfolding written linesRead linesTo linesFrom

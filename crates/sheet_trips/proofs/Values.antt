@@ -1,4 +1,4 @@
--- Entries and factors, there and back; what setting entries leaves.
+-- Entries, indices and factors, there and back; what setting entries leaves.
 use Prim.Native.Nat.{ℕ, zero, suc, _+_, _-_, _≤_, _<_}
 use mathlib.Core.Bool.{false, not}
 use mathlib.Core.List.{List, [], _∷_}
@@ -13,7 +13,7 @@ use lib.Seq.{sets, getD-set-same, getD-set-other}
 use lib.Signed.{mag}
 use borrow.Author.Tests.{lt-ltb, le-ltb}
 use Rattle.model.specs.Judging.{notFinite}
-use Rattle.model.specs.Numbers.{signed, pattern}
+use Rattle.model.specs.Numbers.{signed, pattern, signedWord, wordPattern}
 use Rattle.sheet_laws.proofs.Cases.{by-lt, never}
 
 -- 16 bits in two's complement.
@@ -33,6 +33,24 @@ pub pattern-small : (z : ℤ) → mag z < 32768 → pattern z < 65536
 unfolding pattern
 pattern-small (pos n) h = omega arith
 pattern-small (negsuc n) h = omega arith
+
+-- And 32 bits.
+pub word-pattern-signed : (w : ℕ) → w < 4294967296 → wordPattern (signedWord w) ≡ w
+unfolding signedWord wordPattern
+word-pattern-signed w h = by-lt w 2147483648 (λ l. rw (lt-ltb _ _ l)) (λ l. rw (le-ltb _ _ l) (omega arith))
+
+pub signed-word-pattern : (z : ℤ) → mag z < 2147483648 → signedWord (wordPattern z) ≡ z
+unfolding signedWord wordPattern
+signed-word-pattern (pos n) h = rw (lt-ltb _ _ h)
+signed-word-pattern (negsuc n) h =
+    let q : 2147483648 ≤ 4294967295 - n = omega arith in
+    let e : 4294967295 - (4294967295 - n) ≡ n = omega arith in
+    rw (le-ltb _ _ q, e)
+
+pub word-pattern-small : (z : ℤ) → mag z < 2147483648 → wordPattern z < 4294967296
+unfolding wordPattern
+word-pattern-small (pos n) h = omega arith
+word-pattern-small (negsuc n) h = omega arith
 
 -- The bits of a finite factor.
 finite-number : (x : Float) → notFinite x ≡ false → T (not (isNan x))

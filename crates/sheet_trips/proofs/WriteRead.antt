@@ -1,7 +1,7 @@
 -- A chain, written and read: line by line the reading takes up what was written.
 use Prim.Native.Nat.{ℕ, zero, suc, _+_, _-_, _*_, _/_, _%_, _≤_, _<_}
 use mathlib.Core.Bool.{Bool, true, false, cond, not}
-use mathlib.Core.List.{List, [], _∷_, _++_}
+use mathlib.Core.List.{List, [], _∷_, _++_, flatMap}
 use mathlib.Core.Logic.{_⊎_, inl, inr}
 use mathlib.Core.Path.{_≡_, refl, sym, ap, _∙_}
 use native.Mathlib.Omega.{arith}
@@ -12,6 +12,7 @@ use lib.ListN.{length, take, getD, replicate, List·getD-append, List·getD-eq-d
 use lib.Seq.{getD-take, length-take-le}
 use lib.Signed.{mag}
 use borrow.Author.Tests.{eq-eqb, ne-eqb, lt-leb, lt-ltb, le-ltb}
+use Rattle.model.specs.declared.Bounds.{Bounds}
 use Rattle.model.specs.declared.Chain.{Chain}
 use Rattle.model.specs.declared.Kernel.{Kernel}
 use Rattle.model.specs.declared.Kernel.the-variants as kernel
@@ -19,57 +20,65 @@ use Rattle.model.specs.declared.Last.{Last}
 use Rattle.model.specs.declared.Last.the-variants as stood
 use Rattle.model.specs.declared.Reading.{Reading}
 use Rattle.model.specs.declared.Verdict.the-variants as verdict
-use Rattle.model.specs.Lists.{tabulate, any}
-use Rattle.model.specs.Values.{sizesOf, entryOf, offsetOf, capacityOf, orderOf, noOrder, setOrder, trimmed}
+use Rattle.model.specs.Boxes.Part.{box}
+use Rattle.model.specs.Lists.{tabulate, upTo as firstNumbers, any}
+use Rattle.model.specs.Values.{sizesOf, entryOf, offsetOf, capacityOf, orderOf, partOf, noBounds, boundsOf, noOrder, setOrder, trimmed}
 use Rattle.model.specs.Judging.{badDims, badSizes, judgeChain}
 use Rattle.model.specs.Lines.{linesOf}
 use Rattle.model.specs.Frames.{kept, padded, framed}
-use Rattle.model.specs.Numbers.{byteAt, wordAt, wordBytes}
-use Rattle.model.specs.Reading.{badKernel, badForm, malformed, nextInChain, miscounted, among, misplaced, badLength, sizesIn, kernelIn}
-use Rattle.model.specs.Reading.{withGrid, withCapacity, withOrder, withKernel, start, closes, complete, readLines, endVerdict, readChain}
-use Rattle.model.specs.Writing.{offsetLine, capacityLine, kernelLine, sheetOf}
+use Rattle.model.specs.Numbers.{byteAt, wordAt, wordBytes, signedWord, wordPattern}
+use Rattle.model.specs.Reading.{badKernel, badForm, malformed, nextInChain, miscounted, among, misplaced, badLength, sizesIn, lowestIn, highestIn, kernelIn}
+use Rattle.model.specs.Reading.{withGrid, withBox, withCapacity, withOrder, withKernel, start, closes, complete, readLines, endVerdict, readChain}
+use Rattle.model.specs.Writing.{offsetLine, indexPair, capacityLine, kernelLine, sheetOf}
 use Rattle.model.proofs.ListLaws.{length-tabulate, getD-tabulate}
 use Rattle.model.proofs.ChainLaws.{length-order}
 use Rattle.model.proofs.TermLaws.{order-below}
-use Rattle.sheet_laws.specs.Rows.{gridRow, linesBehind, linesFrom}
+use Rattle.sheet_laws.specs.Rows.{gridRow, toCapacities, linesBehind, linesFrom}
 use Rattle.sheet_laws.proofs.Cases.{by-lt}
-use Rattle.sheet_laws.proofs.AcceptedLines.{taken-grid, taken-capacity, taken-order, taken-kernel}
+use Rattle.sheet_laws.proofs.AcceptedLines.{taken-grid, taken-box, taken-capacity, taken-order, taken-kernel}
 use Rattle.sheet_laws.proofs.AcceptedChains.{Accepted, accepted-chain}
-use Rattle.sheet_laws.proofs.SheetRows.{offset-front, line-grid, line-offset, line-capacity, line-order, line-kernel, sheet-rows}
+use Rattle.sheet_laws.proofs.SheetLength.{pairs-length}
+use Rattle.sheet_laws.proofs.SheetRows.{offset-front, line-grid, line-offset, line-box, line-capacity, line-order, line-kernel, sheet-rows}
 use Rattle.sheet_trips.specs.RoundTrips.{FactorsFit, InRange, WriteRead}
 use Rattle.sheet_trips.proofs.Bytes.{Small, small-each, small-append, small-take, small-word, lineSeen, past, filters-read}
 use Rattle.sheet_trips.proofs.Bytes.Small.{none, more}
+use Rattle.sheet_trips.proofs.Values.{signed-word-pattern, word-pattern-small}
 use Rattle.sheet_trips.proofs.ReadBack.{upTo, readSizes, readEntries, readOffsets, readCapacities, readOrder, readBack, same-chain, normal-chain}
 use Rattle.sheet_trips.proofs.LineGoes.{all-clear, Goes, line-goes, four, small-offset, offset-goes}
 
--- What stood last behind k offsets and g capacities.
-unfoldable lastOf : (k g : ℕ) → Last
-lastOf zero g = stood.Grid
-lastOf (suc k) zero = stood.Offset
-lastOf (suc k) (suc g) = stood.Capacity
+-- What stood last behind k offsets, a box or none, and g capacities.
+unfoldable lastOf : (boxed : Bool) (k g : ℕ) → Last
+lastOf boxed zero g = stood.Grid
+lastOf boxed (suc k) zero = cond boxed stood.Box stood.Offset
+lastOf boxed (suc k) (suc g) = stood.Capacity
 
--- Where reading the sheet of a chain stands behind k offsets and g capacities.
-abbrev midway : Chain → ℕ → ℕ → Reading
-midway c k g = record {
-  last = lastOf k g;
+-- Where reading the sheet of a chain stands behind k offsets, these bounds and g capacities.
+abbrev midway : Chain → Bounds → ℕ → ℕ → Reading
+midway c b k g = record {
+  last = lastOf (b .stood) k g;
   given = g;
   chain = record {
     grid = record { dims = c .grid .dims; sizes = readSizes (c .grid) };
     window = record { count = k; offsets = readOffsets (c .grid .dims) (c .window) k };
+    bounds = b;
     capacities = readCapacities (c .capacities) g;
     order = noOrder;
     kernel = kernel.Raw;
   };
 }
 
--- And before the kernel, where an order stood or did not.
+-- The chain's own bounds, read.
+abbrev readBounds : Chain → Bounds
+readBounds c = boundsOf (partOf (c .grid .dims) (c .bounds))
+
+-- Before the kernel, where an order stood or did not.
 abbrev toKernel : Chain → (ordered : Bool) → Reading
 toKernel c ordered =
     let n = c .window .count in
     record {
-      last = cond ordered stood.Order (lastOf n (n - 1));
+      last = cond ordered stood.Order (lastOf (readBounds c .stood) n (n - 1));
       given = n - 1;
-      chain = setOrder (readOrder n ordered (c .order .filters)) (midway c n (n - 1) .chain);
+      chain = setOrder (readOrder n ordered (c .order .filters)) (midway c (readBounds c) n (n - 1) .chain);
     }
 
 -- A byte of the padded front of a row.
@@ -122,36 +131,49 @@ front-entries (suc (suc (suc zero))) f h = refl
 front-entries (suc (suc (suc (suc zero)))) f h = refl
 front-entries (suc (suc (suc (suc (suc d))))) f h = absurd (omega arith)
 
--- The order of a chain sheet's lines: an offset behind the grid or an offset, a capacity and an order behind an offset or a capacity, the kernel behind these or
--- the order.
-before-offset : (k : ℕ) → (lastOf k 0 ≡ stood.Grid) ⊎ (lastOf k 0 ≡ stood.Offset)
+-- The order of a chain sheet's lines: an offset behind the grid or an offset, the box behind an offset, a capacity and an order behind an offset, the box or a
+-- capacity, the kernel behind these or the order.
+before-offset : (k : ℕ) → (lastOf false k 0 ≡ stood.Grid) ⊎ (lastOf false k 0 ≡ stood.Offset)
 unfolding lastOf
 before-offset zero = inl refl
 before-offset (suc k) = inr refl
 
-capacity-comes : (n g : ℕ) → g + 1 < n → misplaced true (lastOf n g) g n 3 ≡ false
+box-comes : (n : ℕ) → 0 < n → misplaced true (lastOf false n 0) 0 n 8 ≡ false
 unfolding lastOf misplaced among any nextInChain miscounted
-capacity-comes zero g h = absurd (omega arith)
-capacity-comes (suc n) zero h = lt-leb _ _ h
-capacity-comes (suc n) (suc g) h = lt-leb _ _ h
+box-comes zero h = absurd (omega arith)
+box-comes (suc n) h = refl
 
-capacity-last : (n g : ℕ) → g + 1 < n → lastOf n (suc g) ≡ stood.Capacity
+box-last : (n : ℕ) → 0 < n → lastOf true n 0 ≡ stood.Box
 unfolding lastOf
-capacity-last zero g h = absurd (omega arith)
-capacity-last (suc n) g h = refl
+box-last zero h = absurd (omega arith)
+box-last (suc n) h = refl
 
-order-comes : (n g : ℕ) → n ≡ g + 1 → misplaced true (lastOf n g) g n 6 ≡ false
+capacity-comes : (boxed : Bool) (n g : ℕ) → g + 1 < n → misplaced true (lastOf boxed n g) g n 3 ≡ false
 unfolding lastOf misplaced among any nextInChain miscounted
-order-comes zero g h = absurd (omega arith)
-order-comes (suc n) zero h = ap not (eq-eqb _ _ h)
-order-comes (suc n) (suc g) h = ap not (eq-eqb _ _ h)
+capacity-comes boxed zero g h = absurd (omega arith)
+capacity-comes true (suc n) zero h = lt-leb _ _ h
+capacity-comes false (suc n) zero h = lt-leb _ _ h
+capacity-comes boxed (suc n) (suc g) h = lt-leb _ _ h
 
-kernel-comes : (ordered : Bool) (n g : ℕ) → n ≡ g + 1 → misplaced true (cond ordered stood.Order (lastOf n g)) g n 4 ≡ false
+capacity-last : (boxed : Bool) (n g : ℕ) → g + 1 < n → lastOf boxed n (suc g) ≡ stood.Capacity
+unfolding lastOf
+capacity-last boxed zero g h = absurd (omega arith)
+capacity-last boxed (suc n) g h = refl
+
+order-comes : (boxed : Bool) (n g : ℕ) → n ≡ g + 1 → misplaced true (lastOf boxed n g) g n 6 ≡ false
 unfolding lastOf misplaced among any nextInChain miscounted
-kernel-comes true n g h = ap not (eq-eqb _ _ h)
-kernel-comes false zero g h = absurd (omega arith)
-kernel-comes false (suc n) zero h = ap not (eq-eqb _ _ h)
-kernel-comes false (suc n) (suc g) h = ap not (eq-eqb _ _ h)
+order-comes boxed zero g h = absurd (omega arith)
+order-comes true (suc n) zero h = ap not (eq-eqb _ _ h)
+order-comes false (suc n) zero h = ap not (eq-eqb _ _ h)
+order-comes boxed (suc n) (suc g) h = ap not (eq-eqb _ _ h)
+
+kernel-comes : (boxed ordered : Bool) (n g : ℕ) → n ≡ g + 1 → misplaced true (cond ordered stood.Order (lastOf boxed n g)) g n 4 ≡ false
+unfolding lastOf misplaced among any nextInChain miscounted
+kernel-comes boxed true n g h = ap not (eq-eqb _ _ h)
+kernel-comes boxed false zero g h = absurd (omega arith)
+kernel-comes true false (suc n) zero h = ap not (eq-eqb _ _ h)
+kernel-comes false false (suc n) zero h = ap not (eq-eqb _ _ h)
+kernel-comes boxed false (suc n) (suc g) h = ap not (eq-eqb _ _ h)
 
 module _ (c : Chain) (range : InRange c) (ok : Accepted c) where
   abbrev dims : ℕ
@@ -196,7 +218,7 @@ module _ (c : Chain) (range : InRange c) (ok : Accepted c) where
   unfolding readSizes sizesOf
   good-sizes = ap badSizes (front-sizes dims (λ d. getD (c .grid .sizes) d 0) (ok .few-dims)) ∙ ok .sizes
 
-  grid-goes : Goes true start gridBytes (midway c 0 0)
+  grid-goes : Goes true start gridBytes (midway c noBounds 0 0)
   unfolding lastOf withGrid malformed badForm misplaced among any nextInChain miscounted badDims badLength readOffsets readCapacities
   grid-goes =
       let heads = grid-heads in
@@ -223,16 +245,16 @@ module _ (c : Chain) (range : InRange c) (ok : Accepted c) where
       (λ l. rw (getD-tabulate dims (λ i. entryOf (c .window) k i) d (pos 0) l) (range .entries (4 * k + d)))
       (λ l. rw (List·getD-eq-default (offsetOf dims (c .window) k) (pos 0) {n = d} (rw length-tabulate l)) (omega arith))
 
-  offset-read : (k : ℕ) → k < 32 → Goes true (midway c k 0) (offsetLine (offsetOf dims (c .window) k)) (midway c (suc k) 0)
+  offset-read : (k : ℕ) → k < 32 → Goes true (midway c noBounds k 0) (offsetLine (offsetOf dims (c .window) k)) (midway c noBounds (suc k) 0)
   unfolding lastOf readOffsets readEntries offsetOf
   offset-read k less =
       let s : k + 1 ≡ suc k = omega arith in
       let l : length (offsetOf dims (c .window) k) ≡ dims = length-tabulate dims (λ i. entryOf (c .window) k i) in
-      let g = offset-goes true (midway c k 0) (offsetOf dims (c .window) k) (before-offset k) l (omega (arith, l, ok .few-dims)) (entry-fits k) less in
+      let g = offset-goes true (midway c noBounds k 0) (offsetOf dims (c .window) k) (before-offset k) l (omega (arith, l, ok .few-dims)) (entry-fits k) less in
       (g .0, g .1 ∙ rw (s, front-entries dims (λ i. entryOf (c .window) k i) (ok .few-dims)))
 
   -- A capacity's line.
-  module _ (k : ℕ) (less : k + 1 < count) where
+  module _ (b : Bounds) (k : ℕ) (less : k + 1 < count) where
     abbrev places : ℕ
     places = capacityOf c k
 
@@ -240,18 +262,61 @@ module _ (c : Chain) (range : InRange c) (ok : Accepted c) where
     unfolding capacityLine wordBytes padded wordAt
     capacity-word = let h = range .capacities k in omega arith
 
-    capacity-goes : Goes true (midway c count k) (capacityLine places) (midway c count (suc k))
+    capacity-goes : Goes true (midway c b count k) (capacityLine places) (midway c b count (suc k))
     unfolding lastOf withCapacity malformed badForm badLength readCapacities capacityLine wordBytes padded
     capacity-goes =
         let s : k + 1 ≡ suc k = omega arith in (
-          all-clear true (midway c count k) (lineSeen (capacityLine places)) refl (capacity-comes count k less) refl refl refl refl refl,
-          taken-capacity (midway c count k) (padded (capacityLine places)) refl ∙ rw (s, capacity-word, capacity-last count k less),
+          all-clear true (midway c b count k) (lineSeen (capacityLine places)) refl (capacity-comes (b .stood) count k less) refl refl refl refl refl,
+          taken-capacity (midway c b count k) (padded (capacityLine places)) refl ∙ rw (s, capacity-word, capacity-last (b .stood) count k less),
         )
 
--- The kernel's line.
+-- A word from its bytes.
 word-whole : (w : ℕ) → w < 4294967296 → w / 16777216 * 16777216 + w / 65536 % 256 * 65536 + w / 256 % 256 * 256 + w % 256 ≡ w
 word-whole w h = omega arith
 
+-- The box's line.
+abbrev boxBytes : ℕ → Bounds → List ℕ
+boxBytes dims b = 8 ∷ flatMap (indexPair b) (firstNumbers dims)
+
+abbrev Fits : List ℤ → Type 0
+Fits xs = (d : ℕ) → mag (getD xs d (pos 0)) < 2147483648
+
+abbrev Back : List ℤ → ℕ → Type 0
+Back xs d = let w = wordPattern (getD xs d (pos 0)) in signedWord (w / 16777216 * 16777216 + w / 65536 % 256 * 65536 + w / 256 % 256 * 256 + w % 256) ≡ getD xs d (pos 0)
+
+index-back : (xs : List ℤ) → Fits xs → (d : ℕ) → Back xs d
+index-back xs fits d =
+    let z = getD xs d (pos 0) in
+    ap signedWord (word-whole (wordPattern z) (word-pattern-small z (fits d))) ∙ signed-word-pattern z (fits d)
+
+module _ (b : Bounds) (low : Fits (b .lowest)) (high : Fits (b .highest)) where
+  lo : (d : ℕ) → Back (b .lowest) d
+  lo d = index-back (b .lowest) low d
+
+  hi : (d : ℕ) → Back (b .highest) d
+  hi d = index-back (b .highest) high d
+
+  pairs-back : (dims : ℕ) → dims ≤ 4 → (let x = padded (boxBytes dims b) in
+      record { stood = true; lowest = lowestIn x; highest = highestIn x }
+      ≡ boundsOf (box (tabulate dims (λ d. getD (b .lowest) d (pos 0))) (tabulate dims (λ d. getD (b .highest) d (pos 0)))))
+  unfolding boundsOf lowestIn highestIn padded flatMap firstNumbers tabulate indexPair wordBytes wordAt signedWord
+  pairs-back zero few = refl
+  pairs-back (suc zero) few = rw (lo 0, hi 0)
+  pairs-back (suc (suc zero)) few = rw (lo 0, hi 0, lo 1, hi 1)
+  pairs-back (suc (suc (suc zero))) few = rw (lo 0, hi 0, lo 1, hi 1, lo 2, hi 2)
+  pairs-back (suc (suc (suc (suc zero)))) few = rw (lo 0, hi 0, lo 1, hi 1, lo 2, hi 2, lo 3, hi 3)
+  pairs-back (suc (suc (suc (suc (suc d))))) few = absurd (omega arith)
+
+  small-box : (dims : ℕ) → Small (boxBytes dims b)
+  unfolding flatMap indexPair
+  small-box dims = more {b = 8} (omega arith) (pairs (firstNumbers dims))
+    where
+      pairs : (ds : List ℕ) → Small (flatMap (indexPair b) ds)
+      pairs [] = none
+      pairs (d ∷ ds) =
+          small-append (small-append (small-word _ (word-pattern-small _ (low d))) (small-word _ (word-pattern-small _ (high d)))) (pairs ds)
+
+-- The kernel's line.
 kernel-head : (k : Kernel) → (malformed true (length (kernelLine k)) (byteAt (padded (kernelLine k)) 0) (byteAt (padded (kernelLine k)) 1) ≡ false)
     × (byteAt (padded (kernelLine k)) 0 ≡ 4)
 unfolding kernelLine wordBytes padded malformed badForm badKernel
@@ -310,32 +375,32 @@ module _ (c : Chain) (range : InRange c) (ok : Accepted c) where
   small-order : Small (6 ∷ order)
   small-order = more {b = 6} (omega arith) (small-each order (λ t h. omega (arith, order-below n order (ok .once) t h, ok .few)))
 
-  order-taken : ordered ≡ true → withOrder (midway c n (n - 1)) (padded (6 ∷ order)) ≡ toKernel c true
+  order-taken : ordered ≡ true → withOrder (midway c (readBounds c) n (n - 1)) (padded (6 ∷ order)) ≡ toKernel c true
   unfolding withOrder readOrder orderOf
   order-taken is =
       ap (λ (filters : List ℕ). record {
         last = stood.Order;
         given = n - 1;
-        chain = setOrder (record { stood = true; filters = filters }) (midway c n (n - 1) .chain);
+        chain = setOrder (record { stood = true; filters = filters }) (midway c (readBounds c) n (n - 1) .chain);
       })
       (filters-read n 6 order (length-order n (c .order) ∙ ap (λ (b : Bool). cond b n 0) is) ∙ ap (λ (b : Bool). tabulate 32 (λ t. getD (cond b (tabulate n (λ i. getD (c .order .filters) i 0)) []) t 0)) is)
 
-  order-goes : ordered ≡ true → Goes true (midway c n (n - 1)) (6 ∷ order) (toKernel c true)
+  order-goes : ordered ≡ true → Goes true (midway c (readBounds c) n (n - 1)) (6 ∷ order) (toKernel c true)
   unfolding malformed badForm badLength padded
   order-goes is =
       let e : n ≡ n - 1 + 1 = omega (arith, ok .some) in
       let l : length order ≡ cond ordered n 0 = length-order n (c .order) in
       let due : length (6 ∷ order) ≡ 1 + n = omega (arith, l ∙ ap (λ (b : Bool). cond b n 0) is) in
       let some : length (6 ∷ order) ≡ 0 → ⊥ = λ z. omega (arith, due) in (
-        all-clear true (midway c n (n - 1)) (lineSeen (6 ∷ order))
+        all-clear true (midway c (readBounds c) n (n - 1)) (lineSeen (6 ∷ order))
             (rw (ne-eqb _ _ some))
-            (order-comes n (n - 1) e)
+            (order-comes (readBounds c .stood) n (n - 1) e)
             refl
             (rw (eq-eqb _ _ due))
             refl
             refl
             refl,
-        taken-order (midway c n (n - 1)) (padded (6 ∷ order)) refl ∙ order-taken is,
+        taken-order (midway c (readBounds c) n (n - 1)) (padded (6 ∷ order)) refl ∙ order-taken is,
       )
 
   abbrev atEnd : Reading
@@ -348,7 +413,7 @@ module _ (c : Chain) (range : InRange c) (ok : Accepted c) where
       let e : n ≡ n - 1 + 1 = omega (arith, ok .some) in (
         all-clear true (toKernel c ordered) (lineSeen (kernelLine (c .kernel)))
             (head .0)
-            (rw (head .1) (kernel-comes ordered n (n - 1) e))
+            (rw (head .1) (kernel-comes (readBounds c .stood) ordered n (n - 1) e))
             (rw (head .1))
             (rw (head .1))
             (rw (head .1))
@@ -358,7 +423,7 @@ module _ (c : Chain) (range : InRange c) (ok : Accepted c) where
       )
 
   offsets-read : (i k m : ℕ) → k + i ≡ n
-      → readLines true (midway c k 0) (linesOf (linesFrom c (1 + k) (i + m))) ≡ readLines true (midway c n 0) (linesOf (linesFrom c (1 + n) m))
+      → readLines true (midway c noBounds k 0) (linesOf (linesFrom c (1 + k) (i + m))) ≡ readLines true (midway c noBounds n 0) (linesOf (linesFrom c (1 + n) m))
   unfolding linesFrom
   offsets-read zero k m e =
       let f : k ≡ n = omega arith in
@@ -368,50 +433,103 @@ module _ (c : Chain) (range : InRange c) (ok : Accepted c) where
       let z : suc i + m ≡ suc (i + m) = omega arith in
       let y : 1 + k + 1 ≡ 1 + suc k = omega arith in
       rw (z, line-offset c k (omega arith), ← offset-front (c .grid .dims) (c .window) k (ok .few-dims), y)
-      (line-goes true (midway c k 0) (midway c (suc k) 0) (offsetLine (offsetOf (c .grid .dims) (c .window) k)) _
+      (line-goes true (midway c noBounds k 0) (midway c noBounds (suc k) 0) (offsetLine (offsetOf (c .grid .dims) (c .window) k)) _
       (small-offset (offsetOf (c .grid .dims) (c .window) k) (entry-fits c range ok k)) (offset-read c range ok k (omega (arith, ok .few)))
       ∙ offsets-read i (suc k) m (omega arith))
 
+  -- The box's line, where it stood.
+  abbrev boxed : Bool
+  boxed = c .bounds .stood
+
+  bounds-read : boxed ≡ true → (let x = padded (boxBytes (c .grid .dims) (c .bounds)) in
+      record { stood = true; lowest = lowestIn x; highest = highestIn x } ≡ readBounds c)
+  unfolding partOf
+  bounds-read is = pairs-back (c .bounds) (range .lowest) (range .highest) (c .grid .dims) (ok .few-dims) ∙ rw is
+
+  box-goes : boxed ≡ true → Goes true (midway c noBounds n 0) (boxBytes (c .grid .dims) (c .bounds)) (midway c (readBounds c) n 0)
+  unfolding withBox malformed badForm badLength padded firstNumbers
+  box-goes is =
+      let bs = boxBytes (c .grid .dims) (c .bounds) in
+      let due : length bs ≡ 1 + 8 * c .grid .dims = omega (arith, pairs-length (c .bounds) (firstNumbers (c .grid .dims)), length-tabulate (c .grid .dims) (λ k. k)) in
+      let some : length bs ≡ 0 → ⊥ = λ z. omega (arith, due) in (
+        all-clear true (midway c noBounds n 0) (lineSeen bs)
+            (rw (ne-eqb _ _ some))
+            (box-comes n (ok .some))
+            refl
+            (rw (eq-eqb _ _ due))
+            refl
+            refl
+            refl,
+        taken-box (midway c noBounds n 0) (padded bs) refl ∙ rw (← box-last n (ok .some)) (ap (λ (b : Bounds). midway c b n 0) (bounds-read is)),
+      )
+
+  box-read : (m : ℕ) → readLines true (midway c noBounds n 0) (linesOf (linesFrom c (1 + n) (cond boxed 1 0 + m)))
+      ≡ readLines true (midway c (readBounds c) n 0) (linesOf (linesFrom c (1 + toCapacities boxed n) m))
+  unfolding linesFrom partOf boundsOf
+  box-read m = go boxed refl
+    where
+      go : (b : Bool) → boxed ≡ b
+          → readLines true (midway c noBounds n 0) (linesOf (linesFrom c (1 + n) (cond b 1 0 + m)))
+          ≡ readLines true (midway c (readBounds c) n 0) (linesOf (linesFrom c (1 + toCapacities b n) m))
+      go true e =
+          let z : 1 + m ≡ suc m = omega arith in
+          let y : 1 + (n + 1) ≡ 1 + n + 1 = omega arith in
+          rw (z, y)
+          (ap (λ l. readLines true (midway c noBounds n 0) (linesOf (framed l ++ linesFrom c (1 + n + 1) m))) (line-box c e (ok .few-dims))
+          ∙ line-goes true (midway c noBounds n 0) (midway c (readBounds c) n 0) (boxBytes (c .grid .dims) (c .bounds)) (linesFrom c (1 + n + 1) m)
+          (small-box (c .bounds) (range .lowest) (range .highest) (c .grid .dims)) (box-goes e))
+      go false e =
+          let z : 0 + m ≡ m = omega arith in
+          let y : 1 + (n + 0) ≡ 1 + n = omega arith in
+          rw (z, y, e)
+
   capacities-read : (i k m : ℕ) → k + i + 1 ≡ n
-      → readLines true (midway c n k) (linesOf (linesFrom c (1 + n + k) (i + m))) ≡ readLines true (midway c n (n - 1)) (linesOf (linesFrom c (2 * n) m))
+      → readLines true (midway c (readBounds c) n k) (linesOf (linesFrom c (1 + toCapacities boxed n + k) (i + m)))
+      ≡ readLines true (midway c (readBounds c) n (n - 1)) (linesOf (linesFrom c (toCapacities boxed n + n) m))
   unfolding linesFrom
   capacities-read zero k m e =
       let f : k ≡ n - 1 = omega arith in
-      let y : 1 + n + k ≡ 2 * n = omega arith in
+      let y : 1 + toCapacities boxed n + k ≡ toCapacities boxed n + n = omega arith in
       let z : 0 + m ≡ m = omega arith in
       rw (z, y, f)
   capacities-read (suc i) k m e =
       let z : suc i + m ≡ suc (i + m) = omega arith in
-      let y : 1 + n + k + 1 ≡ 1 + n + suc k = omega arith in
+      let y : 1 + toCapacities boxed n + k + 1 ≡ 1 + toCapacities boxed n + suc k = omega arith in
       rw (z, line-capacity c k (omega arith), y)
-      (line-goes true (midway c n k) (midway c n (suc k)) (capacityLine (capacityOf c k)) _ (small-capacity k) (capacity-goes c range ok k (omega arith))
+      (line-goes true (midway c (readBounds c) n k) (midway c (readBounds c) n (suc k)) (capacityLine (capacityOf c k)) _ (small-capacity k) (capacity-goes c range ok (readBounds c) k (omega arith))
       ∙ capacities-read i (suc k) m (omega arith))
 
-  order-read : readLines true (midway c n (n - 1)) (linesOf (linesFrom c (2 * n) (cond ordered 1 0 + 1)))
-      ≡ readLines true (toKernel c ordered) (linesOf (linesFrom c (2 * n + cond ordered 1 0) 1))
+  order-read : readLines true (midway c (readBounds c) n (n - 1)) (linesOf (linesFrom c (toCapacities boxed n + n) (cond ordered 1 0 + 1)))
+      ≡ readLines true (toKernel c ordered) (linesOf (linesFrom c (toCapacities boxed n + n + cond ordered 1 0) 1))
   unfolding linesFrom readOrder tabulate
   order-read = go ordered refl
     where
+      at : ℕ
+      at = toCapacities boxed n + n
+
       go : (b : Bool) → ordered ≡ b
-          → readLines true (midway c n (n - 1)) (linesOf (linesFrom c (2 * n) (cond b 1 0 + 1))) ≡ readLines true (toKernel c b) (linesOf (linesFrom c (2 * n + cond b 1 0) 1))
+          → readLines true (midway c (readBounds c) n (n - 1)) (linesOf (linesFrom c at (cond b 1 0 + 1))) ≡ readLines true (toKernel c b) (linesOf (linesFrom c (at + cond b 1 0) 1))
       go true e =
-          ap (λ l. readLines true (midway c n (n - 1)) (linesOf (framed l ++ linesFrom c (2 * n + 1) 1))) (line-order c e (ok .some) (ok .few))
-          ∙ line-goes true (midway c n (n - 1)) (toKernel c true) (6 ∷ order) (linesFrom c (2 * n + 1) 1) small-order (order-goes e)
+          ap (λ l. readLines true (midway c (readBounds c) n (n - 1)) (linesOf (framed l ++ linesFrom c (at + 1) 1))) (line-order c e (ok .some) (ok .few))
+          ∙ line-goes true (midway c (readBounds c) n (n - 1)) (toKernel c true) (6 ∷ order) (linesFrom c (at + 1) 1) small-order (order-goes e)
       go false e =
-          let z : 2 * n ≡ 2 * n + 0 = omega arith in
+          let z : at ≡ at + 0 = omega arith in
           ap (λ m. readLines true (toKernel c false) (linesOf (linesFrom c m 1))) z
 
   all-read : readLines true start (linesOf (sheetOf c)) ≡ record { verdict = verdict.Accepted; reading = atEnd }
   unfolding linesFrom readLines linesOf linesBehind
   all-read =
+      let b : ℕ = cond boxed 1 0 in
       let s : ℕ = cond ordered 1 0 in
-      let z : linesBehind ordered n + 1 ≡ suc (n + (n - 1 + (s + 1))) = omega (arith, ok .some) in
-      let y : 1 + n + 0 ≡ 1 + n = omega arith in
+      let a : ℕ = 1 + toCapacities boxed n in
+      let z : linesBehind boxed ordered n + 1 ≡ suc (n + (b + (n - 1 + (s + 1)))) = omega (arith, ok .some) in
+      let y : a + 0 ≡ a = omega arith in
       rw (sheet-rows c (ok .few-dims) (ok .some) (ok .few), z, line-grid c (ok .few-dims))
-      (line-goes true start (midway c 0 0) (take (2 + 4 * c .grid .dims) (gridRow (c .grid))) (linesFrom c 1 (n + (n - 1 + (s + 1))))
+      (line-goes true start (midway c noBounds 0 0) (take (2 + 4 * c .grid .dims) (gridRow (c .grid))) (linesFrom c 1 (n + (b + (n - 1 + (s + 1)))))
       (small-take (2 + 4 * c .grid .dims) small-grid) (grid-goes c range ok)
-      ∙ offsets-read n 0 (n - 1 + (s + 1)) (omega arith)
-      ∙ ap (λ i. readLines true (midway c n 0) (linesOf (linesFrom c i (n - 1 + (s + 1))))) (sym y)
+      ∙ offsets-read n 0 (b + (n - 1 + (s + 1))) (omega arith)
+      ∙ box-read (n - 1 + (s + 1))
+      ∙ ap (λ i. readLines true (midway c (readBounds c) n 0) (linesOf (linesFrom c i (n - 1 + (s + 1))))) (sym y)
       ∙ capacities-read (n - 1) 0 (s + 1) (omega (arith, ok .some))
       ∙ order-read
       ∙ ap (λ l. readLines true (toKernel c ordered) (linesOf (framed l ++ []))) (line-kernel c (ok .some))

@@ -16,7 +16,7 @@ use Rattle.model.specs.Judging.{judgeChain}
 use Rattle.model.specs.Reading.{readChain}
 use Rattle.model.specs.Writing.{sheetOf, Written, writeOf}
 
--- What the machine's types give of a chain's value: sizes and capacities of 32 bits, entries of 16 bits in two's complement, factors that binary32 holds.
+-- What the machine's types give of a chain's value: sizes and capacities of 32 bits, entries of 16 bits and indices of 32 bits in two's complement, factors that binary32 holds.
 unfoldable pub FactorsFit : Kernel → Type 0
 FactorsFit kernel.Raw = Unit
 FactorsFit kernel.Difference = Unit
@@ -26,6 +26,8 @@ FactorsFit (kernel.Blend g) = T (fits binary32 (g .a)) × T (fits binary32 (g .b
 pub record InRange (c : Chain) : Type 0 where
   pub sizes : (d : ℕ) → getD (c .grid .sizes) d 0 < 4294967296
   pub entries : (i : ℕ) → mag (getD (c .window .offsets) i (pos 0)) < 32768
+  pub lowest : (d : ℕ) → mag (getD (c .bounds .lowest) d (pos 0)) < 2147483648
+  pub highest : (d : ℕ) → mag (getD (c .bounds .highest) d (pos 0)) < 2147483648
   pub capacities : (k : ℕ) → getD (c .capacities) k 0 < 4294967296
   pub factors : FactorsFit (c .kernel)
 

@@ -8,6 +8,7 @@ use model::Verdict;
 use values::wide;
 ghost use mathlib.Core.Path.{_≡_};
 ghost use mathlib.Core.Bool.{cond, not, _&&_};
+ghost use mathlib.Core.List.{[], _∷_};
 ghost use Prim.Native.Nat.{_<_};
 ghost use lib.Dec.{eqb, leb};
 ghost use lib.ListN.{take};
@@ -56,6 +57,9 @@ fn bad_form(len: usize, kind: u8, second: u8) -> bool
     if kind == 7 {
         return len != 2;
     }
+    if kind == 8 {
+        return false;
+    }
     true
 }
 
@@ -71,25 +75,35 @@ fn is_malformed(sound: bool, len: usize, kind: u8, second: u8) -> bool
     bad_form(len, kind, second)
 }
 
+// A line's kind is one of two, and one of three.
+fn of_two(kind: u8, a: u8, b: u8) -> bool
+    ensures { λ r. ⌜ r ≡ among kind (a ∷ b ∷ []) ⌝ }
+{
+    if kind == a {
+        return true;
+    }
+    kind == b
+}
+
+fn of_three(kind: u8, a: u8, b: u8, c: u8) -> bool
+    ensures { λ r. ⌜ r ≡ among kind (a ∷ b ∷ c ∷ []) ⌝ }
+{
+    if kind == a {
+        return true;
+    }
+    of_two(kind, b, c)
+}
+
 // What may come next, by what stood last: in a request sheet,
 fn comes_in_request(last: Last, kind: u8) -> bool
     ensures { λ r. ⌜ r ≡ among kind (nextInRequest last) ⌝ }
 {
     match last {
         Last::Nothing => kind == 1,
-        Last::Grid => {
-            if kind == 2 {
-                return true;
-            }
-            kind == 7
-        }
-        Last::Offset => {
-            if kind == 2 {
-                return true;
-            }
-            kind == 4
-        }
-        Last::Name => kind == 4,
+        Last::Grid => of_two(kind, 2, 7),
+        Last::Offset => of_three(kind, 2, 8, 4),
+        Last::Name => of_two(kind, 8, 4),
+        Last::Box => kind == 4,
         Last::Capacity => false,
         Last::Order => false,
         Last::Kernel => false,
@@ -107,24 +121,14 @@ fn comes_in_chain(last: Last, kind: u8) -> bool
             if kind == 2 {
                 return true;
             }
-            if kind == 3 {
+            if kind == 8 {
                 return true;
             }
-            if kind == 6 {
-                return true;
-            }
-            kind == 4
+            of_three(kind, 3, 6, 4)
         }
         Last::Name => false,
-        Last::Capacity => {
-            if kind == 3 {
-                return true;
-            }
-            if kind == 6 {
-                return true;
-            }
-            kind == 4
-        }
+        Last::Box => of_three(kind, 3, 6, 4),
+        Last::Capacity => of_three(kind, 3, 6, 4),
         Last::Order => kind == 4,
         Last::Kernel => false,
     }
@@ -183,6 +187,9 @@ fn bad_length(len: usize, kind: u8, second: u8, dims: u8, count: u8) -> bool
     }
     if kind == 6 {
         return len != 1 + (count as usize);
+    }
+    if kind == 8 {
+        return len != 1 + 8 * (dims as usize);
     }
     false
 }

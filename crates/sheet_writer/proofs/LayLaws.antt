@@ -6,18 +6,20 @@ use mathlib.Core.Path.{_≡_, refl, sym, ap, ap₂, subst, _∙_}
 use native.Mathlib.Numerals.{add-one}
 use native.Mathlib.Omega.{arith}
 use lib.Dec.{ltb}
+use lib.IntN.{pos}
 use lib.ListN.{length, take, drop, getD, set, replicate, length-append, drop-of-length-le}
 use lib.Seq.{sets, drop-cons, getD-take, take-take, take-append-le, length-take-le}
 use borrow.Author.Tests.{lt-ltb, le-ltb}
+use Rattle.model.specs.declared.Bounds.{Bounds}
 use Rattle.model.specs.declared.Chain.{Chain}
 use Rattle.model.specs.declared.Grid.{Grid}
 use Rattle.model.specs.declared.Kernel.{Kernel}
 use Rattle.model.specs.declared.Kernel.the-variants as kernel
 use Rattle.model.specs.Lists.{tabulate}
 use Rattle.model.specs.Frames.{kept, digitOf, digitsOf, framed, padded}
-use Rattle.model.specs.Numbers.{halfBytes, wordBytes}
+use Rattle.model.specs.Numbers.{halfBytes, wordBytes, wordPattern}
 use Rattle.model.specs.Lines.{lineFeed}
-use Rattle.model.specs.Writing.{gridLine, capacityLine, kernelLine, sheetOf}
+use Rattle.model.specs.Writing.{gridLine, indexPair, capacityLine, kernelLine, sheetOf}
 use Rattle.model.proofs.ListLaws.{length-tabulate, getD-tabulate}
 use Rattle.sheet_laws.proofs.Cases.{by-lt}
 use Rattle.sheet_laws.proofs.SheetLength.{framed-length}
@@ -25,7 +27,7 @@ use Rattle.sheet_laws.proofs.SheetRows.{grid-front, sheet-rows}
 use Rattle.sheet_laws.specs.declared.Part.{Part}
 use Rattle.sheet_laws.specs.declared.Part.the-variants as part
 use Rattle.sheet_writer.specs.Laying.{Inside}
-use Rattle.sheet_laws.specs.Rows.{gridRow, offsetRow, orderRow, rowOf, lenOf, partAt, linesBehind, lineAt, linesFrom}
+use Rattle.sheet_laws.specs.Rows.{gridRow, offsetRow, boxRow, orderRow, rowOf, lenOf, toCapacities, partBehind, partAt, linesBehind, lineAt, linesFrom}
 
 sets-join : (xs ys l : List ℕ) (i : ℕ) → sets (sets l i xs) (i + length xs) ys ≡ sets l i (xs ++ ys)
 sets-join [] ys l i = ap (λ j. sets l j ys) (zero-right i)
@@ -51,6 +53,12 @@ module _ (x out : List ℕ) (len p i : ℕ) (whole : len ≤ length x) where
   pub frame-end : len ≤ i → set out p lineFeed ≡ sets out p (framed (drop i (take len x)))
   unfolding framed digitsOf
   frame-end h = rw (drop-of-length-le (take len x) {i = i} (omega (arith, length-take-le len x whole)))
+
+-- A pair of indices behind one another.
+pub pair-put : (b : Bounds) (d : ℕ) (l : List ℕ) (i : ℕ)
+    → sets (sets l i (wordBytes (wordPattern (getD (b .lowest) d (pos 0))))) (i + 4) (wordBytes (wordPattern (getD (b .highest) d (pos 0)))) ≡ sets l i (indexPair b d)
+unfolding indexPair wordBytes
+pair-put b d l i = sets-join (wordBytes (wordPattern (getD (b .lowest) d (pos 0)))) (wordBytes (wordPattern (getD (b .highest) d (pos 0)))) l i
 
 -- The filter numbers on an order's row.
 abbrev pub numbers : List ℕ → List ℕ
@@ -83,8 +91,9 @@ unfolding gridRow wordBytes
 fit-grid g h = (omega arith, omega arith)
 
 pub fit : (c : Chain) (p : Part) → c .grid .dims ≤ 4 → c .window .count ≤ 32 → Fit (lenOf c p) (rowOf c p)
-unfolding lenOf rowOf offsetRow orderRow capacityLine halfBytes wordBytes
+unfolding lenOf rowOf offsetRow boxRow indexPair orderRow capacityLine halfBytes wordBytes
 fit c (part.Offset k) h m = (omega arith, omega arith)
+fit c part.Box h m = (omega arith, omega arith)
 fit c (part.Capacity k) h m = (omega arith, omega arith)
 fit c part.Order h m =
     let l = length-numbers (c .order .filters) in
@@ -95,14 +104,17 @@ take-padded : (n : ℕ) (xs : List ℕ) → Fit n xs → take n (padded xs) ≡ 
 unfolding padded
 take-padded n xs f = take-take n kept _ (omega arith) ∙ take-append-le n xs _ (f .0)
 
-pub inside : (ordered : Bool) (n m : ℕ) → Inside n (partAt ordered n m)
-unfolding Inside partAt
-inside ordered n m =
+pub inside : (boxed ordered : Bool) (n m : ℕ) → Inside n (partAt boxed ordered n m)
+unfolding Inside partAt partBehind
+inside boxed ordered n m =
+    let a : ℕ = toCapacities boxed n in
     by-lt m n
     (λ l. rw (lt-ltb _ _ l) l)
-    (λ l. by-lt (m - n + 1) n
-    (λ q. rw (le-ltb _ _ l, lt-ltb _ _ q) q)
-    (λ q. rw (le-ltb _ _ l, le-ltb _ _ q) (last (ltb (m - n) n && ordered))))
+    (λ l. by-lt m a
+    (λ b. rw (le-ltb _ _ l, lt-ltb _ _ b) tt)
+    (λ b. by-lt (m - a + 1) n
+    (λ q. rw (le-ltb _ _ l, le-ltb _ _ b, lt-ltb _ _ q) q)
+    (λ q. rw (le-ltb _ _ l, le-ltb _ _ b, le-ltb _ _ q) (last (ltb (m - a) n && ordered)))))
   where
     last : (b : Bool) → Inside n (cond b part.Order part.Kernel)
     last true = tt
@@ -127,14 +139,14 @@ pub grid-framed : (g : Grid) → g .dims ≤ 4 → length (framed (gridLine g)) 
 grid-framed g few = framed-length (gridLine g) ∙ ap (λ n. 2 * n + 1) (grid-length g few)
 
 module _ (c : Chain) (few : c .grid .dims ≤ 4) (some : 0 < c .window .count) (most : c .window .count ≤ 32)
-    (lines : ℕ) (told : lines ≡ linesBehind (c .order .stood) (c .window .count)) where
+    (lines : ℕ) (told : lines ≡ linesBehind (c .bounds .stood) (c .order .stood) (c .window .count)) where
   abbrev behind-grid : List ℕ
   behind-grid = linesFrom c 1 lines
 
   pub grid-first : sheetOf c ≡ framed (gridLine (c .grid)) ++ behind-grid
   unfolding linesFrom lineAt
   grid-first =
-      let e : linesBehind (c .order .stood) (c .window .count) + 1 ≡ suc lines = omega (arith, told) in
+      let e : linesBehind (c .bounds .stood) (c .order .stood) (c .window .count) + 1 ≡ suc lines = omega (arith, told) in
       sheet-rows c few some most ∙ ap (linesFrom c 0) e
 
   pub all-length : length (sheetOf c) ≡ 2 * (2 + 4 * c .grid .dims) + 1 + length behind-grid
@@ -148,15 +160,19 @@ module _ (c : Chain) (few : c .grid .dims ≤ 4) (some : 0 < c .window .count) (
       ∙ sets-join (framed (gridLine (c .grid))) behind-grid out 0
       ∙ ap (sets out 0) (sym grid-first)
 
-pub few-lines : (ordered : Bool) (n : ℕ) → linesBehind ordered n ≤ 2 * n + 1
+pub few-ahead : (boxed : Bool) (n : ℕ) → toCapacities boxed n ≤ n + 1
+few-ahead true n = omega arith
+few-ahead false n = omega arith
+
+pub few-lines : (boxed ordered : Bool) (n : ℕ) → linesBehind boxed ordered n ≤ 2 * n + 2
 unfolding linesBehind
-few-lines true n = omega arith
-few-lines false n = omega arith
+few-lines boxed true n = omega (arith, few-ahead boxed n)
+few-lines boxed false n = omega (arith, few-ahead boxed n)
 
 -- The lines that remain behind the first m of them.
 module _ (c : Chain) (m lines : ℕ) where
   abbrev at-m : Part
-  at-m = partAt (c .order .stood) (c .window .count) m
+  at-m = partAt (c .bounds .stood) (c .order .stood) (c .window .count) m
 
   pub no-more : lines ≤ m → linesFrom c (1 + m) (lines - m) ≡ []
   unfolding linesFrom

@@ -42,6 +42,7 @@ pub record Counted (c : Chain) : Type 0 where
 -- A sheet with n offsets has such a line.
 unfoldable pub Inside : (n : ℕ) → Part → Type 0
 Inside n (part.Offset k) = k < n
+Inside n part.Box = Unit {0}
 Inside n (part.Capacity k) = k + 1 < n
 Inside n part.Order = Unit {0}
 Inside n part.Kernel = Unit {0}

@@ -1,4 +1,5 @@
 // Writing a chain sheet, line by line: a line's bytes are made by value, then laid into the lent output.
+use model::Bounds;
 use model::Chain;
 use model::Grid;
 use model::KEPT;
@@ -18,8 +19,8 @@ ghost use lib.Seq.{sets};
 ghost use lib.IntN.{pos};
 ghost use Rattle.model.specs.Frames.{kept, framed, padded};
 ghost use Rattle.model.specs.Numbers.{halfBytes, wordBytes, pattern};
-ghost use Rattle.model.specs.Writing.{gridLine, capacityLine, kernelLine, sheetOf};
-ghost use Rattle.sheet_laws.specs.Rows.{gridRow, offsetRow, orderRow, rowOf, lenOf, partAt, linesBehind};
+ghost use Rattle.model.specs.Writing.{gridLine, indexPair, capacityLine, kernelLine, sheetOf};
+ghost use Rattle.sheet_laws.specs.Rows.{gridRow, offsetRow, boxRow, orderRow, rowOf, lenOf, toCapacities, partAt, linesBehind};
 ghost use Rattle.sheet_writer.specs.Laying.{written, layOf, Counted, Inside};
 
 // Two and four bytes, most significant first, from byte `at` of a line on.
@@ -46,7 +47,8 @@ fn put_word(x: [u8; KEPT], at: usize, w: u32) -> [u8; KEPT]
     y
 }
 
-// The rows: all four sizes or entries, of which a line has as many as there are dimensions, and all 32 filter numbers, of which it has as many as there are references.
+// The rows: all four sizes, entries or pairs of indices, of which a line has as many as there are dimensions, and all 32 filter numbers, of which it has as many as there
+// are references.
 
 fn grid_row(g: Grid) -> [u8; KEPT]
     ensures { λ r. ⌜ r ≡ padded (gridRow g) ⌝ }
@@ -81,6 +83,30 @@ fn offset_row(w: Window, k: usize) -> [u8; KEPT]
     let b = put_half(a, 3, pattern_at(w, i + 1));
     let c = put_half(b, 5, pattern_at(w, i + 2));
     put_half(c, 7, pattern_at(w, i + 3))
+}
+
+// The lowest and the highest index in dimension d, from byte `at` of a line on.
+fn put_pair(x: [u8; KEPT], at: usize, b: Bounds, d: usize) -> [u8; KEPT]
+    requires { ⌜ (at + 7 < kept) × (d < 4) ⌝ }
+    ensures { λ r. ⌜ r ≡ sets x at (indexPair b d) ⌝ }
+{
+    let lowest = b.lowest;
+    let highest = b.highest;
+    let l = lowest[d];
+    let h = highest[d];
+    let y = put_word(x, at, sheet_fields::word_pattern_of(l));
+    put_word(y, at + 4, sheet_fields::word_pattern_of(h))
+}
+
+fn box_row(b: Bounds) -> [u8; KEPT]
+    ensures { λ r. ⌜ r ≡ padded (boxRow b) ⌝ }
+{
+    let mut x = [0u8; KEPT];
+    x[0] = 8;
+    let p = put_pair(x, 1, b, 0);
+    let q = put_pair(p, 9, b, 1);
+    let r = put_pair(q, 17, b, 2);
+    put_pair(r, 25, b, 3)
 }
 
 fn capacity_row(places: u32) -> [u8; KEPT]
@@ -145,15 +171,30 @@ fn grid_len(g: Grid) -> usize
     2 + 4 * (g.dims as usize)
 }
 
-// Where line `m` behind the grid's stands, of a sheet with n offsets: the sections have n, n - 1, 1 (0 where no order stands) and 1 lines;
-fn part_at(ordered: bool, n: usize, m: usize) -> Part
-    requires { ⌜ m ≤ 2 * n ⌝ }
-    ensures { λ r. ⌜ r ≡ partAt ordered n m ⌝ }
+// The lines between the grid's and the capacities', of a sheet with n offsets: theirs, and the box's where one stands.
+fn to_capacities(boxed: bool, n: usize) -> usize
+    requires { ⌜ n ≤ 32 ⌝ }
+    ensures { λ r. ⌜ r ≡ toCapacities boxed n ⌝ }
+{
+    if boxed {
+        return n + 1;
+    }
+    n
+}
+
+// Where line `m` behind the grid's stands: the sections have n, 1 (0 where no box stands), n - 1, 1 (0 where no order stands) and 1 lines;
+fn part_at(boxed: bool, ordered: bool, n: usize, m: usize) -> Part
+    requires { ⌜ (n ≤ 32) × (m ≤ 2 * n + 1) ⌝ }
+    ensures { λ r. ⌜ r ≡ partAt boxed ordered n m ⌝ }
 {
     if m < n {
         return Part::Offset(m);
     }
-    let behind = m - n;
+    let ahead = to_capacities(boxed, n);
+    if m < ahead {
+        return Part::Box;
+    }
+    let behind = m - ahead;
     if behind + 1 < n {
         return Part::Capacity(behind);
     }
@@ -167,14 +208,15 @@ fn part_at(ordered: bool, n: usize, m: usize) -> Part
 }
 
 // and how many lines there are in all.
-fn lines_behind(ordered: bool, n: usize) -> usize
+fn lines_behind(boxed: bool, ordered: bool, n: usize) -> usize
     requires { ⌜ n ≤ 32 ⌝ }
-    ensures { λ r. ⌜ r ≡ linesBehind ordered n ⌝ }
+    ensures { λ r. ⌜ r ≡ linesBehind boxed ordered n ⌝ }
 {
+    let ahead = to_capacities(boxed, n);
     if ordered {
-        return 2 * n + 1;
+        return ahead + n + 1;
     }
-    2 * n
+    ahead + n
 }
 
 // How many bytes a line has.
@@ -186,6 +228,7 @@ fn line_len(c: Chain, p: Part) -> usize
     let k = c.kernel;
     match p {
         Part::Offset(_) => 1 + 2 * (grid.dims as usize),
+        Part::Box => 1 + 8 * (grid.dims as usize),
         Part::Capacity(_) => 5,
         Part::Order => 1 + (window.count as usize),
         Part::Kernel => kernel_len(k),
@@ -198,11 +241,13 @@ fn row(c: Chain, p: Part) -> [u8; KEPT]
     ensures { λ r. ⌜ r ≡ padded (rowOf c p) ⌝ }
 {
     let window = c.window;
+    let bounds = c.bounds;
     let capacities = c.capacities;
     let order = c.order;
     let kernel = c.kernel;
     match p {
         Part::Offset(k) => offset_row(window, k),
+        Part::Box => box_row(bounds),
         Part::Capacity(k) => capacity_row(capacities[k]),
         Part::Order => order_row(order),
         Part::Kernel => kernel_row(kernel),
@@ -233,14 +278,16 @@ fn sheet_len(c: Chain) -> usize
 {
     let grid = c.grid;
     let window = c.window;
+    let bounds = c.bounds;
     let order = c.order;
+    let boxed = bounds.stood;
     let ordered = order.stood;
     let n = window.count as usize;
-    let lines = lines_behind(ordered, n);
+    let lines = lines_behind(boxed, ordered, n);
     let mut total = 2 * grid_len(grid) + 1;
     let mut m: usize = 0;
     while m < lines {
-        let len = line_len(c, part_at(ordered, n, m));
+        let len = line_len(c, part_at(boxed, ordered, n, m));
         total = total + 2 * len + 1;
         m += 1;
     }
@@ -263,14 +310,16 @@ fn put_sheet(out: &mut [u8], c: Chain) -> usize
 {
     let grid = c.grid;
     let window = c.window;
+    let bounds = c.bounds;
     let order = c.order;
+    let boxed = bounds.stood;
     let ordered = order.stood;
     let n = window.count as usize;
-    let lines = lines_behind(ordered, n);
+    let lines = lines_behind(boxed, ordered, n);
     let mut at = put_grid(out, grid);
     let mut m: usize = 0;
     while m < lines {
-        let p = part_at(ordered, n, m);
+        let p = part_at(boxed, ordered, n, m);
         let len = line_len(c, p);
         let x = row(c, p);
         at = put_frame(out, at, x, len);

@@ -1,4 +1,5 @@
 // Small functions on the values of document 01 and on numbers.
+use model::Bounds;
 use model::Chain;
 use model::Grid;
 use model::Kernel;
@@ -10,7 +11,7 @@ ghost use mathlib.Core.Path.{_≡_};
 ghost use Prim.Native.Nat.{_/_, _%_, _<_, min};
 ghost use Rattle.model.specs.Answers.{numberOf};
 ghost use Rattle.model.specs.Frames.{digitOf};
-ghost use Rattle.model.specs.Values.{blankChain, requestOf, setGrid, setWindow, setCapacities, setOrder, setKernel};
+ghost use Rattle.model.specs.Values.{blankChain, requestOf, setGrid, setWindow, setBounds, setCapacities, setOrder, setKernel};
 
 // What a refusal hands back in place of a chain.
 pub fn blank_chain() -> Chain
@@ -24,6 +25,11 @@ pub fn blank_chain() -> Chain
         window: Window {
             count: 0,
             offsets: [0i16; 128],
+        },
+        bounds: Bounds {
+            stood: false,
+            lowest: [0i32; 4],
+            highest: [0i32; 4],
         },
         capacities: [0u32; 31],
         order: Order {
@@ -40,10 +46,12 @@ pub fn request_of(c: Chain) -> Request
 {
     let grid = c.grid;
     let window = c.window;
+    let bounds = c.bounds;
     let kernel = c.kernel;
     Request {
         grid,
         window,
+        bounds,
         kernel,
     }
 }
@@ -54,12 +62,14 @@ pub fn set_grid(c: Chain, grid: Grid) -> Chain
     ensures { λ r. ⌜ r ≡ setGrid grid c ⌝ }
 {
     let window = c.window;
+    let bounds = c.bounds;
     let capacities = c.capacities;
     let order = c.order;
     let kernel = c.kernel;
     Chain {
         grid,
         window,
+        bounds,
         capacities,
         order,
         kernel,
@@ -70,12 +80,32 @@ pub fn set_window(c: Chain, window: Window) -> Chain
     ensures { λ r. ⌜ r ≡ setWindow window c ⌝ }
 {
     let grid = c.grid;
+    let bounds = c.bounds;
     let capacities = c.capacities;
     let order = c.order;
     let kernel = c.kernel;
     Chain {
         grid,
         window,
+        bounds,
+        capacities,
+        order,
+        kernel,
+    }
+}
+
+pub fn set_bounds(c: Chain, bounds: Bounds) -> Chain
+    ensures { λ r. ⌜ r ≡ setBounds bounds c ⌝ }
+{
+    let grid = c.grid;
+    let window = c.window;
+    let capacities = c.capacities;
+    let order = c.order;
+    let kernel = c.kernel;
+    Chain {
+        grid,
+        window,
+        bounds,
         capacities,
         order,
         kernel,
@@ -87,11 +117,13 @@ pub fn set_capacities(c: Chain, capacities: [u32; 31]) -> Chain
 {
     let grid = c.grid;
     let window = c.window;
+    let bounds = c.bounds;
     let order = c.order;
     let kernel = c.kernel;
     Chain {
         grid,
         window,
+        bounds,
         capacities,
         order,
         kernel,
@@ -103,11 +135,13 @@ pub fn set_order(c: Chain, order: Order) -> Chain
 {
     let grid = c.grid;
     let window = c.window;
+    let bounds = c.bounds;
     let capacities = c.capacities;
     let kernel = c.kernel;
     Chain {
         grid,
         window,
+        bounds,
         capacities,
         order,
         kernel,
@@ -119,11 +153,13 @@ pub fn set_kernel(c: Chain, kernel: Kernel) -> Chain
 {
     let grid = c.grid;
     let window = c.window;
+    let bounds = c.bounds;
     let capacities = c.capacities;
     let order = c.order;
     Chain {
         grid,
         window,
+        bounds,
         capacities,
         order,
         kernel,
@@ -149,6 +185,7 @@ pub fn number_of(n: Refusal) -> u8
         Refusal::ShortOutput => 12,
         Refusal::BadName => 13,
         Refusal::BadOrder => 14,
+        Refusal::BadBox => 15,
     }
 }
 

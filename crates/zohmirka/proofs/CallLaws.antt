@@ -58,10 +58,10 @@ module _ (sheet chain : List ℕ) (read : ReadChain) (e : read ≡ readChain she
   read-refused n x q f = rw (← e, q, f)
 
   module _ (q : read .verdict ≡ verdict.Accepted) where
-    pub read-short : (n : ℕ) → length chain < 201 → n ≡ verdictNumber (verdict.Refused refusal.ShortOutput) → record { refusal = n; chain = chain } ≡ readCall sheet chain
+    pub read-short : (n : ℕ) → length chain < 210 → n ≡ verdictNumber (verdict.Refused refusal.ShortOutput) → record { refusal = n; chain = chain } ≡ readCall sheet chain
     unfolding readCall readVerdict verdictNumber firstOf
     read-short n h f = rw (← e, q, lt-ltb _ _ h, f)
 
-    pub read-written : (chain′ : List ℕ) → 201 ≤ length chain → chain′ ≡ chainInto (read .chain) chain → record { refusal = 0; chain = chain′ } ≡ readCall sheet chain
+    pub read-written : (chain′ : List ℕ) → 210 ≤ length chain → chain′ ≡ chainInto (read .chain) chain → record { refusal = 0; chain = chain′ } ≡ readCall sheet chain
     unfolding readCall readVerdict verdictNumber firstOf chainInto
     read-written chain′ h f = rw (← e, q, f, le-ltb _ _ h)

@@ -19,9 +19,9 @@ use Rattle.zohmirka_reports.specs.Reports.{reportOf}
 use Rattle.zohmirka_runs.specs.Runs.{Runs, runValue}
 
 abbrev pub version : ℕ
-version = 2
+version = 3
 
--- Writing a chain sheet: 3 to 9 and 14 of the chain, then 12.
+-- Writing a chain sheet: 3 to 9, 14 and 15 of the chain, then 12.
 pub record Sheets : Type 0 where
   pub answer : Sheet
   pub sheet : List ℕ
@@ -31,7 +31,7 @@ written c sheet =
     let wrote = writeOf c sheet in
     record { answer = record { refusal = verdictNumber (wrote .answer .verdict); bytes = wrote .answer .bytes }; sheet = wrote .output }
 
--- Planning a request sheet into a chain sheet: 1 to 9 and 13 of the request first.
+-- Planning a request sheet into a chain sheet: 1 to 9, 13 and 15 of the request first.
 unfoldable pub planCall : (request sheet : List ℕ) → Sheets
 planCall request sheet =
     let read = readRequest request in
@@ -43,7 +43,7 @@ abbrev pub judgeCall : (sheet : List ℕ) → ℕ
 judgeCall sheet = verdictNumber (readChain sheet .verdict)
 
 module _ (state store cells out : List ℕ) (allowance : ℕ) where
-  -- A run call on the chain of a sheet: 1 to 9 and 14 of the sheet first.
+  -- A run call on the chain of a sheet: 1 to 9, 14 and 15 of the sheet first.
   unfoldable pub runSheet : (sheet : List ℕ) → Runs
   runSheet sheet =
       let read = readChain sheet in
@@ -54,7 +54,7 @@ module _ (state store cells out : List ℕ) (allowance : ℕ) where
   abbrev pub runChain : (chain : List ℕ) → Runs
   runChain chain = runValue state store cells out allowance (chainIn chain)
 
--- Reading a chain sheet into the words of its chain: 1 to 9 and 14 of the sheet, then 12.
+-- Reading a chain sheet into the words of its chain: 1 to 9, 14 and 15 of the sheet, then 12.
 pub record Reads : Type 0 where
   pub refusal : ℕ
   pub chain : List ℕ

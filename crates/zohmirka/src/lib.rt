@@ -17,10 +17,10 @@ ghost use Rattle.zohmirka.specs.Calls.{version, written, planCall, judge
 pub extern "C" fn zohmirka_version() -> u32
     ensures { λ r. ⌜ r ≡ version ⌝ }
 {
-    2
+    3
 }
 
-// The sheet of a chain: 3 to 9 and 14 of the chain, then 12.
+// The sheet of a chain: 3 to 9, 14 and 15 of the chain, then 12.
 fn write(c: Chain, sheet: &mut [u8]) -> Sheet
     ensures { λ r. ⌜ record { answer = r; sheet = now (sheet .exit) } ≡ written c (now (sheet .entry)) ⌝ }
 {
@@ -32,7 +32,7 @@ fn write(c: Chain, sheet: &mut [u8]) -> Sheet
     }
 }
 
-// Plans a request sheet into a chain sheet: 1 to 9 and 13 of the request, then 12.
+// Plans a request sheet into a chain sheet: 1 to 9, 13 and 15 of the request, then 12.
 #[no_mangle]
 pub extern "C" fn zohmirka_plan(request: &[u8], sheet: &mut [u8]) -> Sheet
     ensures { λ r. ⌜ record { answer = r; sheet = now (sheet .exit) } ≡ planCall (now (request .entry)) (now (sheet .entry)) ⌝ }
@@ -51,7 +51,7 @@ pub extern "C" fn zohmirka_plan(request: &[u8], sheet: &mut [u8]) -> Sheet
     }
 }
 
-// Judges a chain sheet: 1 to 9 or 14, or 0.
+// Judges a chain sheet: 1 to 9, 14 or 15, or 0.
 #[no_mangle]
 pub extern "C" fn zohmirka_judge(sheet: &[u8]) -> u32
     ensures { λ r. ⌜ r ≡ judgeCall (now (sheet .entry)) ⌝ }
@@ -61,7 +61,7 @@ pub extern "C" fn zohmirka_judge(sheet: &[u8]) -> u32
     number(verdict)
 }
 
-// A run call on the chain of a sheet: 1 to 9 and 14 of the sheet, then 10, then 11.
+// A run call on the chain of a sheet: 1 to 9, 14 and 15 of the sheet, then 10, then 11.
 #[no_mangle]
 pub extern "C" fn zohmirka_run(
     sheet: &[u8],
@@ -82,7 +82,7 @@ pub extern "C" fn zohmirka_run(
     }
 }
 
-// Reads a chain sheet into the words of its chain: 1 to 9 and 14 of the sheet, then 12.
+// Reads a chain sheet into the words of its chain: 1 to 9, 14 and 15 of the sheet, then 12.
 #[no_mangle]
 pub extern "C" fn zohmirka_read_chain(sheet: &[u8], chain: &mut [u32]) -> u32
     ensures { λ r. ⌜ record { refusal = r; chain = now (chain .exit) } ≡ readCall (now (sheet .entry)) (now (chain .entry)) ⌝ }
@@ -92,7 +92,7 @@ pub extern "C" fn zohmirka_read_chain(sheet: &[u8], chain: &mut [u32]) -> u32
     match verdict {
         Verdict::Refused(x) => number(Verdict::Refused(x)),
         Verdict::Accepted => {
-            if chain.len() < 201 {
+            if chain.len() < 210 {
                 return number(Verdict::Refused(Refusal::ShortOutput));
             }
             chain_out(read.chain, chain);
@@ -101,7 +101,7 @@ pub extern "C" fn zohmirka_read_chain(sheet: &[u8], chain: &mut [u32]) -> u32
     }
 }
 
-// A run call on a chain given by its words: 3 to 9 and 14 of the chain, then 10, then 11.
+// A run call on a chain given by its words: 3 to 9, 14 and 15 of the chain, then 10, then 11.
 #[no_mangle]
 pub extern "C" fn zohmirka_run_chain(
     chain: &[u32],
@@ -117,7 +117,7 @@ pub extern "C" fn zohmirka_run_chain(
     run_value(chain_in(chain), state, store, cells, out, allowance)
 }
 
-// Judges a chain given by its words: 3 to 9 or 14, or 0.
+// Judges a chain given by its words: 3 to 9, 14 or 15, or 0.
 #[no_mangle]
 pub extern "C" fn zohmirka_judge_chain(chain: &[u32]) -> u32
     ensures { λ r. ⌜ r ≡ judgeChainCall (now (chain .entry)) ⌝ }
@@ -126,7 +126,7 @@ pub extern "C" fn zohmirka_judge_chain(chain: &[u32]) -> u32
     number(judged)
 }
 
-// Writes the sheet of a chain given by its words: 3 to 9 and 14 of the chain, then 12.
+// Writes the sheet of a chain given by its words: 3 to 9, 14 and 15 of the chain, then 12.
 #[no_mangle]
 pub extern "C" fn zohmirka_write_chain(chain: &[u32], sheet: &mut [u8]) -> Sheet
     ensures { λ r. ⌜ record { answer = r; sheet = now (sheet .exit) } ≡ writeCall (now (chain .entry)) (now (sheet .entry)) ⌝ }

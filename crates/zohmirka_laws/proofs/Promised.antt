@@ -50,6 +50,7 @@ numbered refusal.BadState e = omega arith
 numbered refusal.ShortOutput e = omega arith
 numbered refusal.BadName e = omega arith
 numbered refusal.BadOrder e = omega arith
+numbered refusal.BadBox e = omega arith
 
 pub unnumbered : (v : Verdict) → verdictNumber v ≡ 0 → v ≡ verdict.Accepted
 unfolding verdictNumber
@@ -167,7 +168,9 @@ same-runs sheet chain state store cells out allowance h = rw (words-read sheet c
 -- A chain that is accepted has fewer iterations than the firings that too few words are taken for.
 few-iterations : (c : Chain) → judgeChain c ≡ verdict.Accepted → layout (trimmed c) .iterations < 4294967295
 unfolding layout
-few-iterations c e = omega (arith, accepts.accepted-chain c e .cells, at-most-cells (trimmed c))
+few-iterations c e =
+    let a = accepts.accepted-chain c e in
+    omega (arith, a .cells, at-most-cells (trimmed c) (accepts.fitting-of (trimmed c) (accepts.trimmed-proper c) a))
 
 module _ (state store cells out : List ℕ) (allowance : ℕ) (short : length state < 33) where
   module _ (c : Chain) (e : judgeChain c ≡ verdict.Accepted) (long : shortStore (trimmed c) store ≡ false) where

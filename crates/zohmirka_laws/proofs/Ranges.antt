@@ -12,13 +12,14 @@ use lib.IntN.{ℤ, pos}
 use lib.ListN.{length, getD, List·getD-eq-default}
 use lib.Signed.{mag}
 use borrow.Author.Tests.{le-ltb, eqb-false, ltb-false}
-use Rattle.model.specs.Lists.{sum, product, any}
-use Rattle.model.specs.Numbers.{signed}
+use Rattle.model.specs.Lists.{tabulate, sum, product, any}
+use Rattle.model.specs.Numbers.{signed, signedWord}
 use Rattle.model.specs.Geometry.{cellCount}
-use Rattle.model.specs.Values.{Trimmed, offsetOf, offsetsOf, chainOf, blankChain, requestOf}
+use Rattle.model.specs.Values.{Trimmed, offsetOf, offsetsOf, partOf, indexArray, boundsOf, chainOf, blankChain, requestOf}
 use Rattle.model.specs.Judging.{mostCells, badDims, badSizes, badGrid, judged}
 use Rattle.model.specs.Steps.{falling, sorted}
 use Rattle.model.specs.Planning.{trimmedRequest, judgeRequest, plannedChain, planOf}
+use Rattle.model.specs.declared.Bounds.{Bounds}
 use Rattle.model.specs.declared.Chain.{Chain}
 use Rattle.model.specs.declared.Verdict.the-variants as verdict
 use Rattle.model.proofs.CheckLaws.{value-passes}
@@ -28,9 +29,9 @@ use Rattle.run_laws.proofs.Accepts as accepts
 use Rattle.sheet_laws.proofs.Cases.{by-bool, by-lt, or-false}
 use Rattle.sheet_trips.specs.RoundTrips.{FactorsFit, InRange}
 use Rattle.sheet_trips.proofs.Bytes.{blank-at}
-use Rattle.zohmirka_words.specs.Words.{wordAt, kernelIn, chainIn}
+use Rattle.zohmirka_words.specs.Words.{wordAt, kernelIn, indicesIn, boundsIn, chainIn}
 use Rattle.zohmirka_words.proofs.WordLaws.{few-chain}
-use Rattle.zohmirka_laws.proofs.ReadChains.{each-tabulate, Held, signed-small}
+use Rattle.zohmirka_laws.proofs.ReadChains.{each-tabulate, Index, Indices, HeldBounds, Held, signed-small, signed-word-small}
 
 abbrev Word : ℕ → Type 0
 Word w = w < 4294967296
@@ -45,6 +46,8 @@ unfolding FactorsFit
 blank-range = record {
   sizes = λ d. rw (blank-at {A = ℕ} 4 d 0) (omega arith);
   entries = λ i. rw (blank-at {A = ℤ} 128 i (pos 0)) (omega arith);
+  lowest = λ d. rw (blank-at {A = ℤ} 4 d (pos 0)) (omega arith);
+  highest = λ d. rw (blank-at {A = ℤ} 4 d (pos 0)) (omega arith);
   capacities = λ k. rw (blank-at {A = ℕ} 31 k 0) (omega arith);
   factors = tt;
 }
@@ -67,15 +70,21 @@ four a b c d p q r s (suc (suc zero)) = r
 four a b c d p q r s (suc (suc (suc zero))) = s
 four a b c d p q r s (suc (suc (suc (suc i)))) = omega arith
 
+indices-small : (ws : List ℕ) (from : ℕ) → Indices (indicesIn ws from)
+unfolding indicesIn
+indices-small ws from = each-tabulate Index 4 (λ d. signedWord (wordAt ws (from + d))) (pos 0) (λ d. signed-word-small _) (omega arith)
+
 pub words-range : (ws : List ℕ) → ((i : ℕ) → Word (wordAt ws i)) → InRange (chainIn ws)
-unfolding chainIn
+unfolding chainIn boundsIn
 words-range ws small =
-    by-lt (length ws) 201
+    by-lt (length ws) 210
     (λ h. subst InRange (few-chain ws h) blank-range)
     (λ h. rw (le-ltb _ _ h)
     (record {
       sizes = four _ _ _ _ (small 1) (small 2) (small 3) (small 4);
       entries = each-tabulate Entry 128 (λ i. signed (wordAt ws (6 + i) % 65536)) (pos 0) (λ i. signed-small _) (omega arith);
+      lowest = indices-small ws 202;
+      highest = indices-small ws 206;
       capacities = each-tabulate Word 31 (λ k. wordAt ws (134 + k)) 0 (λ k. small (134 + k)) (omega arith);
       factors = kernel-fits _ _ _;
     }))
@@ -120,6 +129,19 @@ sorted-small os h i =
     (λ l. let (k, b, e) = falling-no-other os i l in rw (← e) (h k))
     (λ l. rw (List·getD-eq-default (falling os) [] l) (λ j. omega arith))
 
+-- Bounds that planning copies hold what was copied.
+copied-small : (dims : ℕ) (l : List ℤ) → Indices l → Indices (indexArray (tabulate dims (λ d. getD l d (pos 0))))
+copied-small dims l h =
+    each-tabulate Index 4 (λ d. getD (tabulate dims (λ k. getD l k (pos 0))) d (pos 0)) (pos 0) (each-tabulate Index dims (λ d. getD l d (pos 0)) (pos 0) h (omega arith)) (omega arith)
+
+module _ (dims : ℕ) (b : Bounds) (held : HeldBounds b) where
+  copied-bounds : Indices (boundsOf (partOf dims b) .lowest) × Indices (boundsOf (partOf dims b) .highest)
+  unfolding partOf boundsOf
+  copied-bounds =
+      by-bool (b .stood)
+      (λ e. rw e (copied-small dims (b .lowest) (held .0 .1), copied-small dims (b .highest) (held .1 .1)))
+      (λ e. rw e (λ d. rw (blank-at {A = ℤ} 4 d (pos 0)) (omega arith), λ d. rw (blank-at {A = ℤ} 4 d (pos 0)) (omega arith)))
+
 module _ (c : Chain) (held : Held c) where
   request-small : (i : ℕ) → Small (getD (trimmedRequest (requestOf c) .offsets) i [])
   unfolding trimmedRequest offsetsOf offsetOf
@@ -127,6 +149,10 @@ module _ (c : Chain) (held : Held c) where
       each-tabulate Small (c .window .count) (offsetOf (c .grid .dims) (c .window)) []
       (λ k. each-tabulate Entry (c .grid .dims) (λ d. getD (c .window .offsets) (4 * k + d) (pos 0)) (pos 0) (λ d. held .window .1 (4 * k + d)) (omega arith))
       (λ j. omega arith)
+
+  request-bounds : Indices (boundsOf (trimmedRequest (requestOf c) .part) .lowest) × Indices (boundsOf (trimmedRequest (requestOf c) .part) .highest)
+  unfolding trimmedRequest
+  request-bounds = copied-bounds (c .grid .dims) (c .bounds) (held .bounds)
 
   request-fits : FactorsFit (trimmedRequest (requestOf c) .kernel)
   unfolding trimmedRequest
@@ -138,6 +164,8 @@ planned-range c held ok = rw ok
     (record {
       sizes = each-tabulate Word 4 (λ d. getD (t .sizes) d 0) 0 (size-small t ok) (omega arith);
       entries = each-tabulate Entry 128 (λ i. getD (getD (falling (t .offsets)) (i / 4) []) (i % 4) (pos 0)) (pos 0) (λ i. sorted-small (t .offsets) (request-small c held) (i / 4) (i % 4)) (omega arith);
+      lowest = request-bounds c held .0;
+      highest = request-bounds c held .1;
       capacities = each-tabulate Word 31 (λ k. getD (t .capacities) k 0) 0 (capacity-small t ok) (omega arith);
       factors = request-fits c held;
     })

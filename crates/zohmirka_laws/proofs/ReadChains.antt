@@ -1,4 +1,4 @@
--- What a chain read from a sheet holds: arrays of their lengths, entries of 16 bits, filter numbers of 8, factors that binary32 holds.
+-- What a chain read from a sheet holds: arrays of their lengths, entries of 16 bits, indices of 32, filter numbers of 8, factors that binary32 holds.
 use Prim.Native.Nat.{ℕ, zero, suc, _+_, _<_}
 use mathlib.Core.Bool.{Bool, true, false, cond}
 use mathlib.Core.List.{List, [], _∷_, map}
@@ -17,8 +17,9 @@ use Rattle.model.specs.Frames.{whole, Seen, seenOf}
 use Rattle.model.specs.Lines.{Line, linesOf}
 use Rattle.model.specs.Lists.{tabulate, all}
 use Rattle.model.specs.NamedWindows.{windows, namedOf, entriesOf, withReferences, windowNamed}
-use Rattle.model.specs.Numbers.{byteAt, signed, wordAt}
-use Rattle.model.specs.Reading.{withGrid, withOffset, withName, withCapacity, withOrder, withKernel, kernelIn, entriesIn, sizesIn, filtersIn, taken, stepOf, start, readLines, lineVerdict}
+use Rattle.model.specs.Numbers.{byteAt, signed, signedWord, wordAt}
+use Rattle.model.specs.Reading.{withGrid, withOffset, withName, withBox, withCapacity, withOrder, withKernel, kernelIn, entriesIn, lowestIn, highestIn, sizesIn, filtersIn, taken, stepOf, start, readLines, lineVerdict}
+use Rattle.model.specs.declared.Bounds.{Bounds}
 use Rattle.model.specs.declared.Chain.{Chain}
 use Rattle.model.specs.declared.LineStep.{LineStep}
 use Rattle.model.specs.declared.Order.{Order}
@@ -51,12 +52,25 @@ Byte b = b < 256
 abbrev HeldWindow : Window → Type 0
 HeldWindow w = (length (w .offsets) ≡ 128) × Each (w .offsets)
 
+abbrev pub Index : ℤ → Type 0
+Index z = mag z < 2147483648
+
+abbrev pub Indices : List ℤ → Type 0
+Indices l = (d : ℕ) → Index (getD l d (pos 0))
+
+abbrev pub HeldIndices : List ℤ → Type 0
+HeldIndices l = (length l ≡ 4) × Indices l
+
+abbrev pub HeldBounds : Bounds → Type 0
+HeldBounds b = HeldIndices (b .lowest) × HeldIndices (b .highest)
+
 abbrev HeldOrder : Order → Type 0
 HeldOrder o = (length (o .filters) ≡ 32) × ((t : ℕ) → Byte (getD (o .filters) t 0))
 
 pub record Held (c : Chain) : Type 0 where
   pub sizes : length (c .grid .sizes) ≡ 4
   pub window : HeldWindow (c .window)
+  pub bounds : HeldBounds (c .bounds)
   pub capacities : length (c .capacities) ≡ 31
   pub order : HeldOrder (c .order)
   pub factors : FactorsFit (c .kernel)
@@ -80,6 +94,10 @@ pub signed-small : (w : ℕ) → mag (signed w) < 32768
 unfolding signed
 signed-small w = by-bool (ltb w 32768) (λ e. rw e (ltb-true w 32768 e)) (λ e. let h = ltb-false w 32768 e in rw e (omega arith))
 
+pub signed-word-small : (w : ℕ) → Index (signedWord w)
+unfolding signedWord
+signed-word-small w = by-bool (ltb w 2147483648) (λ e. rw e (ltb-true w 2147483648 e)) (λ e. let h = ltb-false w 2147483648 e in rw e (omega arith))
+
 each-entry : (x : List ℕ) → Each (entriesIn x)
 unfolding entriesIn
 each-entry x zero = signed-small _
@@ -87,6 +105,16 @@ each-entry x (suc zero) = signed-small _
 each-entry x (suc (suc zero)) = signed-small _
 each-entry x (suc (suc (suc zero))) = signed-small _
 each-entry x (suc (suc (suc (suc i)))) = omega arith
+
+each-index : (a b c d : ℕ) → HeldIndices (signedWord a ∷ signedWord b ∷ signedWord c ∷ signedWord d ∷ [])
+each-index a b c d = (refl, each)
+  where
+    each : Indices (signedWord a ∷ signedWord b ∷ signedWord c ∷ signedWord d ∷ [])
+    each zero = signed-word-small a
+    each (suc zero) = signed-word-small b
+    each (suc (suc zero)) = signed-word-small c
+    each (suc (suc (suc zero))) = signed-word-small d
+    each (suc (suc (suc (suc i)))) = omega arith
 
 -- The window of a name.
 each-reference : (es : List (List ℤ)) (w : Window) → all smallEntries es ≡ true → HeldWindow w → HeldWindow (withReferences w es)
@@ -118,16 +146,17 @@ kernel-fits x =
 
 module _ (r : Reading) (x : List ℕ) (small : (i : ℕ) → Byte (byteAt x i)) (h : Held (r .chain)) where
   held-taken : Held (taken r x .chain)
-  unfolding taken withGrid withOffset withName withCapacity withOrder withKernel sizesIn filtersIn
+  unfolding taken withGrid withOffset withName withBox withCapacity withOrder withKernel sizesIn lowestIn highestIn filtersIn
   held-taken =
       by-bool (eqb (getD x 0 0) 1)
-      (λ e. rw e (record { sizes = refl; window = h .window; capacities = h .capacities; order = h .order; factors = h .factors }))
+      (λ e. rw e (record { sizes = refl; window = h .window; bounds = h .bounds; capacities = h .capacities; order = h .order; factors = h .factors }))
       (λ e.
       by-bool (eqb (getD x 0 0) 2)
       (λ d. rw (e, d)
       (record {
         sizes = h .sizes;
         window = (length-sets (entriesIn x) _ _ ∙ h .window .0, each-sets (entriesIn x) _ _ (each-entry x) (h .window .1));
+        bounds = h .bounds;
         capacities = h .capacities;
         order = h .order;
         factors = h .factors;
@@ -135,14 +164,26 @@ module _ (r : Reading) (x : List ℕ) (small : (i : ℕ) → Byte (byteAt x i)) 
       (λ d.
       by-bool (eqb (getD x 0 0) 3)
       (λ f. rw (e, d, f)
-      (record { sizes = h .sizes; window = h .window; capacities = length-set (r .chain .capacities) (r .given) (wordAt x 1) ∙ h .capacities; order = h .order; factors = h .factors }))
+      (record {
+        sizes = h .sizes;
+        window = h .window;
+        bounds = h .bounds;
+        capacities = length-set (r .chain .capacities) (r .given) (wordAt x 1) ∙ h .capacities;
+        order = h .order;
+        factors = h .factors;
+      }))
       (λ f.
       by-bool (eqb (getD x 0 0) 6)
-      (λ o. rw (e, d, f, o) (record { sizes = h .sizes; window = h .window; capacities = h .capacities; order = order-held; factors = h .factors }))
+      (λ o. rw (e, d, f, o) (record { sizes = h .sizes; window = h .window; bounds = h .bounds; capacities = h .capacities; order = order-held; factors = h .factors }))
       (λ o.
       by-bool (eqb (getD x 0 0) 7)
-      (λ g. rw (e, d, f, o, g) (record { sizes = h .sizes; window = named-held (getD x 1 0); capacities = h .capacities; order = h .order; factors = h .factors }))
-      (λ g. rw (e, d, f, o, g) (record { sizes = h .sizes; window = h .window; capacities = h .capacities; order = h .order; factors = kernel-fits x }))))))
+      (λ g. rw (e, d, f, o, g) (record { sizes = h .sizes; window = named-held (getD x 1 0); bounds = h .bounds; capacities = h .capacities; order = h .order; factors = h .factors }))
+      (λ g.
+      by-bool (eqb (getD x 0 0) 8)
+      (λ b. rw (e, d, f, o, g, b)
+      (record { sizes = h .sizes; window = h .window; bounds = (each-index _ _ _ _, each-index _ _ _ _); capacities = h .capacities; order = h .order; factors = h .factors }))
+      (λ b. rw (e, d, f, o, g, b)
+      (record { sizes = h .sizes; window = h .window; bounds = h .bounds; capacities = h .capacities; order = h .order; factors = kernel-fits x })))))))
     where
       n : ℕ
       n = r .chain .window .count
@@ -188,6 +229,7 @@ held-read chainSheet sheet = held-lines chainSheet start (linesOf sheet) held-st
     held-start = record {
       sizes = refl;
       window = (refl, λ i. rw (blank-at 128 i (pos 0)) (omega arith));
+      bounds = ((refl, λ d. rw (blank-at 4 d (pos 0)) (omega arith)), (refl, λ d. rw (blank-at 4 d (pos 0)) (omega arith)));
       capacities = refl;
       order = (refl, λ t. rw (blank-at {A = ℕ} 32 t 0) (omega arith));
       factors = tt;

@@ -80,7 +80,7 @@ judged-other : (c : Chain) → Other (verdictNumber (judgeChain c))
 unfolding judgeChain judged windowChecks kernelChecks chainChecks valueChecks numberOf
 judged-other c =
     first-other (valueChecks (trimmed c))
-    (λ e. omega arith, (λ e. omega arith, (λ e. omega arith, (λ e. omega arith, (λ e. omega arith, (λ e. omega arith, (λ e. omega arith, (λ e. omega arith, tt))))))))
+    (λ e. omega arith, (λ e. omega arith, (λ e. omega arith, (λ e. omega arith, (λ e. omega arith, (λ e. omega arith, (λ e. omega arith, (λ e. omega arith, (λ e. omega arith, tt)))))))))
 
 -- nor is a sheet.
 lines-other : (ls : List Line) (r : Reading) → Other (verdictNumber (readLines true r ls .verdict))

@@ -7,22 +7,22 @@ use native.Mathlib.Omega.{arith}
 use lib.Dec.{eqb}
 use lib.Ieee.{binary32}
 use lib.Ieee.Bits.{ofBits-toBits}
-use lib.IntN.{pos}
+use lib.IntN.{ℤ, pos}
 use lib.ListN.{length, getD}
 use borrow.Author.Tests.{lt-ltb, le-ltb}
 use Rattle.model.specs.Lists.{tabulate}
-use Rattle.model.specs.Numbers.{signed, pattern}
+use Rattle.model.specs.Numbers.{signed, pattern, signedWord, wordPattern}
 use Rattle.model.specs.declared.Chain.{Chain}
 use Rattle.model.specs.declared.Kernel.{Kernel}
 use Rattle.model.specs.declared.Kernel.the-variants as kernel
 use Rattle.model.proofs.ListLaws.{tabulate-back}
 use Rattle.sheet_laws.proofs.Cases.{by-lt}
 use Rattle.sheet_trips.specs.RoundTrips.{FactorsFit}
-use Rattle.sheet_trips.proofs.Values.{signed-pattern, pattern-small}
-use Rattle.zohmirka_words.specs.Words.{wordAt, laid, kernelWords, chainWord, chainWords, countIn, kernelIn, orderIn, chainIn}
-use Rattle.zohmirka_words.proofs.WordLaws.{at-stood, at-filter, order-of-words, chain-of-words}
+use Rattle.sheet_trips.proofs.Values.{signed-pattern, pattern-small, signed-word-pattern}
+use Rattle.zohmirka_words.specs.Words.{wordAt, laid, kernelWords, chainWord, chainWords, countIn, kernelIn, orderIn, indicesIn, boundsIn, chainIn}
+use Rattle.zohmirka_words.proofs.WordLaws.{at-stood, at-filter, at-box-stood, at-lowest, at-highest, order-of-words, bounds-of-words, chain-of-words}
 use Rattle.zohmirka_laws.proofs.Laid.{laid-long, laid-at}
-use Rattle.zohmirka_laws.proofs.ReadChains.{Held}
+use Rattle.zohmirka_laws.proofs.ReadChains.{HeldIndices, Held}
 
 kernel-back : (k : Kernel) → FactorsFit k → kernelIn (getD (kernelWords k) 0 0) (getD (kernelWords k) 1 0) (getD (kernelWords k) 2 0) ≡ k
 unfolding kernelIn kernelWords FactorsFit
@@ -34,6 +34,18 @@ kernel-back (kernel.Blend g) (a, b) = rw (ofBits-toBits binary32 (g .a) a, ofBit
 count-back : (n : ℕ) → n < 256 → n ≡ countIn n
 unfolding countIn
 count-back n h = by-lt n 255 (λ l. rw (lt-ltb _ _ l)) (λ l. rw (le-ltb _ _ l) (omega arith))
+
+-- Whether a line stood, and the indices of a box.
+stood-back : (w : ℕ) (b : Bool) → w ≡ cond b 1 0 → b ≡ not (eqb w 0)
+stood-back w true e = rw e
+stood-back w false e = rw e
+
+indices-back : (ws : List ℕ) (from : ℕ) (l : List ℤ) → HeldIndices l → ((d : ℕ) → d < 4 → wordAt ws (from + d) ≡ wordPattern (getD l d (pos 0))) → l ≡ indicesIn ws from
+unfolding indicesIn
+indices-back ws from l h at =
+    sym
+    (tabulate-back (pos 0) l 4 (λ d. signedWord (wordAt ws (from + d))) (h .0)
+    (λ d b. ap signedWord (at d b) ∙ signed-word-pattern (getD l d (pos 0)) (h .1 d)))
 
 module _ (c : Chain) where
   at-dims : chainWord c 0 ≡ c .grid .dims
@@ -83,19 +95,19 @@ module _ (c : Chain) where
     abbrev ws : List ℕ
     ws = laid (chainWords c) old
 
-    long : 201 ≤ length ws
+    long : 210 ≤ length ws
     unfolding chainWords
-    long = laid-long 201 (chainWord c) old
+    long = laid-long 210 (chainWord c) old
 
-    at : (i : ℕ) → i < 201 → wordAt ws i ≡ chainWord c i
+    at : (i : ℕ) → i < 210 → wordAt ws i ≡ chainWord c i
     unfolding chainWords
-    at i h = laid-at 201 (chainWord c) old i h
+    at i h = laid-at 210 (chainWord c) old i h
 
     pub chain-back : Held c → c .grid .dims ≤ 4 → c .window .count ≤ 32 → c ≡ chainIn ws
     unfolding tabulate
     chain-back h few some =
-        chain-of-words ws (c .grid .dims) (c .window .count) (c .grid .sizes) (c .capacities) (c .window .offsets) (c .order) (c .kernel) long dims sizes count offsets capacities orders
-        kernels
+        chain-of-words ws (c .grid .dims) (c .window .count) (c .grid .sizes) (c .capacities) (c .window .offsets) (c .bounds) (c .order) (c .kernel) long dims sizes count offsets
+        capacities bounds orders kernels
       where
         dims : c .grid .dims ≡ countIn (wordAt ws 0)
         dims = count-back (c .grid .dims) (omega arith) ∙ ap countIn (sym (at 0 (omega arith) ∙ at-dims))
@@ -120,13 +132,18 @@ module _ (c : Chain) where
         capacities : c .capacities ≡ tabulate 31 (λ k. wordAt ws (134 + k))
         capacities = sym (tabulate-back 0 (c .capacities) 31 (λ k. wordAt ws (134 + k)) (h .capacities) (λ k b. at (134 + k) (omega arith) ∙ at-capacity k b))
 
-        orders : c .order ≡ orderIn ws
-        orders = order-of-words ws (c .order .stood) (c .order .filters) (stood (c .order .stood) (at 168 (omega arith) ∙ at-stood c)) filters
+        bounds : c .bounds ≡ boundsIn ws
+        bounds = bounds-of-words ws (c .bounds .stood) (c .bounds .lowest) (c .bounds .highest) (stood-back _ (c .bounds .stood) (at 201 (omega arith) ∙ at-box-stood c)) lowest highest
           where
-            stood : (b : Bool) → wordAt ws 168 ≡ cond b 1 0 → b ≡ not (eqb (wordAt ws 168) 0)
-            stood true e = rw e
-            stood false e = rw e
+            lowest : c .bounds .lowest ≡ indicesIn ws 202
+            lowest = indices-back ws 202 (c .bounds .lowest) (h .bounds .0) (λ d b. at (202 + d) (omega arith) ∙ at-lowest c d b)
 
+            highest : c .bounds .highest ≡ indicesIn ws 206
+            highest = indices-back ws 206 (c .bounds .highest) (h .bounds .1) (λ d b. at (206 + d) (omega arith) ∙ at-highest c d)
+
+        orders : c .order ≡ orderIn ws
+        orders = order-of-words ws (c .order .stood) (c .order .filters) (stood-back _ (c .order .stood) (at 168 (omega arith) ∙ at-stood c)) filters
+          where
             filters : c .order .filters ≡ tabulate 32 (λ t. countIn (wordAt ws (169 + t)))
             filters =
                 sym

@@ -33,8 +33,8 @@ ReadWritten =
     (sheet chain out : List ℕ) → readCall sheet chain .refusal ≡ 0 → length sheet ≤ length out
     → writeCall (readCall sheet chain .chain) out ≡ record { answer = record { refusal = 0; bytes = length sheet }; sheet = laid sheet out }
 
--- Words, of 32 bits each, that were written as a sheet: it is accepted, and read into any slice that is long enough it is the same chain, with 0 past its counts and for the filters of
--- an order that did not stand.
+-- Words, of 32 bits each, that were written as a sheet: it is accepted, and read into any slice that is long enough it is the same chain, with 0 past its counts, for the filters of
+-- an order and for the indices of a box that did not stand.
 pub record Reread (chain sheet room : List ℕ) : Type 0 where
   pub judged : judgeCall (bytesOf (writeCall chain sheet)) ≡ 0
   pub read : readCall (bytesOf (writeCall chain sheet)) room .refusal ≡ 0

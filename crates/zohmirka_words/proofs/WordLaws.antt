@@ -7,20 +7,21 @@ use native.Mathlib.Nat.{le-of-suc-le-suc}
 use native.Mathlib.Numerals.{add-one}
 use native.Mathlib.Omega.{arith}
 use lib.Dec.{eqb}
-use lib.IntN.{ℤ}
+use lib.IntN.{ℤ, pos}
 use lib.ListN.{length, getD, drop, set, replicate}
 use mir.Val.{boolByte}
 use borrow.Author.Tests.{lt-ltb, le-ltb}
 use Rattle.model.specs.Lists.{tabulate}
-use Rattle.model.specs.Numbers.{signed}
+use Rattle.model.specs.Numbers.{signed, signedWord, wordPattern}
 use Rattle.model.specs.Values.{blankChain}
+use Rattle.model.specs.declared.Bounds.{Bounds}
 use Rattle.model.specs.declared.CellsPassed.{CellsPassed}
 use Rattle.model.specs.declared.Chain.{Chain}
 use Rattle.model.specs.declared.Kernel.{Kernel}
 use Rattle.model.specs.declared.Order.{Order}
 use Rattle.model.specs.declared.State.{State}
 use Rattle.model.proofs.ListLaws.{length-tabulate}
-use Rattle.zohmirka_words.specs.Words.{wordAt, laid, counter, stateWord, stateWords, stateIn, stateInto, chainWord, chainWords, chainInto, countIn, kernelIn, orderIn, chainIn}
+use Rattle.zohmirka_words.specs.Words.{wordAt, laid, counter, stateWord, stateWords, stateIn, stateInto, boxWord, chainWord, chainWords, chainInto, countIn, kernelIn, orderIn, indicesIn, boundsIn, chainIn}
 
 -- The first k entries f's, the others as they were.
 abbrev pub front : {A : Type 0} → (ℕ → A) → ℕ → List A → List A
@@ -63,7 +64,12 @@ module _ {A : Type 0} where
 front-laid : (f : ℕ → ℕ) (n : ℕ) (old : List ℕ) → front f n old ≡ laid (tabulate n f) old
 front-laid f n old = rw length-tabulate
 
--- The words of an order in its chain.
+-- Whether a line stood.
+pub stood-word : (b : Bool) → boolByte b ≡ cond b 1 0
+stood-word true = refl
+stood-word false = refl
+
+-- The words of an order and of a box in their chain.
 module _ (c : Chain) where
   pub at-stood : chainWord c 168 ≡ cond (c .order .stood) 1 0
   unfolding chainWord
@@ -79,8 +85,45 @@ module _ (c : Chain) where
       let g : 165 ≤ 169 + t = omega arith in
       let k : 168 ≤ 169 + t = omega arith in
       let l : 169 ≤ 169 + t = omega arith in
+      let m : 169 + t < 201 = omega arith in
       let e : 169 + t - 169 ≡ t = omega arith in
-      rw (le-ltb _ _ a, le-ltb _ _ b, le-ltb _ _ d, le-ltb _ _ f, le-ltb _ _ g, le-ltb _ _ k, le-ltb _ _ l, e)
+      rw (le-ltb _ _ a, le-ltb _ _ b, le-ltb _ _ d, le-ltb _ _ f, le-ltb _ _ g, le-ltb _ _ k, le-ltb _ _ l, lt-ltb _ _ m, e)
+
+  pub at-box : (i : ℕ) → chainWord c (201 + i) ≡ boxWord (c .bounds) i
+  unfolding chainWord
+  at-box i =
+      let a : 1 ≤ 201 + i = omega arith in
+      let b : 5 ≤ 201 + i = omega arith in
+      let d : 6 ≤ 201 + i = omega arith in
+      let f : 134 ≤ 201 + i = omega arith in
+      let g : 165 ≤ 201 + i = omega arith in
+      let k : 168 ≤ 201 + i = omega arith in
+      let l : 169 ≤ 201 + i = omega arith in
+      let m : 201 ≤ 201 + i = omega arith in
+      let e : 201 + i - 201 ≡ i = omega arith in
+      rw (le-ltb _ _ a, le-ltb _ _ b, le-ltb _ _ d, le-ltb _ _ f, le-ltb _ _ g, le-ltb _ _ k, le-ltb _ _ l, le-ltb _ _ m, e)
+
+  pub at-box-stood : chainWord c 201 ≡ cond (c .bounds .stood) 1 0
+  unfolding chainWord boxWord
+  at-box-stood = refl
+
+  pub at-lowest : (d : ℕ) → d < 4 → chainWord c (202 + d) ≡ wordPattern (getD (c .bounds .lowest) d (pos 0))
+  unfolding boxWord
+  at-lowest d h =
+      let a : 1 ≤ 1 + d = omega arith in
+      let b : 1 + d < 5 = omega arith in
+      let e : 1 + d - 1 ≡ d = omega arith in
+      let f : 202 + d ≡ 201 + (1 + d) = omega arith in
+      rw f (at-box (1 + d) ∙ rw (le-ltb _ _ a, lt-ltb _ _ b, e))
+
+  pub at-highest : (d : ℕ) → chainWord c (206 + d) ≡ wordPattern (getD (c .bounds .highest) d (pos 0))
+  unfolding boxWord
+  at-highest d =
+      let a : 1 ≤ 5 + d = omega arith in
+      let b : 5 ≤ 5 + d = omega arith in
+      let e : 5 + d - 5 ≡ d = omega arith in
+      let f : 206 + d ≡ 201 + (5 + d) = omega arith in
+      rw f (at-box (5 + d) ∙ rw (le-ltb _ _ a, le-ltb _ _ b, e))
 
 module _ (ws : List ℕ) where
   pub few-state : length ws < 33 → _≡_ {A = State} (record { passed = replicate 32 (counter 0); fired = record { 0 = 4294967295 } }) (stateIn ws)
@@ -108,36 +151,39 @@ module _ (ws : List ℕ) where
       let e : k ≡ 32 = omega arith in
       rw (le-ltb _ _ l) (front-more (stateWord s) 32 ws xs (s .fired .0) l refl (rw e at r) ∙ front-laid (stateWord s) 33 ws)
 
-  pub few-places : (c : Chain) → length ws < 201 → ws ≡ chainInto c ws
+  pub few-places : (c : Chain) → length ws < 210 → ws ≡ chainInto c ws
   unfolding chainInto
   few-places c h = rw (lt-ltb _ _ h)
 
-  -- Whether the order stood, one filter more, and all words.
-  pub stood-more : (c : Chain) (k : ℕ) (xs : List ℕ) → 168 ≤ k → k ≤ 168 → 201 ≤ length ws → xs ≡ front (chainWord c) k ws
+  -- Whether the order stood, one filter more, one word of the box more, and all words.
+  pub stood-more : (c : Chain) (k : ℕ) (xs : List ℕ) → 168 ≤ k → k ≤ 168 → 210 ≤ length ws → xs ≡ front (chainWord c) k ws
       → set xs 168 (boolByte (c .order .stood)) ≡ front (chainWord c) 169 ws
   stood-more c k xs h g l r =
       let e : k ≡ 168 = omega arith in
       let d : 168 < length ws = omega arith in
-      front-more (chainWord c) 168 ws xs (boolByte (c .order .stood)) d (byte (c .order .stood) ∙ sym (at-stood c)) (rw e at r)
-    where
-      byte : (b : Bool) → boolByte b ≡ cond b 1 0
-      byte true = refl
-      byte false = refl
+      front-more (chainWord c) 168 ws xs (boolByte (c .order .stood)) d (stood-word (c .order .stood) ∙ sym (at-stood c)) (rw e at r)
 
-  pub filter-more : (c : Chain) (t : ℕ) (xs : List ℕ) → t < 32 → 201 ≤ length ws → xs ≡ front (chainWord c) (169 + t) ws
+  pub filter-more : (c : Chain) (t : ℕ) (xs : List ℕ) → t < 32 → 210 ≤ length ws → xs ≡ front (chainWord c) (169 + t) ws
       → set xs (169 + t) (getD (c .order .filters) t 0) ≡ front (chainWord c) (169 + (t + 1)) ws
   filter-more c t xs h l r =
       let e : 169 + (t + 1) ≡ 169 + t + 1 = omega arith in
       let d : 169 + t < length ws = omega arith in
       rw e (front-more (chainWord c) (169 + t) ws xs (getD (c .order .filters) t 0) d (sym (at-filter c t h)) r)
 
-  pub words-of-chain : (c : Chain) (t : ℕ) (xs : List ℕ) → 32 ≤ t → t ≤ 32 → 201 ≤ length ws → xs ≡ front (chainWord c) (169 + t) ws → xs ≡ chainInto c ws
-  unfolding chainInto chainWords
-  words-of-chain c t xs h g l r =
-      let e : 169 + t ≡ 201 = omega arith in
-      rw (le-ltb _ _ l) (r ∙ rw e (front-laid (chainWord c) 201 ws))
+  pub box-more : (c : Chain) (d : ℕ) (xs : List ℕ) → d < 9 → 210 ≤ length ws → xs ≡ front (chainWord c) (201 + d) ws
+      → set xs (201 + d) (boxWord (c .bounds) d) ≡ front (chainWord c) (201 + (d + 1)) ws
+  box-more c d xs h l r =
+      let e : 201 + (d + 1) ≡ 201 + d + 1 = omega arith in
+      let f : 201 + d < length ws = omega arith in
+      rw e (front-more (chainWord c) (201 + d) ws xs (boxWord (c .bounds) d) f (sym (at-box c d)) r)
 
-  pub few-chain : length ws < 201 → blankChain ≡ chainIn ws
+  pub words-of-chain : (c : Chain) (d : ℕ) (xs : List ℕ) → 9 ≤ d → d ≤ 9 → 210 ≤ length ws → xs ≡ front (chainWord c) (201 + d) ws → xs ≡ chainInto c ws
+  unfolding chainInto chainWords
+  words-of-chain c d xs h g l r =
+      let e : 201 + d ≡ 210 = omega arith in
+      rw (le-ltb _ _ l) (r ∙ rw e (front-laid (chainWord c) 210 ws))
+
+  pub few-chain : length ws < 210 → blankChain ≡ chainIn ws
   unfolding chainIn
   few-chain h = rw (lt-ltb _ _ h)
 
@@ -146,10 +192,23 @@ module _ (ws : List ℕ) where
   unfolding orderIn
   order-of-words stood filters e d = rw (e, d)
 
-  pub chain-of-words : (dims count : ℕ) (sizes capacities : List ℕ) (offsets : List ℤ) (o : Order) (k : Kernel) → 201 ≤ length ws
+  pub indices-of-words : (from : ℕ) (a b c d : ℤ) → a ≡ signedWord (wordAt ws from) → b ≡ signedWord (wordAt ws (from + 1)) → c ≡ signedWord (wordAt ws (from + 2))
+      → d ≡ signedWord (wordAt ws (from + 3)) → a ∷ b ∷ c ∷ d ∷ [] ≡ indicesIn ws from
+  unfolding indicesIn tabulate
+  indices-of-words from a b c d e f g h =
+      let z : from + 0 ≡ from = omega arith in
+      rw (e, f, g, h, z)
+
+  pub bounds-of-words : (stood : Bool) (lowest highest : List ℤ) → stood ≡ not (eqb (wordAt ws 201) 0) → lowest ≡ indicesIn ws 202 → highest ≡ indicesIn ws 206
+      → _≡_ {A = Bounds} (record { stood = stood; lowest = lowest; highest = highest }) (boundsIn ws)
+  unfolding boundsIn
+  bounds-of-words stood lowest highest e f g = rw (e, f, g)
+
+  pub chain-of-words : (dims count : ℕ) (sizes capacities : List ℕ) (offsets : List ℤ) (b : Bounds) (o : Order) (k : Kernel) → 210 ≤ length ws
       → dims ≡ countIn (wordAt ws 0) → sizes ≡ wordAt ws 1 ∷ wordAt ws 2 ∷ wordAt ws 3 ∷ wordAt ws 4 ∷ [] → count ≡ countIn (wordAt ws 5)
       → offsets ≡ tabulate 128 (λ i. signed (wordAt ws (6 + i) % 65536)) → capacities ≡ tabulate 31 (λ i. wordAt ws (134 + i))
-      → o ≡ orderIn ws → k ≡ kernelIn (wordAt ws 165) (wordAt ws 166) (wordAt ws 167)
-      → record { grid = record { dims = dims; sizes = sizes }; window = record { count = count; offsets = offsets }; capacities = capacities; order = o; kernel = k } ≡ chainIn ws
+      → b ≡ boundsIn ws → o ≡ orderIn ws → k ≡ kernelIn (wordAt ws 165) (wordAt ws 166) (wordAt ws 167)
+      → record { grid = record { dims = dims; sizes = sizes }; window = record { count = count; offsets = offsets }; bounds = b; capacities = capacities; order = o; kernel = k }
+      ≡ chainIn ws
   unfolding chainIn
-  chain-of-words dims count sizes capacities offsets o k h e1 e2 e3 e4 e5 e6 e7 = rw (le-ltb _ _ h, e1, e2, e3, e4, e5, e6, e7)
+  chain-of-words dims count sizes capacities offsets b o k h e1 e2 e3 e4 e5 e6 e7 e8 = rw (le-ltb _ _ h, e1, e2, e3, e4, e5, e6, e7, e8)

@@ -3,12 +3,13 @@ use Prim.Native.Nat.{ℕ, _+_, _-_, _%_}
 use mathlib.Core.Bool.{cond, not}
 use mathlib.Core.List.{List, [], _∷_, _++_}
 use lib.Dec.{eqb, ltb}
-use lib.IntN.{pos}
+use lib.IntN.{ℤ, pos}
 use lib.ListN.{length, getD, drop, replicate}
 use Rattle.model.specs.Lists.{tabulate}
-use Rattle.model.specs.Numbers.{signed, pattern}
+use Rattle.model.specs.Numbers.{signed, pattern, signedWord, wordPattern}
 use Rattle.model.specs.Kernels.{float, word}
 use Rattle.model.specs.Values.{blankChain}
+use Rattle.model.specs.declared.Bounds.{Bounds}
 use Rattle.model.specs.declared.CellsPassed.{CellsPassed}
 use Rattle.model.specs.declared.Chain.{Chain}
 use Rattle.model.specs.declared.Kernel.{Kernel}
@@ -48,16 +49,23 @@ stateIn ws =
     (record { passed = replicate 32 (counter 0); fired = record { 0 = 4294967295 } })
     (record { passed = tabulate 32 (λ k. counter (wordAt ws k)); fired = record { 0 = wordAt ws 32 } })
 
--- Chains: dimension count, sizes, number of references, entries, capacities, kernel and factors, whether the author's order stood, its filters.
+-- Chains: dimension count, sizes, number of references, entries, capacities, kernel and factors, whether the author's order stood, its filters, whether the box stood, its lowest
+-- indices, its highest.
 
 abbrev pub chainSize : ℕ
-chainSize = 201
+chainSize = 210
 
 unfoldable pub kernelWords : Kernel → List ℕ
 kernelWords kernel.Raw = 0 ∷ 0 ∷ 0 ∷ []
 kernelWords kernel.Difference = 1 ∷ 0 ∷ 0 ∷ []
 kernelWords (kernel.Scaled f) = 2 ∷ word f ∷ 0 ∷ []
 kernelWords (kernel.Blend g) = 3 ∷ word (g .a) ∷ word (g .b) ∷ []
+
+unfoldable pub boxWord : Bounds → ℕ → ℕ
+boxWord b i =
+    cond (ltb i 1) (cond (b .stood) 1 0)
+    (cond (ltb i 5) (wordPattern (getD (b .lowest) (i - 1) (pos 0)))
+    (wordPattern (getD (b .highest) (i - 5) (pos 0))))
 
 unfoldable pub chainWord : Chain → ℕ → ℕ
 chainWord c i =
@@ -68,7 +76,8 @@ chainWord c i =
     (cond (ltb i 165) (getD (c .capacities) (i - 134) 0)
     (cond (ltb i 168) (getD (kernelWords (c .kernel)) (i - 165) 0)
     (cond (ltb i 169) (cond (c .order .stood) 1 0)
-    (getD (c .order .filters) (i - 169) 0)))))))
+    (cond (ltb i 201) (getD (c .order .filters) (i - 169) 0)
+    (boxWord (c .bounds) (i - 201)))))))))
 
 unfoldable pub chainWords : Chain → List ℕ
 chainWords c = tabulate chainSize (chainWord c)
@@ -90,6 +99,13 @@ kernelIn which a b =
 unfoldable pub orderIn : List ℕ → Order
 orderIn ws = record { stood = not (eqb (wordAt ws 168) 0); filters = tabulate 32 (λ t. countIn (wordAt ws (169 + t))) }
 
+-- So did the box; its indices are 32 bits in two's complement.
+unfoldable pub indicesIn : List ℕ → (from : ℕ) → List ℤ
+indicesIn ws from = tabulate 4 (λ d. signedWord (wordAt ws (from + d)))
+
+unfoldable pub boundsIn : List ℕ → Bounds
+boundsIn ws = record { stood = not (eqb (wordAt ws 201) 0); lowest = indicesIn ws 202; highest = indicesIn ws 206 }
+
 -- Too few words are taken for the blank chain, which 3 turns back.
 unfoldable pub chainIn : List ℕ → Chain
 chainIn ws =
@@ -97,6 +113,7 @@ chainIn ws =
     (record {
       grid = record { dims = countIn (wordAt ws 0); sizes = wordAt ws 1 ∷ wordAt ws 2 ∷ wordAt ws 3 ∷ wordAt ws 4 ∷ [] };
       window = record { count = countIn (wordAt ws 5); offsets = tabulate 128 (λ i. signed (wordAt ws (6 + i) % 65536)) };
+      bounds = boundsIn ws;
       capacities = tabulate 31 (λ k. wordAt ws (134 + k));
       order = orderIn ws;
       kernel = kernelIn (wordAt ws 165) (wordAt ws 166) (wordAt ws 167);

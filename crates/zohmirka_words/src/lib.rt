@@ -1,4 +1,5 @@
 // A state and a chain as words (specs/Words.antt).
+use model::Bounds;
 use model::CellsPassed;
 use model::Chain;
 use model::Factors;
@@ -13,7 +14,7 @@ ghost use Prim.Native.Nat.{_+_, _%_, _≤_, _<_};
 ghost use lib.ListN.{length};
 ghost use Rattle.model.specs.Lists.{tabulate};
 ghost use Rattle.model.specs.Numbers.{signed};
-ghost use Rattle.zohmirka_words.specs.Words.{wordAt, stateIn, stateInto, kernelWords, chainWord, chainInto, countIn, kernelIn, orderIn, chainIn};
+ghost use Rattle.zohmirka_words.specs.Words.{wordAt, stateIn, stateInto, kernelWords, boxWord, chainWord, chainInto, countIn, kernelIn, orderIn, indicesIn, boundsIn, chainIn};
 
 // The state of its words.
 pub fn state_in(words: &[u32]) -> State
@@ -92,7 +93,7 @@ fn kernel_in(which: u32, a: u32, b: u32) -> Kernel
 }
 
 fn offsets_in(words: &[u32]) -> [i16; 128]
-    requires { ⌜ 201 ≤ length (now words) ⌝ }
+    requires { ⌜ 210 ≤ length (now words) ⌝ }
     ensures { λ r. ⌜ r ≡ tabulate 128 (λ i. signed (wordAt (now (words .entry)) (6 + i) % 65536)) ⌝ }
 {
     let mut offsets = [0i16; 128];
@@ -106,7 +107,7 @@ fn offsets_in(words: &[u32]) -> [i16; 128]
 }
 
 fn capacities_in(words: &[u32]) -> [u32; 31]
-    requires { ⌜ 201 ≤ length (now words) ⌝ }
+    requires { ⌜ 210 ≤ length (now words) ⌝ }
     ensures { λ r. ⌜ r ≡ tabulate 31 (λ k. wordAt (now (words .entry)) (134 + k)) ⌝ }
 {
     let mut capacities = [0u32; 31];
@@ -119,7 +120,7 @@ fn capacities_in(words: &[u32]) -> [u32; 31]
 }
 
 fn order_in(words: &[u32]) -> Order
-    requires { ⌜ 201 ≤ length (now words) ⌝ }
+    requires { ⌜ 210 ≤ length (now words) ⌝ }
     ensures { λ r. ⌜ r ≡ orderIn (now (words .entry)) ⌝ }
 {
     let mut filters = [0u8; 32];
@@ -134,11 +135,35 @@ fn order_in(words: &[u32]) -> Order
     }
 }
 
+// The four indices of a box from a word on.
+fn indices_in(words: &[u32], from: usize) -> [i32; 4]
+    requires { ⌜ from + 4 ≤ length (now words) ⌝ }
+    ensures { λ r. ⌜ r ≡ indicesIn (now (words .entry)) from ⌝ }
+{
+    [
+        sheet_fields::index(words[from]),
+        sheet_fields::index(words[from + 1]),
+        sheet_fields::index(words[from + 2]),
+        sheet_fields::index(words[from + 3]),
+    ]
+}
+
+fn bounds_in(words: &[u32]) -> Bounds
+    requires { ⌜ 210 ≤ length (now words) ⌝ }
+    ensures { λ r. ⌜ r ≡ boundsIn (now (words .entry)) ⌝ }
+{
+    Bounds {
+        stood: words[201] != 0,
+        lowest: indices_in(words, 202),
+        highest: indices_in(words, 206),
+    }
+}
+
 // The chain of its words.
 pub fn chain_in(words: &[u32]) -> Chain
     ensures { λ r. ⌜ r ≡ chainIn (now (words .entry)) ⌝ }
 {
-    if words.len() < 201 {
+    if words.len() < 210 {
         return values::blank_chain();
     }
     let grid = Grid {
@@ -152,6 +177,7 @@ pub fn chain_in(words: &[u32]) -> Chain
     Chain {
         grid,
         window,
+        bounds: bounds_in(words),
         capacities: capacities_in(words),
         order: order_in(words),
         kernel: kernel_in(words[165], words[166], words[167]),
@@ -200,11 +226,29 @@ fn chain_word(c: Chain, i: usize) -> u32
     last[i - 165]
 }
 
+// Word i of a box.
+fn box_word(b: Bounds, i: usize) -> u32
+    requires { ⌜ i < 9 ⌝ }
+    ensures { λ r. ⌜ r ≡ boxWord b i ⌝ }
+{
+    if i < 1 {
+        return b.stood as u32;
+    }
+    if i < 5 {
+        let lowest = b.lowest;
+        let x = lowest[i - 1];
+        return sheet_fields::word_pattern_of(x);
+    }
+    let highest = b.highest;
+    let x = highest[i - 5];
+    sheet_fields::word_pattern_of(x)
+}
+
 // The words of a chain.
 pub fn chain_out(c: Chain, words: &mut [u32])
     ensures { λ _. ⌜ now (words .exit) ≡ chainInto c (now (words .entry)) ⌝ }
 {
-    if words.len() < 201 {
+    if words.len() < 210 {
         return;
     }
     let mut i: usize = 0;
@@ -219,5 +263,10 @@ pub fn chain_out(c: Chain, words: &mut [u32])
     while t < 32 {
         words[169 + t] = filters[t] as u32;
         t += 1;
+    }
+    let mut d: usize = 0;
+    while d < 9 {
+        words[201 + d] = box_word(c.bounds, d);
+        d += 1;
     }
 }

@@ -27,7 +27,7 @@ fn characters(dice: &mut Dice, text: &mut Vec<u8>) {
 }
 
 fn lines(dice: &mut Dice, text: &mut Vec<u8>) {
-    const OTHERS: [&str; 37] = [
+    const OTHERS: [&str; 44] = [
         "",
         "01",
         "0100",
@@ -64,11 +64,18 @@ fn lines(dice: &mut Dice, text: &mut Vec<u8>) {
         "0704",
         "0706",
         "070101",
+        "08",
+        "0800",
+        "080000000000000001",
+        "080000000100000000",
+        "08FFFFFFFF00000001",
+        "0800000001000000010000000200000003",
+        "09",
         "1000",
     ];
     let mut lines: Vec<Vec<u8>> = text.split(|&c| c == b'\n').map(<[u8]>::to_vec).collect();
     let (k, j) = (dice.below(lines.len()), dice.below(lines.len()));
-    match dice.below(11) {
+    match dice.below(13) {
         0 => {
             lines.remove(k);
         }
@@ -85,7 +92,7 @@ fn lines(dice: &mut Dice, text: &mut Vec<u8>) {
         8 if lines[k].len() > 2 => {
             // Another first byte, or another second one.
             let at = 1 + 2 * dice.below(2).min((lines[k].len() - 2) / 2);
-            lines[k][at] = dice.pick(b"01234567F");
+            lines[k][at] = dice.pick(b"0123456789F");
         }
         9 => {
             // An order, of as many bytes as there are references or nearly.
@@ -98,9 +105,35 @@ fn lines(dice: &mut Dice, text: &mut Vec<u8>) {
             let behind = lines.len().saturating_sub(2);
             lines.insert(if dice.one_in(2) { behind } else { j }, order);
         }
+        10 => {
+            // A box, of as many dimensions as the grid has or nearly, behind a line of some kind.
+            let dims = lines[0]
+                .get(3)
+                .map_or(1, |digit| digit.wrapping_sub(b'0').min(4));
+            let mut line = b"08".to_vec();
+            for _ in 0..(dims as usize + dice.below(3)).saturating_sub(1) {
+                line.extend(format!("{:08X}{:08X}", dice.below(3), dice.below(4)).bytes());
+            }
+            if dice.one_in(8) {
+                line.truncate(line.len() - 2);
+            }
+            behind(dice, &mut lines, line);
+        }
+        11 => {
+            // The box's line behind a line of some kind, in place of its own or again.
+            if let Some(at) = lines.iter().position(|line| line.starts_with(b"08")) {
+                let line = lines[at].clone();
+                if dice.one_in(2) {
+                    lines.remove(at);
+                }
+                behind(dice, &mut lines, line);
+            }
+        }
         _ => {
             // A long line, sound or not.
-            let mut long = dice.pick(&[b"02", b"06"]).repeat(1 + dice.below(300));
+            let mut long = dice
+                .pick(&[b"02", b"06", b"08"])
+                .repeat(1 + dice.below(300));
             if dice.one_in(2) {
                 let at = dice.below(long.len());
                 long[at] = dice.pick(b"G0F");
@@ -109,4 +142,18 @@ fn lines(dice: &mut Dice, text: &mut Vec<u8>) {
         }
     }
     *text = lines.join(&b'\n');
+}
+
+/// Puts a line behind the first or the last line that begins with some byte; to the front where there is none.
+fn behind(dice: &mut Dice, lines: &mut Vec<Vec<u8>>, line: Vec<u8>) {
+    let first = dice.pick(&[
+        b"01", b"02", b"02", b"02", b"03", b"04", b"06", b"07", b"08",
+    ]);
+    let begins = |line: &Vec<u8>| line.starts_with(first);
+    let at = if dice.one_in(2) {
+        lines.iter().position(begins)
+    } else {
+        lines.iter().rposition(begins)
+    };
+    lines.insert(at.map_or(0, |at| at + 1), line);
 }

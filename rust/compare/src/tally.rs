@@ -1,5 +1,5 @@
 use crate::native::Report;
-use straight::Chain;
+use straight::{Chain, Shape};
 
 /// How often each number (0: accepted) and each outcome came up, by function.
 pub struct Tally {
@@ -9,6 +9,12 @@ pub struct Tally {
     pub firings: [[u64; 4]; 4],
     /// Those whose terms go in an order other than the chain's.
     pub ordered: u64,
+    /// Those in a box that leaves iterations out.
+    pub boxed: u64,
+    /// Those in a box of all iterations.
+    pub full_box: u64,
+    /// Calls that ended Done in a box that leaves iterations out.
+    pub boxed_done: u64,
     pub clocks: u64,
     /// Requests whose steps were looked at, by the number that planning answers.
     pub steps: [u64; NUMBERS + 1],
@@ -30,16 +36,16 @@ pub enum Function {
 }
 
 /// The greatest number of a refusal.
-const NUMBERS: usize = 14;
+const NUMBERS: usize = 15;
 /// Each function with the numbers that it can answer.
 const FUNCTIONS: [(&str, &[usize]); 7] = [
-    ("plan", &[1, 2, 3, 4, 5, 6, 7, 8, 9, 12, 13]),
-    ("judge", &[1, 2, 3, 4, 5, 6, 7, 8, 9, 14]),
-    ("read_chain", &[1, 2, 3, 4, 5, 6, 7, 8, 9, 12, 14]),
-    ("run", &[1, 2, 3, 4, 5, 6, 7, 8, 9, 10, 11, 14]),
-    ("run_chain", &[3, 4, 5, 6, 7, 8, 9, 10, 11, 14]),
-    ("judge_chain", &[3, 4, 5, 6, 7, 8, 9, 14]),
-    ("write_chain", &[3, 4, 5, 6, 7, 8, 9, 12, 14]),
+    ("plan", &[1, 2, 3, 4, 5, 6, 7, 8, 9, 12, 13, 15]),
+    ("judge", &[1, 2, 3, 4, 5, 6, 7, 8, 9, 14, 15]),
+    ("read_chain", &[1, 2, 3, 4, 5, 6, 7, 8, 9, 12, 14, 15]),
+    ("run", &[1, 2, 3, 4, 5, 6, 7, 8, 9, 10, 11, 14, 15]),
+    ("run_chain", &[3, 4, 5, 6, 7, 8, 9, 10, 11, 14, 15]),
+    ("judge_chain", &[3, 4, 5, 6, 7, 8, 9, 14, 15]),
+    ("write_chain", &[3, 4, 5, 6, 7, 8, 9, 12, 14, 15]),
 ];
 const KERNELS: [&str; 4] = ["raw", "difference", "scaled", "blend"];
 const OUTCOMES: [&str; 5] = ["Done", "Spent", "Starved", "Stalled", "Full"];
@@ -51,6 +57,9 @@ impl Tally {
             outcomes: [0; 5],
             firings: [[0; 4]; 4],
             ordered: 0,
+            boxed: 0,
+            full_box: 0,
+            boxed_done: 0,
             clocks: 0,
             steps: [0; NUMBERS + 1],
             above: 0,
@@ -70,6 +79,15 @@ impl Tally {
         let n = chain.window.count as usize;
         if kernel != 0 && (0..n).any(|t| chain.term(t) != t) {
             self.ordered += report.firings as u64;
+        }
+        if chain.bounds.stood {
+            let all = Shape::new(&chain.grid, &chain.window).iterations;
+            if Shape::of_run(chain).iterations < all {
+                self.boxed += report.firings as u64;
+                self.boxed_done += (report.outcome == 0) as u64;
+            } else {
+                self.full_box += report.firings as u64;
+            }
         }
         self.clocks += report.clocks as u64;
     }
@@ -117,10 +135,15 @@ impl Tally {
             self.ordered
         );
         println!(
-            "steps of {} requests in {} iterations: {} planned, refused by 7 {}, 8 {}, 9 {}; {} sums above the limit",
+            "{} of them in a smaller box, {} in a full one; {} calls Done in a smaller one",
+            self.boxed, self.full_box, self.boxed_done
+        );
+        println!(
+            "steps of {} requests in {} iterations: {} planned, refused by 15 {}, 7 {}, 8 {}, 9 {}; {} sums above the limit",
             self.steps.iter().sum::<u64>(),
             self.iterations,
             self.steps[0],
+            self.steps[15],
             self.steps[7],
             self.steps[8],
             self.steps[9],
@@ -150,7 +173,13 @@ impl Tally {
         if self.ordered == 0 {
             missing.push("no kernel added in an order other than the chain's".to_string());
         }
-        for number in [0, 7, 8, 9] {
+        if self.boxed == 0 || self.full_box == 0 {
+            missing.push("no firing in a smaller box, or none in a full one".to_string());
+        }
+        if self.boxed_done == 0 {
+            missing.push("no call ended Done in a smaller box".to_string());
+        }
+        for number in [0, 7, 8, 9, 15] {
             if self.steps[number] == 0 {
                 missing.push(format!("no steps of a request answered {number}"));
             }

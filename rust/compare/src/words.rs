@@ -2,7 +2,7 @@
 use crate::native::Report;
 use straight::{Answer, Chain, Factors, Kernel, State};
 
-pub const CHAIN_WORDS: usize = 201;
+pub const CHAIN_WORDS: usize = 210;
 pub const STATE_WORDS: usize = 33;
 
 pub fn chain_words(chain: &Chain) -> [u32; CHAIN_WORDS] {
@@ -17,8 +17,13 @@ pub fn chain_words(chain: &Chain) -> [u32; CHAIN_WORDS] {
     let (kind, a, b) = chain.kernel.bits();
     words[165..168].copy_from_slice(&[kind as u32, a, b]);
     words[168] = chain.order.stood as u32;
-    for (word, &filter) in words[169..].iter_mut().zip(&chain.order.filters) {
+    for (word, &filter) in words[169..201].iter_mut().zip(&chain.order.filters) {
         *word = filter as u32;
+    }
+    words[201] = chain.bounds.stood as u32;
+    for d in 0..4 {
+        words[202 + d] = chain.bounds.lowest[d] as u32;
+        words[206 + d] = chain.bounds.highest[d] as u32;
     }
     words
 }
@@ -44,8 +49,13 @@ pub fn chain_of(words: &[u32]) -> Chain {
         _ => Kernel::Scaled(f32::NAN),
     };
     chain.order.stood = words[168] != 0;
-    for (filter, &word) in chain.order.filters.iter_mut().zip(&words[169..]) {
+    for (filter, &word) in chain.order.filters.iter_mut().zip(&words[169..201]) {
         *filter = word.min(255) as u8;
+    }
+    chain.bounds.stood = words[201] != 0;
+    for d in 0..4 {
+        chain.bounds.lowest[d] = words[202 + d] as i32;
+        chain.bounds.highest[d] = words[206 + d] as i32;
     }
     chain
 }

@@ -17,7 +17,7 @@ pub fn run(
     if (store.len() as u64) < capacity_sum(chain) {
         return (Answer::Refused(Refusal::ShortStore), *state);
     }
-    let shape = Shape::new(&chain.grid, &chain.window);
+    let shape = Shape::of_run(chain);
     if bad_state(chain, &shape, state) {
         return (Answer::Refused(Refusal::BadState), *state);
     }

@@ -5,7 +5,7 @@ use straight::*;
 /// Centre, left, right, up, down, as Listing 1 of document 003 names them.
 const LISTING_1: [&[i16]; 5] = [&[0, 0], &[0, -1], &[0, 1], &[-1, 0], &[1, 0]];
 
-/// What the steps give for references in the author's order.
+/// What the steps give for references in the author's order, without a box and with one.
 struct Row<'a> {
     sizes: &'a [u32],
     author: &'a [&'a [i16]],
@@ -13,6 +13,8 @@ struct Row<'a> {
     filters: &'a [u8],
     distances: &'a [u32],
     total: u64,
+    /// A box that fits.
+    inside: &'a [[i32; 2]],
 }
 
 impl Row<'_> {
@@ -25,11 +27,24 @@ impl Row<'_> {
             distances: self.distances.to_vec(),
             total: self.total,
         };
-        assert_eq!(steps(&request.grid, &request.window), Ok(want));
         let mut chain = Chain::new(self.sizes, self.sorted, self.distances, kernel);
         chain.order = Order::new(self.filters);
-        let want = if number == 0 { Ok(chain) } else { Err(number) };
-        assert_eq!(plan(&request).map_err(|r| r.number()), want);
+        let planned = |bounds: Bounds| {
+            let steps = steps(&request.grid, &request.window, &bounds);
+            let plan = plan(&Request { bounds, ..request });
+            let number = |refusal: Refusal| refusal.number();
+            (steps.map_err(number), plan.map_err(number))
+        };
+        for ends in [None, Some(self.inside)] {
+            let bounds = ends.map_or(Bounds::none(), Bounds::new);
+            let chain = Chain { bounds, ..chain };
+            let answer = if number == 0 { Ok(chain) } else { Err(number) };
+            assert_eq!(planned(bounds), (Ok(want.clone()), answer));
+        }
+        // One past the grid: 15, before the kernel and the sum are looked at.
+        let mut ends = self.inside.to_vec();
+        ends[0][1] = self.sizes[0] as i32;
+        assert_eq!(planned(Bounds::new(&ends)), (Err(15), Err(15)));
     }
 }
 
@@ -42,6 +57,7 @@ fn the_example_of_the_paper() {
         filters: &[2, 3, 1, 4, 0],
         distances: &[1023, 1, 1, 1023],
         total: 2048,
+        inside: &[[1, 766], [1, 1022]],
     };
     row.check(Kernel::Difference, 0);
     row.check(Kernel::Scaled(f32::INFINITY), 8);
@@ -56,6 +72,7 @@ fn without_a_centre() {
         filters: &[2, 1, 3, 0],
         distances: &[1023, 2, 1023],
         total: 2048,
+        inside: &[[300, 400], [7, 7]],
     };
     row.check(Kernel::Raw, 0);
     row.check(Kernel::Difference, 7);
@@ -70,6 +87,7 @@ fn above_the_limit() {
         filters: &[1, 0],
         distances: &[20_000],
         total: 20_000,
+        inside: &[[0, 19_999]],
     };
     row.check(Kernel::Difference, 9);
     row.check(Kernel::Scaled(f32::NAN), 8);
@@ -81,6 +99,7 @@ fn above_the_limit() {
         filters: &[1, 2, 0],
         distances: &[8193, 8192],
         total: 16_385,
+        inside: &[[0, 1007], [-1, 1021]],
     };
     row.check(Kernel::Raw, 9);
     row.check(Kernel::Difference, 7);
@@ -100,6 +119,7 @@ fn above_the_limit() {
         filters: &[1, 0],
         distances: &[1_048_575],
         total: 1_048_575,
+        inside: &[[0, 0], [32_768, 32_768]],
     };
     row.check(Kernel::Raw, 9);
 }
@@ -113,6 +133,7 @@ fn lexicographic_order() {
         filters: &[1, 0],
         distances: &[1],
         total: 1,
+        inside: &[[0, 0], [1, 1]],
     };
     row.check(Kernel::Raw, 0);
 }
@@ -126,6 +147,7 @@ fn one_reference() {
         filters: &[0],
         distances: &[],
         total: 0,
+        inside: &[[-1, 0], [2, 2], [-3, 1], [8, 9]],
     };
     row.check(Kernel::Raw, 0);
     row.check(Kernel::Difference, 7);
@@ -134,22 +156,33 @@ fn one_reference() {
 #[test]
 fn refused_before_the_steps() {
     let number = |sizes: &[u32], offsets: &[&[i16]]| {
-        let answer = steps(&Grid::new(sizes), &Window::new(offsets));
+        // A box that fits nowhere comes after.
+        let bounds = Bounds::new(&[[1, 0]]);
+        let answer = steps(&Grid::new(sizes), &Window::new(offsets), &bounds);
         answer.map_err(|r| r.number()).unwrap_err()
     };
     assert_eq!(number(&[1_048_577], &[]), 3);
     assert_eq!(number(&[5], &[]), 4);
     assert_eq!(number(&[5], &[&[9], &[0], &[9]]), 5);
     assert_eq!(number(&[2, 4], &[&[0, 3], &[1, -1]]), 6);
+    assert_eq!(number(&[2, 5], &[&[0, 3], &[1, -1]]), 15);
 }
 
 #[test]
 fn entries_past_the_counts() {
-    let request = Request::new(&[2, 5], &[&[0, 3], &[1, -1]], Kernel::Raw);
+    let mut request = Request::new(&[2, 5], &[&[0, 3], &[1, -1]], Kernel::Raw);
     let mut other = request;
     other.grid.sizes[2..].fill(9);
     other.window.offsets[2] = 1;
     other.window.offsets[8..].fill(2);
-    let answers = |request: &Request| (steps(&request.grid, &request.window), plan(request));
+    (other.bounds.lowest, other.bounds.highest) = ([7; 4], [-7; 4]);
+    let answers = |request: &Request| {
+        let steps = steps(&request.grid, &request.window, &request.bounds);
+        (steps, plan(request))
+    };
     assert_eq!(answers(&other), answers(&request));
+    request.bounds = Bounds::new(&[[0, 0], [1, 1]]);
+    other.bounds = Bounds::new(&[[0, 0], [1, 1], [i32::MAX, i32::MIN], [5, 4]]);
+    assert_eq!(answers(&other), answers(&request));
+    assert_eq!(plan(&other).unwrap().bounds, request.bounds);
 }

@@ -17,15 +17,15 @@ mod native;
 use std::sync::Once;
 
 /// The version of the interface that this crate is written for.
-pub const VERSION: u32 = 2;
+pub const VERSION: u32 = 3;
 /// No chain sheet has more bytes.
-pub const SHEET_BYTES: usize = 1074;
+pub const SHEET_BYTES: usize = 1141;
 /// No accepted chain needs more words of store.
 pub const STORE_WORDS: usize = 16384;
 /// No firing of an accepted chain writes more words.
 pub const FIRING_WORDS: usize = 32;
 pub const STATE_WORDS: usize = 33;
-pub const CHAIN_WORDS: usize = 201;
+pub const CHAIN_WORDS: usize = 210;
 
 /// The version of the library that is linked.
 pub fn version() -> u32 {
@@ -61,6 +61,7 @@ pub enum Refusal {
     ShortOutput,
     BadName,
     BadOrder,
+    BadBox,
     /// A number that has no name here.
     Other(u32),
 }
@@ -82,6 +83,7 @@ impl Refusal {
             Refusal::ShortOutput => 12,
             Refusal::BadName => 13,
             Refusal::BadOrder => 14,
+            Refusal::BadBox => 15,
             Refusal::Other(number) => number,
         }
     }
@@ -102,6 +104,7 @@ impl Refusal {
             12 => Refusal::ShortOutput,
             13 => Refusal::BadName,
             14 => Refusal::BadOrder,
+            15 => Refusal::BadBox,
             _ => Refusal::Other(number),
         }
     }
@@ -124,6 +127,7 @@ impl std::fmt::Display for Refusal {
             Refusal::ShortOutput => "an output that is too short for what is to be written",
             Refusal::BadName => "no name of a window, or one of other dimensions than the grid's",
             Refusal::BadOrder => "an order that does not hold each filter number once",
+            Refusal::BadBox => "a box with a lowest index above its highest, or with an iteration that reads outside the grid",
             Refusal::Other(_) => "a number that has no name here",
         };
         write!(f, "refused by {}: {}", self.number(), text)
@@ -285,6 +289,16 @@ impl Chain {
         Some(&self.words[169..169 + self.references().min(32)])
     }
 
+    /// The box, where it stood: the lowest and the highest index of the iterations, for each dimension in turn.
+    pub fn bounds(&self) -> Option<Vec<(i32, i32)>> {
+        if self.words[201] == 0 {
+            return None;
+        }
+        let dims = self.words[0].min(4) as usize;
+        let (lowest, highest) = (&self.words[202..202 + dims], &self.words[206..206 + dims]);
+        Some(lowest.iter().zip(highest).map(|(&low, &high)| (low as i32, high as i32)).collect())
+    }
+
     /// The capacities' sum: how many words the store needs.
     pub fn places(&self) -> usize {
         self.capacities().iter().map(|&c| c as usize).sum()
@@ -380,12 +394,12 @@ mod tests {
     fn every_number_of_a_refusal_is_kept() {
         for number in 1..=300 {
             let refusal = Refusal::of(number);
-            assert_eq!((refusal.number(), matches!(refusal, Refusal::Other(_))), (number, number > 14));
+            assert_eq!((refusal.number(), matches!(refusal, Refusal::Other(_))), (number, number > 15));
         }
     }
 
     #[test]
-    #[should_panic(expected = "version 3 of the interface")]
+    #[should_panic(expected = "version 4 of the interface")]
     fn another_version_is_not_taken() {
         require(VERSION + 1);
     }
@@ -397,20 +411,21 @@ mod tests {
             // SAFETY: `len` is at most 240.
             unsafe { native::zohmirka_read_chain(SHEET.as_ptr(), SHEET.len(), chain.as_mut_ptr(), len) }
         };
-        assert_eq!((read(0), read(168), read(200)), (12, 12, 12));
+        assert_eq!((read(0), read(168), read(201), read(209)), (12, 12, 12, 12));
         assert_eq!(read(240), 0);
-        assert!(chain[201..].iter().all(|&w| w == 7));
+        assert!(chain[210..].iter().all(|&w| w == 7));
 
         let mut untouched = [0; 40];
         untouched[33..].fill(6);
-        assert_eq!(call(&chain, 200, 33), (3, 5, untouched));
+        assert_eq!(call(&chain, 209, 33), (3, 5, untouched));
+        assert_eq!(call(&chain, 201, 33), (3, 5, untouched));
         assert_eq!(call(&chain, 168, 33), (3, 5, untouched));
         assert_eq!(call(&chain, 0, 0), (3, 5, untouched));
-        assert_eq!(call(&chain, 201, 32), (11, 5, untouched));
+        assert_eq!(call(&chain, 210, 32), (11, 5, untouched));
         assert_eq!(call(&chain, 240, 0), (11, 5, untouched));
         let mut done = untouched;
         (done[0], done[1], done[32]) = (5, 2, 2);
-        assert_eq!(call(&chain, 201, 33), (0, 0, done));
+        assert_eq!(call(&chain, 210, 33), (0, 0, done));
         assert_eq!(call(&chain, 240, 40), (0, 0, done));
     }
 
@@ -418,7 +433,7 @@ mod tests {
     fn chains_of_other_lengths() {
         let mut chain = [7; 240];
         chain[..CHAIN_WORDS].copy_from_slice(&Chain::read(SHEET).unwrap().words);
-        for (len, refusal) in [(0, 3), (168, 3), (200, 3), (201, 0), (240, 0)] {
+        for (len, refusal) in [(0, 3), (168, 3), (201, 3), (209, 3), (210, 0), (240, 0)] {
             let mut sheet = [0; 100];
             // SAFETY: `len` is at most 240, and the sheet has 100 places.
             let (judged, wrote) = unsafe {

@@ -1,9 +1,15 @@
 //! The interface on the sample of document 01 and on single rules.
-use zohmirka::{judge, plan, plan_into, run, version, Chain, Counts, Outcome, Refusal, State, STORE_WORDS, VERSION};
+use zohmirka::{judge, plan, plan_into, run, version, Chain, Counts, Outcome, Refusal, State, CHAIN_WORDS, SHEET_BYTES, STORE_WORDS, VERSION};
 
 const REQUEST: &[u8] = b"010100000005\n020000\n020003\n0400\n";
 const SHEET: &[u8] = b"010100000005\n020003\n020000\n0300000003\n060100\n0400\n";
 const WITHOUT: &[u8] = b"010100000005\n020003\n020000\n0300000003\n0400\n";
+/// 4 by 5 cells.
+const PLANE: &str = "01020000000400000005\n";
+/// The five-point cross, falling.
+const CROSS: &str = "0200010000\n0200000001\n0200000000\n020000FFFF\n02FFFF0000\n";
+/// Row 1, columns 2 and 3.
+const BOX: &str = "0800000001000000010000000200000003\n";
 
 fn counts(cells: u32, firings: u32, clocks: u32) -> Counts {
     Counts { cells, firings, clocks }
@@ -99,6 +105,104 @@ fn refuses_an_order_that_is_none() {
     assert_eq!((text("060001"), text("060000"), text("060002")), (Ok(()), Err(Refusal::BadOrder), Err(Refusal::BadOrder)));
     assert_eq!((text("0600"), text("060100\n060100")), (Err(Refusal::Malformed), Err(Refusal::Misplaced)));
     assert_eq!(plan(b"010100000005\n020000\n0600\n0400\n"), Err(Refusal::Misplaced));
+}
+
+#[test]
+fn runs_over_a_box() {
+    // Case 6 of document 01, in row 1 and columns 2 and 3 alone.
+    let sheet = plan(format!("{PLANE}0701\n{BOX}0400\n").as_bytes()).unwrap();
+    let text = format!("{PLANE}{CROSS}{BOX}0300000004\n0300000001\n0300000001\n0300000004\n060001020304\n0400\n");
+    assert_eq!(sheet, text.as_bytes());
+    assert_eq!(plan(format!("{PLANE}{CROSS}{BOX}0400\n").as_bytes()).unwrap(), sheet);
+    let chain = Chain::read(&sheet).unwrap();
+    assert_eq!(chain.bounds(), Some(vec![(1, 1), (2, 3)]));
+    assert_eq!(chain.words[201..], [1, 1, 2, 0, 0, 1, 3, 0, 0]);
+    assert_eq!(chain.write().unwrap(), sheet);
+
+    let cells: Vec<u32> = (1..=20).collect();
+    let run_whole = |chain: &Chain| {
+        let mut out = [0; 30];
+        let outcome = chain.run(&mut State::fresh(), &mut [0; 10], &cells, &mut out, u32::MAX).unwrap();
+        (outcome, out[..outcome.counts().firings as usize * 5].to_vec())
+    };
+    let words = vec![13, 9, 8, 7, 3, 14, 10, 9, 8, 4];
+    assert_eq!(run_whole(&chain), (Outcome::Done(counts(14, 2, 14)), words));
+    let before = chain.run(&mut State::fresh(), &mut [0; 10], &cells, &mut [0; 30], 12);
+    assert_eq!(before, Ok(Outcome::Spent(counts(12, 0, 12))));
+
+    // Rows 1 and 2, column 3 alone.
+    let mut column = chain;
+    (column.words[203], column.words[206], column.words[207]) = (3, 2, 3);
+    let words = vec![14, 10, 9, 8, 4, 19, 15, 14, 13, 9];
+    assert_eq!(run_whole(&column), (Outcome::Done(counts(19, 2, 19)), words));
+
+    // A full box runs as none does, and is not the same chain.
+    let (mut full, mut none) = (chain, chain);
+    (full.words[203], full.words[206]) = (1, 2);
+    none.words[201] = 0;
+    assert_eq!((full.bounds(), none.bounds()), (Some(vec![(1, 2), (1, 3)]), None));
+    assert_eq!(run_whole(&full), run_whole(&none));
+    assert_eq!(run_whole(&full).0, Outcome::Done(counts(19, 6, 19)));
+    assert_eq!(full.write().unwrap(), text.replace(BOX, "0800000001000000020000000100000003\n").as_bytes());
+    assert_eq!(none.write().unwrap(), text.replace(BOX, "").as_bytes());
+    assert_eq!(Chain::read(&none.write().unwrap()).unwrap().words[201..], [0; 9]);
+    let mut any = chain;
+    (any.words[201], any.words[204], any.words[209]) = (u32::MAX, 7, 7);
+    assert_eq!((run_whole(&any), any.write()), (run_whole(&chain), Ok(sheet)));
+}
+
+#[test]
+fn refuses_a_box_that_does_not_fit() {
+    let sheet = plan(format!("{PLANE}0701\n{BOX}0400\n").as_bytes()).unwrap();
+    let chain = Chain::read(&sheet).unwrap();
+    const MIN: u32 = 1 << 31;
+    const MAX: u32 = MIN - 1;
+    // All iterations are rows 1 and 2, columns 1 to 3.
+    let rows = [(202, 0), (202, 2), (202, MIN), (206, 3), (206, 0), (206, MAX)];
+    let columns = [(203, 0), (203, 4), (203, u32::MAX), (207, 4), (207, 1), (207, MAX), (207, MIN)];
+    for (at, word) in rows.into_iter().chain(columns) {
+        let mut other = chain;
+        other.words[at] = word;
+        let answer = other.run(&mut State::fresh(), &mut [], &[], &mut [], 0);
+        assert_eq!((other.judge(), answer), (Err(Refusal::BadBox), Err(Refusal::BadBox)), "{at} {word:X}");
+        assert_eq!(other.write_into(&mut []), Err(Refusal::BadBox));
+        // After 6, before 7, 8, 9 and 14.
+        let changed = |changes: &[(usize, u32)]| {
+            let mut chain = other;
+            changes.iter().for_each(|&(at, word)| chain.words[at] = word);
+            chain.judge()
+        };
+        assert_eq!(changed(&[(1, 2)]), Err(Refusal::NoIteration));
+        assert_eq!(changed(&[(15, 2), (165, 1)]), Err(Refusal::BadBox));
+        assert_eq!(changed(&[(165, 4), (134, 16385), (169, 9)]), Err(Refusal::BadBox));
+        assert_eq!(changed(&[(201, 0)]), Ok(()));
+    }
+    let text = |line: &str| judge(format!("010100000005\n020003\n020000\n{line}\n0300000003\n0400\n").as_bytes());
+    assert_eq!(text("080000000000000001"), Ok(()));
+    for line in ["080000000000000002", "080000000100000000", "08FFFFFFFF00000001", "088000000000000001", "08000000007FFFFFFF"] {
+        assert_eq!(text(line), Err(Refusal::BadBox), "{line}");
+    }
+    assert_eq!((text("0800000000"), text("08")), (Err(Refusal::Malformed), Err(Refusal::Malformed)));
+    let behind = |line: &str| text(&format!("080000000000000001\n{line}"));
+    assert_eq!((behind("08"), behind("020001")), (Err(Refusal::Misplaced), Err(Refusal::Misplaced)));
+    assert_eq!(plan(format!("{PLANE}0701\n0800000001000000010000000200000004\n0400\n").as_bytes()), Err(Refusal::BadBox));
+    assert_eq!(plan(format!("{PLANE}{BOX}0701\n0400\n").as_bytes()), Err(Refusal::Misplaced));
+}
+
+#[test]
+fn the_longest_sheet() {
+    // Four dimensions, 32 references in a row, blend, the order and a full box.
+    let mut chain = Chain { words: [0; CHAIN_WORDS] };
+    chain.words[..6].copy_from_slice(&[4, 32, 32, 32, 32, 32]);
+    for k in 0..32 {
+        chain.words[6 + 4 * k + 3] = 31 - k as u32;
+        chain.words[169 + k] = k as u32;
+    }
+    chain.words[134..165].fill(1);
+    (chain.words[165], chain.words[168], chain.words[201]) = (3, 1, 1);
+    chain.words[206..210].copy_from_slice(&[31, 31, 31, 0]);
+    let sheet = chain.write().unwrap();
+    assert_eq!((sheet.len(), Chain::read(&sheet)), (SHEET_BYTES, Ok(chain)));
 }
 
 #[test]
@@ -236,10 +340,11 @@ fn judges_a_chain_and_writes_its_sheet() {
     // Words past the counts play no part, and the sheet gives back the chain without them.
     let mut other = chain;
     (other.words[14], other.words[135], other.words[167], other.words[171]) = (9, 9, 9, 999);
+    (other.words[202], other.words[206]) = (9, 1);
     assert_eq!(other.write().unwrap(), SHEET);
     assert_eq!(Chain::read(&other.write().unwrap()), Ok(chain));
     other.words[168] = 0;
     assert_eq!(other.write().unwrap(), WITHOUT);
     let without = Chain::read(WITHOUT).unwrap();
-    assert_eq!((Chain::read(&other.write().unwrap()), &without.words[168..]), (Ok(without), [0; 33].as_slice()));
+    assert_eq!((Chain::read(&other.write().unwrap()), &without.words[168..]), (Ok(without), [0; 42].as_slice()));
 }

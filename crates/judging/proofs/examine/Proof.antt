@@ -12,14 +12,14 @@ survey-of-requires c κs = search needs
 judge-behind-requires : tie.Need-judge-behind-requires
 judge-behind-requires c κs e =
     let s = c .before .before .before in
-    let a = s .before .before .before .before .before .args in
-    survey-count (a .c .grid) (a .c .window) (ap (λ (t : Survey). t .verdict) (sym (s .survey-of .ensures)) ∙ e)
+    let a = s .before .before .before .before .before .before .args in
+    survey-count (a .c .grid) (a .c .window) (a .c .bounds) (ap (λ (t : Survey). t .verdict) (sym (s .survey-of .ensures)) ∙ e)
 
 returns : tie.Need-returns
 unfolding capacitiesOf
 returns c =
     let s = c .before .before .before .before in
-    let a = s .before .before .before .before .before .args in
+    let a = s .before .before .before .before .before .before .args in
     examined-behind (a .c) (s .survey-of .result) (s .survey-of .ensures) _ (c .judge-behind .ensures)
 
 pub examine-spec : {M : Type 1} → statement M

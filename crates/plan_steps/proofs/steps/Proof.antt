@@ -1,6 +1,7 @@
 use mathlib.Core.Path.{_≡_, sym, _∙_, ap}
 use borrow.Author.Needs.{needs}
 use Rattle.model.specs.Judging.{judgeWindow}
+use Rattle.model.specs.declared.Bounds.{Bounds}
 use Rattle.model.specs.declared.Grid.{Grid}
 use Rattle.model.specs.declared.Verdict.{Verdict}
 use Rattle.model.specs.declared.Window.{Window}
@@ -12,9 +13,9 @@ use Rattle.plan_steps.proofs.StepLaws.{first-positions}
 use Rattle.plan_steps.proofs.steps.Statement.{statement}
 use Rattle.plan_steps.proofs.steps.Tie as tie
 
--- What the survey found is the first of 3 to 6.
-found : (g : Grid) (w : Window) (s : Survey) → s ≡ surveyOf g w → (v : Verdict) → s .verdict ≡ v → judgeWindow g w ≡ v
-found g w s d v e = sym (survey-verdict g w) ∙ ap (λ (t : Survey). t .verdict) (sym d) ∙ e
+-- What the survey found is the first of 3 to 6 and 15.
+found : (g : Grid) (w : Window) (x : Bounds) (s : Survey) → s ≡ surveyOf g w x → (v : Verdict) → s .verdict ≡ v → judgeWindow g w x ≡ v
+found g w x s d v e = sym (survey-verdict g w x) ∙ ap (λ (t : Survey). t .verdict) (sym d) ∙ e
 
 survey-of-requires : tie.Need-survey-of-requires
 survey-of-requires c κs = search needs
@@ -33,15 +34,15 @@ taken-requires c κs =
     let v = c .before .before .before in
     let s = v .before .before in
     let a = s .before .args in
-    let e = found (a .grid) (a .window) (s .survey-of .result) (s .survey-of .ensures) _ (v .enum-told .given .1) in
-    (e, first-positions (a .grid) (a .window) e (s .survey-of .result) (s .survey-of .ensures))
+    let e = found (a .grid) (a .window) (a .bounds) (s .survey-of .result) (s .survey-of .ensures) _ (v .enum-told .given .1) in
+    (e, first-positions (a .grid) (a .window) (a .bounds) e (s .survey-of .result) (s .survey-of .ensures))
 
 returns : tie.Need-returns
 returns c =
     let v = c .before .before in
     let s = v .before .before in
     let a = s .before .args in
-    c .refused .ensures ∙ sym (steps-refused (a .grid) (a .window) _ (found (a .grid) (a .window) (s .survey-of .result) (s .survey-of .ensures) _ (v .verdict .given .1)))
+    c .refused .ensures ∙ sym (steps-refused (a .grid) (a .window) (a .bounds) _ (found (a .grid) (a .window) (a .bounds) (s .survey-of .result) (s .survey-of .ensures) _ (v .verdict .given .1)))
 
 returns-2 : tie.Need-returns-2
 returns-2 c = search needs

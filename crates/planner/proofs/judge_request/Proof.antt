@@ -13,7 +13,7 @@ judge-planned-requires c κs = search needs
 returns : tie.Need-returns
 returns c =
     let s = c .before in
-    c .judge-planned .ensures ∙ verdict-is (s .before .before .before .args .r) (s .steps .result) (s .steps .ensures)
+    c .judge-planned .ensures ∙ verdict-is (s .before .before .before .before .args .r) (s .steps .result) (s .steps .ensures)
 
 pub judge-request-spec : {M : Type 1} → statement M
 judge-request-spec = tie.close (tie.spec steps-requires judge-planned-requires returns)

@@ -23,21 +23,21 @@ chain-by-requires : tie.Need-chain-by-requires
 chain-by-requires c κs =
     let j = c .before .before in
     let s = j .before in
-    few-dimensions (s .before .before .before .args .r) (s .steps .result) (s .steps .ensures) (sym (j .judge-planned .ensures) ∙ c .enum-told .given .1)
+    few-dimensions (s .before .before .before .before .args .r) (s .steps .result) (s .steps .ensures) (sym (j .judge-planned .ensures) ∙ c .enum-told .given .1)
 
 returns : tie.Need-returns
 returns c =
     let x = c .before .before in
     let j = x .before .before in
     let s = j .before in
-    c .refused .ensures ∙ refused-plan (s .before .before .before .args .r) (s .steps .result) (s .steps .ensures) _ (sym (j .judge-planned .ensures) ∙ x .x .given .1)
+    c .refused .ensures ∙ refused-plan (s .before .before .before .before .args .r) (s .steps .result) (s .steps .ensures) _ (sym (j .judge-planned .ensures) ∙ x .x .given .1)
 
 returns-2 : tie.Need-returns-2
 returns-2 c =
     let t = c .before in
     let j = t .before .before in
     let s = j .before in
-    planned-by (s .before .before .before .args .r) (s .steps .result) (s .steps .ensures) (sym (j .judge-planned .ensures) ∙ t .enum-told .given .1) (c .chain-by .result) (c .chain-by .ensures)
+    planned-by (s .before .before .before .before .args .r) (s .steps .result) (s .steps .ensures) (sym (j .judge-planned .ensures) ∙ t .enum-told .given .1) (c .chain-by .result) (c .chain-by .ensures)
 
 pub plan-spec : {M : Type 1} → statement M
 plan-spec =

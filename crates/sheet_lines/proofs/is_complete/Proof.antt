@@ -24,6 +24,9 @@ enum-told-6 c = search needs
 enum-told-7 : tie.Need-enum-told-7
 enum-told-7 c = search needs
 
+enum-told-8 : tie.Need-enum-told-8
+enum-told-8 c = search needs
+
 returns : tie.Need-returns
 unfolding complete closes
 returns c = rw (c .enum-told .given .1)
@@ -52,6 +55,10 @@ returns-7 : tie.Need-returns-7
 unfolding complete closes
 returns-7 c = rw (c .enum-told7 .given .1)
 
+returns-8 : tie.Need-returns-8
+unfolding complete closes
+returns-8 c = rw (c .enum-told8 .given .1)
+
 pub is-complete-spec : {M : Type 1} → statement M
 is-complete-spec =
     tie.close
@@ -63,10 +70,12 @@ is-complete-spec =
     enum-told-5
     enum-told-6
     enum-told-7
+    enum-told-8
     returns
     returns-2
     returns-3
     returns-4
     returns-5
     returns-6
-    returns-7)
+    returns-7
+    returns-8)

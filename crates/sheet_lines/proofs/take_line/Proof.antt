@@ -2,7 +2,7 @@ use mathlib.Core.Path.{sym, _∙_}
 use borrow.Author.Needs.{needs}
 use borrow.Author.Tests.{ne-eqb}
 use Rattle.model.specs.Reading.{taken}
-use Rattle.sheet_laws.proofs.AcceptedLines.{taken-grid, taken-offset, taken-name, taken-capacity, taken-order}
+use Rattle.sheet_laws.proofs.AcceptedLines.{taken-grid, taken-offset, taken-name, taken-box, taken-capacity, taken-order}
 use Rattle.sheet_lines.proofs.take_line.Statement.{statement}
 use Rattle.sheet_lines.proofs.take_line.Tie as tie
 
@@ -39,13 +39,20 @@ with-name-requires c κs = search needs
 returns-5 : tie.Need-returns-5
 returns-5 c = c .with-name .ensures ∙ sym (taken-name _ _ (c .before .if5 .taken))
 
+with-box-requires : tie.Need-with-box-requires
+with-box-requires c κs = search needs
+
+returns-6 : tie.Need-returns-6
+returns-6 c = c .with-box .ensures ∙ sym (taken-box _ _ (c .before .if6 .taken))
+
 with-kernel-requires : tie.Need-with-kernel-requires
 with-kernel-requires c κs = search needs
 
-returns-6 : tie.Need-returns-6
+returns-7 : tie.Need-returns-7
 unfolding taken
-returns-6 c =
-    let e5 = c .before in
+returns-7 c =
+    let e6 = c .before in
+    let e5 = e6 .before in
     let e4 = e5 .before in
     let e3 = e4 .before in
     let e2 = e3 .before in
@@ -55,6 +62,7 @@ returns-6 c =
       ne-eqb _ _ (e3 .if3 .left),
       ne-eqb _ _ (e4 .if4 .left),
       ne-eqb _ _ (e5 .if5 .left),
+      ne-eqb _ _ (e6 .if6 .left),
     ) (c .with-kernel .ensures)
 
 pub take-line-spec : {M : Type 1} → statement M
@@ -72,5 +80,7 @@ take-line-spec =
     returns-4
     with-name-requires
     returns-5
+    with-box-requires
+    returns-6
     with-kernel-requires
-    returns-6)
+    returns-7)

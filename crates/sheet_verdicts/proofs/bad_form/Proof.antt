@@ -69,16 +69,31 @@ returns-8 : tie.Need-returns-8
 unfolding badForm
 returns-8 c =
     simp (
-      ne-eqb _ _ (c .before .before .before .before .before .before .if1 .left),
-      ne-eqb _ _ (c .before .before .before .before .before .if2 .left),
-      ne-eqb _ _ (c .before .before .before .before .if3 .left),
-      ne-eqb _ _ (c .before .before .before .if4 .left),
-      ne-eqb _ _ (c .before .before .if5 .left),
-      ne-eqb _ _ (c .before .if6 .left),
-      ne-eqb _ _ (c .if7 .left),
+      ne-eqb _ _ (c .before .before .before .before .before .before .before .if1 .left),
+      ne-eqb _ _ (c .before .before .before .before .before .before .if2 .left),
+      ne-eqb _ _ (c .before .before .before .before .before .if3 .left),
+      ne-eqb _ _ (c .before .before .before .before .if4 .left),
+      ne-eqb _ _ (c .before .before .before .if5 .left),
+      ne-eqb _ _ (c .before .before .if6 .left),
+      ne-eqb _ _ (c .before .if7 .left),
+      eq-eqb _ _ (c .if8 .taken),
+    )
+
+returns-9 : tie.Need-returns-9
+unfolding badForm
+returns-9 c =
+    simp (
+      ne-eqb _ _ (c .before .before .before .before .before .before .before .if1 .left),
+      ne-eqb _ _ (c .before .before .before .before .before .before .if2 .left),
+      ne-eqb _ _ (c .before .before .before .before .before .if3 .left),
+      ne-eqb _ _ (c .before .before .before .before .if4 .left),
+      ne-eqb _ _ (c .before .before .before .if5 .left),
+      ne-eqb _ _ (c .before .before .if6 .left),
+      ne-eqb _ _ (c .before .if7 .left),
+      ne-eqb _ _ (c .if8 .left),
     )
 
 pub bad-form-spec : {M : Type 1} → statement M
 bad-form-spec =
     tie.close
-    (tie.spec returns returns-2 returns-3 bad-kernel-requires returns-4 returns-5 returns-6 returns-7 returns-8)
+    (tie.spec returns returns-2 returns-3 bad-kernel-requires returns-4 returns-5 returns-6 returns-7 returns-8 returns-9)

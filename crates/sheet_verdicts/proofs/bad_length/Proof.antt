@@ -31,11 +31,45 @@ returns-3 : tie.Need-returns-3
 unfolding badLength
 returns-3 c = simp (ne-eqb _ _ (c .before .before .if1 .left), ne-eqb _ _ (c .before .if2 .left), eq-eqb _ _ (c .if3 .taken))
 
+mul-result-3 : tie.Need-mul-result-3
+mul-result-3 c = search needs
+
+add-result-4 : tie.Need-add-result-4
+add-result-4 c = search needs
+
 returns-4 : tie.Need-returns-4
 unfolding badLength
-returns-4 c = simp (ne-eqb _ _ (c .before .before .if1 .left), ne-eqb _ _ (c .before .if2 .left), ne-eqb _ _ (c .if3 .left))
+returns-4 c =
+    simp (
+      ne-eqb _ _ (c .before .before .before .if1 .left),
+      ne-eqb _ _ (c .before .before .if2 .left),
+      ne-eqb _ _ (c .before .if3 .left),
+      eq-eqb _ _ (c .if4 .taken),
+    )
+
+returns-5 : tie.Need-returns-5
+unfolding badLength
+returns-5 c =
+    simp (
+      ne-eqb _ _ (c .before .before .before .if1 .left),
+      ne-eqb _ _ (c .before .before .if2 .left),
+      ne-eqb _ _ (c .before .if3 .left),
+      ne-eqb _ _ (c .if4 .left),
+    )
 
 pub bad-length-spec : {M : Type 1} → statement M
 bad-length-spec =
     tie.close
-    (tie.spec mul-result add-result returns mul-result-2 add-result-2 returns-2 add-result-3 returns-3 returns-4)
+    (tie.spec
+    mul-result
+    add-result
+    returns
+    mul-result-2
+    add-result-2
+    returns-2
+    add-result-3
+    returns-3
+    mul-result-3
+    add-result-4
+    returns-4
+    returns-5)

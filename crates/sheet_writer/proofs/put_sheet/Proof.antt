@@ -16,29 +16,29 @@ use Rattle.sheet_writer.proofs.put_sheet.Statement.{statement}
 use Rattle.sheet_writer.proofs.put_sheet.Tie as tie
 
 abbrev Inv-loop : tie.InvT-loop
-Inv-loop out₀ c ordered n lines at₀ m₀ out at m =
+Inv-loop out₀ c boxed ordered n lines at₀ m₀ out at m =
     (m ≤ lines) × (length out ≡ length out₀) × (at + length (linesFrom c (1 + m) (lines - m)) ≡ at₀ + length (linesFrom c 1 lines))
     × (sets out at (linesFrom c (1 + m) (lines - m)) ≡ sets out₀ at₀ (linesFrom c 1 lines))
 
 abbrev μ-loop : tie.MeasureT-loop
-μ-loop out₀ c ordered n lines at₀ m₀ out at m = lines - m
+μ-loop out₀ c boxed ordered n lines at₀ m₀ out at m = lines - m
 
 abbrev grid-put : tie.At-loop Inv-loop μ-loop → tie.After-put-grid Inv-loop μ-loop
 grid-put l = l .before .before .before
 
 abbrev start : tie.At-loop Inv-loop μ-loop → tie.Start Inv-loop μ-loop
-start l = grid-put l .before .before .before .before .before .before .before .before
+start l = grid-put l .before .before .before .before .before .before .before .before .before
 
 abbrev lines-told : tie.At-loop Inv-loop μ-loop → tie.After-lines-behind Inv-loop μ-loop
 lines-told l = grid-put l .before .before
 
-most-lines : (l : tie.At-loop Inv-loop μ-loop) → lines-told l .lines-behind .result ≤ 2 * start l .args .c .window .count + 1
+most-lines : (l : tie.At-loop Inv-loop μ-loop) → lines-told l .lines-behind .result ≤ 2 * start l .args .c .window .count + 2
 most-lines l =
     let a = start l .args .c in
-    omega (arith, lines-told l .lines-behind .ensures, few-lines (a .order .stood) (a .window .count))
+    omega (arith, lines-told l .lines-behind .ensures, few-lines (a .bounds .stood) (a .order .stood) (a .window .count))
 
 len : (c : tie.After-line-len Inv-loop μ-loop)
-    → (let l = c .before .before .before in let a = start l .args .c in c .line-len .result ≡ lenOf a (partAt (a .order .stood) (a .window .count) (l .loop .m)))
+    → (let l = c .before .before .before in let a = start l .args .c in c .line-len .result ≡ lenOf a (partAt (a .bounds .stood) (a .order .stood) (a .window .count) (l .loop .m)))
 len c =
     let q = c .before in
     let l = q .before .before in
@@ -56,7 +56,7 @@ lines-behind-requires c κs = search needs
 
 put-grid-requires : tie.Need-put-grid-requires Inv-loop μ-loop
 put-grid-requires c κs =
-    let s = c .before .before .before .before .before .before .before in
+    let s = c .before .before .before .before .before .before .before .before in
     let told = c .before .lines-behind in
     (s .pre .0 .dims, omega (arith, s .pre .1, all-length (s .args .c) (s .pre .0 .dims) (s .pre .0 .some) (s .pre .0 .most) (told .result) (told .ensures)))
 
@@ -64,7 +64,7 @@ loop-holds : tie.Need-loop-holds Inv-loop μ-loop
 loop-holds c = (search needs, search needs, rw sub-zero, rw sub-zero)
 
 part-at-requires : tie.Need-part-at-requires Inv-loop μ-loop
-part-at-requires c κs = omega (arith, c .loop-test .taken, most-lines (c .before))
+part-at-requires c κs = (start (c .before) .pre .0 .most, omega (arith, c .loop-test .taken, most-lines (c .before)))
 
 line-len-requires : tie.Need-line-len-requires Inv-loop μ-loop
 line-len-requires c κs = search needs
@@ -75,7 +75,7 @@ row-requires c κs =
     let l = q .before .before in
     let a = start l .args .c in
     let n = a .window .count in
-    (start l .pre .0 .most, subst (λ (p : Part). Inside n p) (sym (q .part-at .ensures)) (inside (a .order .stood) n (l .loop .m)))
+    (start l .pre .0 .most, subst (λ (p : Part). Inside n p) (sym (q .part-at .ensures)) (inside (a .bounds .stood) (a .order .stood) n (l .loop .m)))
 
 put-frame-requires : tie.Need-put-frame-requires Inv-loop μ-loop
 put-frame-requires c κs =
@@ -85,7 +85,7 @@ put-frame-requires c κs =
     let s = start l in
     let a = s .args .c in
     let told = lines-told l .lines-behind in
-    let f = fit a (partAt (a .order .stood) (a .window .count) (l .loop .m)) (s .pre .0 .dims) (s .pre .0 .most) in (
+    let f = fit a (partAt (a .bounds .stood) (a .order .stood) (a .window .count) (l .loop .m)) (s .pre .0 .dims) (s .pre .0 .most) in (
       omega (arith, len k, f .0, f .1),
       omega (
         arith,

@@ -12,26 +12,26 @@ use Rattle.sheet_writer.proofs.sheet_len.Statement.{statement}
 use Rattle.sheet_writer.proofs.sheet_len.Tie as tie
 
 abbrev Inv-loop : tie.InvT-loop
-Inv-loop c ordered n lines total₀ m₀ total m =
+Inv-loop c boxed ordered n lines total₀ m₀ total m =
     (m ≤ lines) × (total ≤ (2 * kept + 1) * (m + 1)) × (total + length (linesFrom c (1 + m) (lines - m)) ≡ total₀ + length (linesFrom c 1 lines))
 
 abbrev μ-loop : tie.MeasureT-loop
-μ-loop c ordered n lines total₀ m₀ total m = lines - m
+μ-loop c boxed ordered n lines total₀ m₀ total m = lines - m
 
 abbrev start : tie.At-loop Inv-loop μ-loop → tie.Start Inv-loop μ-loop
-start l = l .before .before .before .before .before .before .before
+start l = l .before .before .before .before .before .before .before .before
 
 abbrev lines-told : tie.At-loop Inv-loop μ-loop → tie.After-lines-behind Inv-loop μ-loop
 lines-told l = l .before .before
 
-most-lines : (l : tie.At-loop Inv-loop μ-loop) → lines-told l .lines-behind .result ≤ 2 * start l .args .c .window .count + 1
+most-lines : (l : tie.At-loop Inv-loop μ-loop) → lines-told l .lines-behind .result ≤ 2 * start l .args .c .window .count + 2
 most-lines l =
     let a = start l .args .c in
-    omega (arith, lines-told l .lines-behind .ensures, few-lines (a .order .stood) (a .window .count))
+    omega (arith, lines-told l .lines-behind .ensures, few-lines (a .bounds .stood) (a .order .stood) (a .window .count))
 
 -- A line is short, and adds its length.
 len : (c : tie.After-line-len Inv-loop μ-loop)
-    → (let l = c .before .before .before in let a = start l .args .c in c .line-len .result ≡ lenOf a (partAt (a .order .stood) (a .window .count) (l .loop .m)))
+    → (let l = c .before .before .before in let a = start l .args .c in c .line-len .result ≡ lenOf a (partAt (a .bounds .stood) (a .order .stood) (a .window .count) (l .loop .m)))
 len c =
     let q = c .before in
     let l = q .before .before in
@@ -42,7 +42,7 @@ short c =
     let l = c .before .before .before in
     let s = start l in
     let a = s .args .c in
-    let f = fit a (partAt (a .order .stood) (a .window .count) (l .loop .m)) (s .pre .dims) (s .pre .most) in
+    let f = fit a (partAt (a .bounds .stood) (a .order .stood) (a .window .count) (l .loop .m)) (s .pre .dims) (s .pre .most) in
     omega (arith, len c, f .0, f .1)
 
 cast-n : tie.Need-cast-n Inv-loop μ-loop
@@ -55,16 +55,16 @@ grid-len-requires : tie.Need-grid-len-requires Inv-loop μ-loop
 grid-len-requires c κs = search needs
 
 mul-total : tie.Need-mul-total Inv-loop μ-loop
-mul-total c = omega (arith, c .grid-len .ensures, c .before .before .before .before .before .before .pre .dims)
+mul-total c = omega (arith, c .grid-len .ensures, c .before .before .before .before .before .before .before .pre .dims)
 
 add-total : tie.Need-add-total Inv-loop μ-loop
-add-total c = omega (arith, c .grid-len .ensures, c .before .before .before .before .before .before .pre .dims)
+add-total c = omega (arith, c .grid-len .ensures, c .before .before .before .before .before .before .before .pre .dims)
 
 loop-holds : tie.Need-loop-holds Inv-loop μ-loop
-loop-holds c = (search needs, omega (arith, c .grid-len .ensures, c .before .before .before .before .before .before .pre .dims), rw sub-zero)
+loop-holds c = (search needs, omega (arith, c .grid-len .ensures, c .before .before .before .before .before .before .before .pre .dims), rw sub-zero)
 
 part-at-requires : tie.Need-part-at-requires Inv-loop μ-loop
-part-at-requires c κs = omega (arith, c .loop-test .taken, most-lines (c .before))
+part-at-requires c κs = (start (c .before) .pre .most, omega (arith, c .loop-test .taken, most-lines (c .before)))
 
 line-len-requires : tie.Need-line-len-requires Inv-loop μ-loop
 line-len-requires c κs = search needs

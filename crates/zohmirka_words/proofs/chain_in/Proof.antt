@@ -37,6 +37,9 @@ count-in-requires-2 c κs = search needs
 offsets-in-requires : tie.Need-offsets-in-requires
 offsets-in-requires c κs = search needs
 
+bounds-in-requires : tie.Need-bounds-in-requires
+bounds-in-requires c κs = search needs
+
 capacities-in-requires : tie.Need-capacities-in-requires
 capacities-in-requires c κs = search needs
 
@@ -59,11 +62,13 @@ returns-2 : tie.Need-returns-2
 returns-2 c =
     let ord = c .before .before .before .before in
     let cap = ord .before in
-    let off = cap .before in
+    let box = cap .before in
+    let off = box .before in
     let cnt = off .before in
     let dim = cnt .before .before .before .before .before .before in
     let i = dim .before .before in
-    chain-of-words _ _ _ _ _ _ _ _ (i .if1 .left) (dim .count-in .ensures) refl (cnt .count-in2 .ensures) (off .offsets-in .ensures) (cap .capacities-in .ensures) (ord .order-in .ensures) (c .kernel-in .ensures)
+    chain-of-words _ _ _ _ _ _ _ _ _ (i .if1 .left) (dim .count-in .ensures) refl (cnt .count-in2 .ensures) (off .offsets-in .ensures) (cap .capacities-in .ensures) (box .bounds-in .ensures)
+    (ord .order-in .ensures) (c .kernel-in .ensures)
 
 pub chain-in-spec : {M : Type 1} → statement M
 chain-in-spec =
@@ -80,6 +85,7 @@ chain-in-spec =
     shared-slice-read-count-in-2
     count-in-requires-2
     offsets-in-requires
+    bounds-in-requires
     capacities-in-requires
     order-in-requires
     shared-slice-read-kernel-in-3

@@ -97,7 +97,9 @@ fn any_words(dice: &mut Dice) -> Vec<u32> {
         change(dice, &mut words);
     }
     if dice.one_in(30) {
-        words.truncate(dice.below(CHAIN_WORDS));
+        // Also what earlier versions of the interface took for a chain.
+        let length = dice.below(CHAIN_WORDS);
+        words.truncate(dice.pick(&[length, length, 168, 201]));
     }
     if dice.one_in(10) {
         words.extend((0..dice.below(20)).map(|_| dice.word()));
@@ -122,7 +124,10 @@ fn past_counts(dice: &mut Dice, words: &mut [u32]) {
         words[167] = dice.word();
     }
     let terms = if words[168] == 0 { 0 } else { n };
-    words[169 + terms..].fill_with(|| dice.word());
+    words[169 + terms..201].fill_with(|| dice.word());
+    let ends = if words[201] == 0 { 0 } else { dims };
+    words[202 + ends..206].fill_with(|| dice.word());
+    words[206 + ends..210].fill_with(|| dice.word());
     for k in 0..4 * n {
         // The high half of an entry.
         words[6 + k] |= (dice.word() & dice.word()) << 16;
@@ -130,7 +135,7 @@ fn past_counts(dice: &mut Dice, words: &mut [u32]) {
 }
 
 fn change(dice: &mut Dice, words: &mut [u32]) {
-    match dice.below(11) {
+    match dice.below(13) {
         0 => words[0] = dice.pick(&[0, 1, 2, 3, 4, 5, 255, 256, 257, u32::MAX]),
         1 => words[1 + dice.below(4)] = dice.pick(&[0, 1, 2, 5, 1024, 1_048_577, u32::MAX]),
         2 => words[5] = dice.pick(&[0, 1, 2, 31, 32, 33, 255, 256, 257, 258, u32::MAX]),
@@ -156,6 +161,16 @@ fn change(dice: &mut Dice, words: &mut [u32]) {
         9 => {
             let n = (words[5] as usize).clamp(1, 32);
             words.swap(169 + dice.below(n), 169 + dice.below(n));
+        }
+        10 => words[201] = dice.pick(&[0, 1, 2, 256, 1 << 31, u32::MAX]),
+        11 => {
+            // An index of the box, a step up or down or any other.
+            let k = dice.pick(&[202, 206]) + dice.below((words[0] as usize).clamp(1, 4));
+            words[k] = match dice.below(4) {
+                0 => words[k].wrapping_add(1),
+                1 => words[k].wrapping_sub(1),
+                _ => dice.pick(&[0, 1, 2, u32::MAX, 0x7FFF_FFFF, 1 << 31, 0x8000_0001]),
+            };
         }
         _ => {
             let k = dice.below(words.len());

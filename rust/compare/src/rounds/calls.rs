@@ -155,7 +155,7 @@ fn strange_state(dice: &mut Dice, chain: &Chain, state: &mut [u32], earlier: &[u
 
 /// Counters as 11 asks for them, whether a run reaches them or not; at times one step outside.
 fn made_up(dice: &mut Dice, chain: &Chain, state: &mut [u32]) {
-    let shape = Shape::new(&chain.grid, &chain.window);
+    let shape = Shape::of_run(chain);
     let n = shape.count;
     let fired = match dice.below(4) {
         0 => shape.iterations,

@@ -84,7 +84,7 @@ pub fn chain(round: &mut Round) -> Result<(), Differs> {
         _ => draft.chain_text(),
     };
     spoil(dice, &mut text);
-    let room = dice.pick(&[CHAIN_WORDS, CHAIN_WORDS, CHAIN_WORDS - 1, 0, 240, 168]);
+    let room = dice.pick(&[CHAIN_WORDS, CHAIN_WORDS, CHAIN_WORDS - 1, 0, 240, 168, 201]);
     round.note_text("chain", &text);
     round.note("words lent", || format!("{room}"));
 

@@ -5,15 +5,15 @@ use crate::native;
 use crate::round::{Differs, Round};
 use crate::tally::Function;
 use crate::words::{chain_of, CHAIN_WORDS};
-use straight::judge::{judge_kernel, MOST_PLACES};
-use straight::{Order, Steps};
+use straight::judge::{judge_box, judge_kernel, MOST_PLACES};
+use straight::{Bounds, Order, Steps};
 use zohmirka::SHEET_BYTES;
 
 /// Up to so many iterations all are looked at; of more the first, the last and `SOME`.
 const FEW: i64 = 200;
 const SOME: usize = 10;
 
-/// The steps of a request beside what document 01 says of them, also where 7, 8 or 9 turn it back; then the library's answer beside the steps.
+/// The steps of a request beside what document 01 says of them, also where 15, 7, 8 or 9 turn it back; then the library's answer beside the steps.
 pub fn steps(round: &mut Round) -> Result<(), Differs> {
     let (draft, request) = loop {
         let draft = Draft::unplanned(&mut round.dice);
@@ -29,7 +29,8 @@ pub fn steps(round: &mut Round) -> Result<(), Differs> {
     round.tally.count(Function::Plan, planned);
     round.same("plan: refusal", &wrote.refusal, &planned)?;
 
-    let steps = match straight::steps(&request.grid, &request.window) {
+    // In every iteration, in the box or not.
+    let steps = match straight::steps(&request.grid, &request.window, &Bounds::none()) {
         Ok(steps) => steps,
         Err(refusal) => {
             let refusal = refusal.number() as u32;
@@ -47,7 +48,10 @@ pub fn steps(round: &mut Round) -> Result<(), Differs> {
     round.holds("total: the sum", steps.total == sum)?;
 
     let above = steps.total > MOST_PLACES;
-    let refusal = match judge_kernel(&request.grid, &request.window, &request.kernel) {
+    let (grid, window) = (&request.grid, &request.window);
+    let judged = judge_box(grid, window, &request.bounds)
+        .and_then(|()| judge_kernel(grid, window, &request.kernel));
+    let refusal = match judged {
         Err(refusal) => refusal.number() as u32,
         Ok(()) if above => 9,
         Ok(()) => 0,
@@ -62,6 +66,7 @@ pub fn steps(round: &mut Round) -> Result<(), Differs> {
     round.same("read_chain", &read, &0)?;
     let chain = chain_of(&words);
     round.same("window", &chain.window, &steps.window)?;
+    round.same("box", &chain.bounds, &request.bounds)?;
     round.same("order", &chain.order, &Order::new(&steps.filters))?;
     round.same_at("capacities", chain.given(), &steps.distances)
 }
@@ -121,13 +126,7 @@ fn position(sizes: &[u32], iteration: &[i64], offset: &[i16]) -> i64 {
 
 /// All iterations, or the first, the last and some.
 fn iterations(dice: &mut Dice, draft: &Draft) -> Vec<Vec<i64>> {
-    let ends = |d: usize| {
-        let entries = draft.offsets.iter().map(|offset| offset[d] as i64);
-        let low = entries.clone().map(|entry| -entry).max().unwrap();
-        let high = entries.map(|entry| draft.sizes[d] as i64 - 1 - entry).min();
-        (low, high.unwrap())
-    };
-    let ends: Vec<(i64, i64)> = (0..draft.sizes.len()).map(ends).collect();
+    let ends = draft.iterations();
     let count: i64 = ends.iter().map(|(low, high)| high - low + 1).product();
     if count > FEW {
         let first = ends.iter().map(|&(low, _)| low).collect();

@@ -11,9 +11,12 @@ grid-requires c κs = search needs
 listed-requires : tie.Need-listed-requires
 listed-requires c κs = search needs
 
+bounds-requires : tie.Need-bounds-requires
+bounds-requires c κs = search needs
+
 returns : tie.Need-returns
 unfolding requestOf
-returns c = rw (c .listed .ensures, c .before .grid .ensures) refl
+returns c = rw (c .bounds .ensures, c .before .listed .ensures, c .before .before .grid .ensures) refl
 
 pub request-spec : {M : Type 1} → statement M
-request-spec = tie.close (tie.spec grid-requires listed-requires returns)
+request-spec = tie.close (tie.spec grid-requires listed-requires bounds-requires returns)

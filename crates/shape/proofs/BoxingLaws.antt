@@ -1,0 +1,384 @@
+-- Laws of a box in its arrays: when 15 holds, and the shape of its iterations.
+use Prim.Native.Nat.{ℕ, zero, suc, _+_, _-_, _*_, _≤_, _<_}
+use mathlib.Core.Bool.{Bool, true, false, true≢false}
+use mathlib.Core.List.{List, [], _∷_, map}
+use mathlib.Core.Path.{_≡_, refl, sym, _∙_, ap, ap₂}
+use native.Mathlib.Decide.{decLt}
+use native.Mathlib.Nat.{le-trans}
+use native.Mathlib.Omega.{arith}
+use lib.Dec.{ltb}
+use lib.IntN.{ℤ, pos, negsuc, negℤ, _+ℤ_, +ℤ-negℤ-cancel, -ℤ-+ℤ-cancel}
+use lib.ListN.{length, getD, List·getD-eq-default}
+use lib.Signed.{mag, ltZ, leZ}
+use mir.Syntax.{w32}
+use mir.Val.{toZ, ofZ}
+use mir.Facts.{toZ-ofZ}
+use borrow.Author.Tests.{ltb-true, leb-true, leb-false, eqb-false, lt-ltb, le-ltb}
+use Rattle.model.specs.Lists.{tabulate, sum, product}
+use Rattle.model.specs.Vectors.{above, plus}
+use Rattle.model.specs.Geometry.{place, position, least, lows, extent, extents, iterationCount, iteration, reads, Course, count, vector, allIterations}
+use Rattle.model.specs.Boxes.{indexCount, widths, boxCourse, course, crossed, badBox}
+use Rattle.model.specs.Boxes.Part.{box}
+use Rattle.model.specs.Windows.{relative}
+use Rattle.model.specs.Answers.{firstOf}
+use Rattle.model.specs.Values.{sizesOf, offsetOf, offsetsOf, partOf}
+use Rattle.model.specs.Iterations.{courseOf}
+use Rattle.model.specs.Judging.{mostCells, badGrid, badCount, noIteration, windowChecks}
+use Rattle.model.specs.declared.Bounds.{Bounds}
+use Rattle.model.specs.declared.Grid.{Grid}
+use Rattle.model.specs.declared.Refusal.the-variants as refusal
+use Rattle.model.specs.declared.Verdict.the-variants as verdict
+use Rattle.model.specs.declared.Window.{Window}
+use Rattle.model.specs.Sized.{Bounded}
+use Rattle.model.proofs.Tests.{neither}
+use Rattle.model.proofs.ListLaws.{length-tabulate, getD-tabulate}
+use Rattle.model.proofs.IntegerLaws.{sub-small, sub-large, above-back, sum-above, sum-at-least, leZ-trans, not-ltZ, leZ-ltZ, above-order, above-chain}
+use Rattle.model.proofs.PlaceLaws.{Below, AtLeast}
+use Rattle.model.proofs.PlaceLaws.AtLeast.{none, next}
+use Rattle.model.proofs.ChainLaws.{offsets-count, offsets-sized}
+use Rattle.model.proofs.BoxLaws.{index-count, within-fits, iteration-within, corners}
+use Rattle.model.proofs.CourseLaws.{course-some}
+use Rattle.model.proofs.CourseLaws as run
+use Rattle.geometry.specs.Parts.{part, numberAt, entryAt, entriesIn, Filled, Lows, Small}
+use Rattle.geometry.proofs.PartLaws.{tabulate-same, map-tabulate, part-all}
+use Rattle.geometry.proofs.FillLaws.{filled-all}
+use Rattle.geometry.proofs.GridLaws.{few-dimensions, few-cells, some-references, few-references}
+use Rattle.shape.specs.Shapes.{stride, shapeFor, unsurveyedOf, surveyOf, Whole}
+use Rattle.shape.specs.Boxing.{indexIn, firstAt, lastAt, LiesIn, PlacedIn}
+use Rattle.shape.specs.declared.Shape.{Shape}
+use Rattle.shape.specs.declared.Survey.{Survey}
+use Rattle.shape.specs.declared.boxed.Placed.{Placed}
+use Rattle.shape.proofs.PlacingLaws.{part-at-most, stride-behind, place-by-strides}
+use Rattle.shape.proofs.ShapeLaws.{extents-by-dimension, lows-by-dimension, relative-by-dimension, small-sizes, nothing-read}
+
+abbrev notNegative : ℤ → Bool
+notNegative (pos n) = true
+notNegative (negsuc n) = false
+
+-- An index below the extent is what it lies above the first iteration's.
+pub index-inside : (x low : ℤ) (e : ℕ) → indexIn x low e < e → (leZ (negℤ low) x ≡ true) × (above x (negℤ low) < e) × (indexIn x low e ≡ above x (negℤ low))
+unfolding indexIn
+index-inside x low e h = go (leZ (negℤ low) x) (ltb (above x (negℤ low)) e) refl refl
+  where
+    go : (s t : Bool) → leZ (negℤ low) x ≡ s → ltb (above x (negℤ low)) e ≡ t → (leZ (negℤ low) x ≡ true) × (above x (negℤ low) < e) × (indexIn x low e ≡ above x (negℤ low))
+    go true true p q = (p, ltb-true _ _ q, rw (p, q))
+    go true false p q = absurd (omega (arith, rw (p, q) at h))
+    go false t p q = absurd (omega (arith, rw p at h))
+
+pub inside-index : (x low : ℤ) (e : ℕ) → leZ (negℤ low) x ≡ true → above x (negℤ low) < e → indexIn x low e ≡ above x (negℤ low)
+unfolding indexIn
+inside-index x low e p h = rw (p, lt-ltb (above x (negℤ low)) e h)
+
+-- An index is read back from its bits.
+pub index-back : (x : ℤ) → mag x < 2147483648 → toZ w32 (ofZ w32 x) ≡ x
+index-back x h = toZ-ofZ {w = w32} {z = x} (record { sfits = h })
+
+-- An index of 32 bits and a low of 16 add up to what 64 bits hold.
+pub small-sum : (x low : ℤ) → mag x < 2147483648 → mag low < 32768 → mag (x +ℤ low) < 9223372036854775808
+small-sum (pos a) (pos b) h k = omega arith
+small-sum (pos a) (negsuc b) h k = go (decLt a (suc b))
+  where
+    go : Dec (a < suc b) → mag (pos a +ℤ negsuc b) < 9223372036854775808
+    go (yes d) = rw (sub-small a (suc b) d) (omega arith)
+    go (no d) = rw (sub-large a (suc b) (omega arith)) (omega arith)
+small-sum (negsuc a) (pos b) h k = go (decLt b (suc a))
+  where
+    go : Dec (b < suc a) → mag (negsuc a +ℤ pos b) < 9223372036854775808
+    go (yes d) = rw (sub-small b (suc a) d) (omega arith)
+    go (no d) = rw (sub-large b (suc a) (omega arith)) (omega arith)
+small-sum (negsuc a) (negsuc b) h k = omega arith
+
+-- An index is at most the extent.
+pub index-small : (x low : ℤ) (e : ℕ) → indexIn x low e ≤ e
+unfolding indexIn
+index-small x low e = go (leZ (negℤ low) x) (ltb (above x (negℤ low)) e) refl refl
+  where
+    go : (s t : Bool) → leZ (negℤ low) x ≡ s → ltb (above x (negℤ low)) e ≡ t → indexIn x low e ≤ e
+    go true true p q = rw (p, q) (omega (arith, ltb-true (above x (negℤ low)) e q))
+    go true false p q = rw (p, q) (omega arith)
+    go false t p q = rw p (omega arith)
+
+-- What index and low add up to: a number that is not negative is how far the index lies above the first iteration's.
+sum-inside : (x low : ℤ) (m : ℕ) → x +ℤ low ≡ pos m → (leZ (negℤ low) x ≡ true) × (above x (negℤ low) ≡ m)
+sum-inside x low m e =
+    let d : x ≡ pos m +ℤ negℤ low = sym (+ℤ-negℤ-cancel x low) ∙ ap (λ (z : ℤ). z +ℤ negℤ low) e in
+    rw d (sum-at-least m (negℤ low), sum-above m (negℤ low))
+
+sum-outside : (x low : ℤ) (m : ℕ) → x +ℤ low ≡ negsuc m → leZ (negℤ low) x ≡ false
+sum-outside x low m e = go (leZ (negℤ low) x) refl
+  where
+    back : leZ (negℤ low) x ≡ true → x +ℤ low ≡ pos (above x (negℤ low))
+    back p =
+        ap (λ (z : ℤ). z +ℤ low) (sym (above-back x (negℤ low) p)) ∙ -ℤ-+ℤ-cancel (pos (above x (negℤ low))) low
+
+    go : (t : Bool) → leZ (negℤ low) x ≡ t → t ≡ false
+    go true p = absurd (true≢false (ap notNegative (sym (back p) ∙ e)))
+    go false p = refl
+
+pub index-before : (x low : ℤ) (e : ℕ) → ltZ (x +ℤ low) (pos 0) ≡ true → e ≡ indexIn x low e
+unfolding indexIn
+index-before x low e h = go (x +ℤ low) refl h
+  where
+    go : (z : ℤ) → x +ℤ low ≡ z → ltZ z (pos 0) ≡ true → e ≡ indexIn x low e
+    go (pos m) d t = absurd (omega (arith, ltb-true m 0 t))
+    go (negsuc m) d t = rw (sum-outside x low m d)
+
+pub index-past : (x low : ℤ) (e : ℕ) → ltZ (x +ℤ low) (pos 0) ≡ false → leZ (pos e) (x +ℤ low) ≡ true → e ≡ indexIn x low e
+unfolding indexIn
+index-past x low e h k = go (x +ℤ low) refl h k
+  where
+    go : (z : ℤ) → x +ℤ low ≡ z → ltZ z (pos 0) ≡ false → leZ (pos e) z ≡ true → e ≡ indexIn x low e
+    go (pos m) d t u =
+        let (p, q) = sum-inside x low m d in
+        rw (p, le-ltb (above x (negℤ low)) e (omega (arith, q, leb-true e m u)))
+    go (negsuc m) d t u = absurd (true≢false t)
+
+pub index-there : (x low : ℤ) (e : ℕ) → ltZ (x +ℤ low) (pos 0) ≡ false → leZ (pos e) (x +ℤ low) ≡ false → x +ℤ low ≡ pos (indexIn x low e)
+unfolding indexIn
+index-there x low e h k = go (x +ℤ low) refl h k
+  where
+    go : (z : ℤ) → x +ℤ low ≡ z → ltZ z (pos 0) ≡ false → leZ (pos e) z ≡ false → z ≡ pos (indexIn x low e)
+    go (pos m) d t u =
+        let (p, q) = sum-inside x low m d in
+        rw (p, lt-ltb (above x (negℤ low)) e (omega (arith, q, leb-false e m u))) (ap pos (sym q))
+    go (negsuc m) d t u = absurd (true≢false t)
+
+-- Lists that are given entry by entry.
+at-least-by : (n : ℕ) (f g : ℕ → ℤ) → ((d : ℕ) → d < n → leZ (f d) (g d) ≡ true) → AtLeast (tabulate n f) (tabulate n g)
+unfolding tabulate
+at-least-by zero f g h = none
+at-least-by (suc n) f g h = next (h 0 (omega arith)) (at-least-by n (λ i. f (suc i)) (λ i. g (suc i)) (λ d b. h (suc d) (omega arith)))
+
+each-at-least : (n : ℕ) (f g : ℕ → ℤ) → AtLeast (tabulate n f) (tabulate n g) → (d : ℕ) → d < n → leZ (f d) (g d) ≡ true
+unfolding tabulate
+each-at-least zero f g a d h = absurd (omega arith)
+each-at-least (suc n) f g (next p a) zero h = p
+each-at-least (suc n) f g (next p a) (suc d) h = each-at-least n (λ i. f (suc i)) (λ i. g (suc i)) a d (omega arith)
+
+below-by : (n : ℕ) (e x : ℕ → ℕ) → ((d : ℕ) → d < n → x d < e d) → Below (tabulate n e) (tabulate n x)
+unfolding tabulate
+below-by zero e x h = tt
+below-by (suc n) e x h = (h 0 (omega arith), below-by n (λ i. e (suc i)) (λ i. x (suc i)) (λ d b. h (suc d) (omega arith)))
+
+each-below : (n : ℕ) (e x : ℕ → ℕ) → Below (tabulate n e) (tabulate n x) → (d : ℕ) → d < n → x d < e d
+unfolding tabulate
+each-below zero e x b d h = absurd (omega arith)
+each-below (suc n) e x b zero h = b .0
+each-below (suc n) e x b (suc d) h = each-below n (λ i. e (suc i)) (λ i. x (suc i)) (b .1) d (omega arith)
+
+uncrossed-by : (n : ℕ) (l h : ℕ → ℤ) → ((d : ℕ) → d < n → ltZ (h d) (l d) ≡ false) → crossed (tabulate n l) (tabulate n h) ≡ false
+unfolding tabulate crossed
+uncrossed-by zero l h f = refl
+uncrossed-by (suc n) l h f = rw (f 0 (omega arith)) (uncrossed-by n (λ i. l (suc i)) (λ i. h (suc i)) (λ d b. f (suc d) (omega arith)))
+
+each-uncrossed : (n : ℕ) (l h : ℕ → ℤ) → crossed (tabulate n l) (tabulate n h) ≡ false → (d : ℕ) → d < n → ltZ (h d) (l d) ≡ false
+unfolding tabulate crossed
+each-uncrossed zero l h e d b = absurd (omega arith)
+each-uncrossed (suc n) l h e zero b = neither (ltZ (h 0) (l 0)) (crossed (tabulate n (λ i. l (suc i))) (tabulate n (λ i. h (suc i)))) e .0
+each-uncrossed (suc n) l h e (suc d) b = each-uncrossed n (λ i. l (suc i)) (λ i. h (suc i)) (neither (ltZ (h 0) (l 0)) (crossed (tabulate n (λ i. l (suc i))) (tabulate n (λ i. h (suc i)))) e .1) d (omega arith)
+
+widths-by : (n : ℕ) (l h : ℕ → ℤ) → widths (tabulate n l) (tabulate n h) ≡ tabulate n (λ d. indexCount (l d) (h d))
+unfolding tabulate widths
+widths-by zero l h = refl
+widths-by (suc n) l h = ap (_∷_ (indexCount (l 0) (h 0))) (widths-by n (λ i. l (suc i)) (λ i. h (suc i)))
+
+-- A grid and a window that neither 3 nor 4 turns back, and bounds that stood; the lows and the extents in arrays.
+module _ (g : Grid) (w : Window) (x : Bounds) (a : badGrid (g .dims) (sizesOf g) ≡ false) (b : badCount (w .count) ≡ false) (ls : List ℤ) (l : Lows (g .dims) (w .count) (w .offsets) ls)
+    (xs : List ℕ) (e : xs ≡ tabulate 4 (λ d. getD (extents (sizesOf g) (offsetsOf (g .dims) w)) d 0)) where
+  abbrev sizes : List ℕ
+  sizes = sizesOf g
+
+  abbrev offsets : List (List ℤ)
+  offsets = offsetsOf (g .dims) w
+
+  -- In dimension d: the window's low, the extent, the lowest and the highest index.
+  abbrev lowIn : ℕ → ℤ
+  lowIn d = least (entriesIn (w .count) (w .offsets) d)
+
+  abbrev extentIn : ℕ → ℕ
+  extentIn d = extent (numberAt (g .sizes) d) (entriesIn (w .count) (w .offsets) d)
+
+  abbrev lowestIn : ℕ → ℤ
+  lowestIn d = getD (x .lowest) d (pos 0)
+
+  abbrev highestIn : ℕ → ℤ
+  highestIn d = getD (x .highest) d (pos 0)
+
+  abbrev lowest : List ℤ
+  lowest = tabulate (g .dims) lowestIn
+
+  abbrev highest : List ℤ
+  highest = tabulate (g .dims) highestIn
+
+  extents-are : extents sizes offsets ≡ tabulate (g .dims) extentIn
+  unfolding sizesOf offsetsOf offsetOf
+  extents-are = extents-by-dimension (w .count) (g .dims) (numberAt (g .sizes)) (entryAt (w .offsets))
+
+  negated-lows : map negℤ (lows sizes offsets) ≡ tabulate (g .dims) (λ d. negℤ (lowIn d))
+  unfolding sizesOf offsetsOf offsetOf
+  negated-lows = ap (map negℤ) (lows-by-dimension (w .count) (g .dims) (numberAt (g .sizes)) (entryAt (w .offsets))) ∙ map-tabulate negℤ (g .dims) lowIn
+
+  extent-is : (d : ℕ) → d < g .dims → numberAt xs d ≡ extentIn d
+  extent-is d h =
+      ap (λ (ys : List ℕ). numberAt ys d) e ∙ getD-tabulate 4 (λ i. getD (extents sizes offsets) i 0) d 0 (omega (arith, few-dimensions g a))
+      ∙ ap (λ (ys : List ℕ). getD ys d 0) extents-are ∙ getD-tabulate (g .dims) extentIn d 0 h
+
+  counted-from : (f : ℕ → ℤ) → relative (tabulate (g .dims) f) (map negℤ (lows sizes offsets)) ≡ tabulate (g .dims) (λ d. above (f d) (negℤ (lowIn d)))
+  counted-from f = ap (relative (tabulate (g .dims) f)) negated-lows ∙ relative-by-dimension (g .dims) f (λ d. negℤ (lowIn d))
+
+  -- Where the box lies among the iterations in dimension d.
+  pub record Lies (d : ℕ) : Type 0 where
+    pub low : leZ (negℤ (lowIn d)) (lowestIn d) ≡ true
+    pub rises : leZ (lowestIn d) (highestIn d) ≡ true
+    pub high : above (highestIn d) (negℤ (lowIn d)) < extentIn d
+    pub first : firstAt (x .lowest) (x .highest) ls xs d ≡ above (lowestIn d) (negℤ (lowIn d))
+    pub width : lastAt (x .lowest) (x .highest) ls xs d - firstAt (x .lowest) (x .highest) ls xs d + 1 ≡ indexCount (lowestIn d) (highestIn d)
+
+  lies : (d : ℕ) → d < g .dims → LiesIn (x .lowest) (x .highest) ls xs d → Lies d
+  lies d h r =
+      let (p, q, s) = index-inside (lowestIn d) (lowIn d) (numberAt xs d) (rw (l .done d h) at (r .first)) in
+      let (p₂, q₂, s₂) = index-inside (highestIn d) (lowIn d) (numberAt xs d) (rw (l .done d h) at (r .last)) in
+      let first : firstAt (x .lowest) (x .highest) ls xs d ≡ above (lowestIn d) (negℤ (lowIn d)) = rw (l .done d h) s in
+      let last : lastAt (x .lowest) (x .highest) ls xs d ≡ above (highestIn d) (negℤ (lowIn d)) = rw (l .done d h) s₂ in
+      let up = not-ltZ (highestIn d) (lowestIn d) (above-order (highestIn d) (lowestIn d) (negℤ (lowIn d)) p₂ p ∙ le-ltb (above (highestIn d) (negℤ (lowIn d))) (above (lowestIn d) (negℤ (lowIn d))) (omega (arith, r .rises, first, last))) in
+      record {
+        low = p;
+        rises = up;
+        high = omega (arith, q₂, extent-is d h);
+        first = first;
+        width = omega (arith, first, last, index-count (lowestIn d) (highestIn d) up, above-chain (highestIn d) (lowestIn d) (negℤ (lowIn d)) p up);
+      }
+
+  boundedBy : Bounded sizes (box lowest highest)
+  unfolding sizesOf
+  boundedBy = (length-tabulate (g .dims) _ ∙ sym (length-tabulate (g .dims) _), length-tabulate (g .dims) _ ∙ sym (length-tabulate (g .dims) _))
+
+  some : 0 < length offsets
+  some = omega (arith, offsets-count (g .dims) w, some-references w b)
+
+  -- 15 does not hold exactly if it does so in every dimension.
+  lies-fits : ((d : ℕ) → d < g .dims → LiesIn (x .lowest) (x .highest) ls xs d) → badBox sizes offsets (box lowest highest) ≡ false
+  lies-fits f =
+      within-fits sizes offsets (offsets-sized g w) some lowest highest boundedBy
+      (uncrossed-by (g .dims) lowestIn highestIn (λ d h. leZ-ltZ (lowestIn d) (highestIn d) (lies d h (f d h) .rises)))
+      (rw negated-lows (at-least-by (g .dims) (λ d. negℤ (lowIn d)) lowestIn (λ d h. lies d h (f d h) .low)))
+      (rw (counted-from highestIn, extents-are) (below-by (g .dims) extentIn (λ d. above (highestIn d) (negℤ (lowIn d))) (λ d h. lies d h (f d h) .high)))
+
+  fits-lies : badBox sizes offsets (box lowest highest) ≡ false → (d : ℕ) → d < g .dims → LiesIn (x .lowest) (x .highest) ls xs d
+  fits-lies f d h =
+      let (p, q, r) = corners sizes offsets (offsets-sized g w) some lowest highest boundedBy .0 f in
+      let at-low = iteration-within sizes offsets (offsets-sized g w) some lowest highest boundedBy lowest q .0 in
+      let at-high = iteration-within sizes offsets (offsets-sized g w) some lowest highest boundedBy highest r .1 in
+      let low = each-at-least (g .dims) (λ i. negℤ (lowIn i)) lowestIn (rw negated-lows at at-low) d h in
+      let high = each-below (g .dims) extentIn (λ i. above (highestIn i) (negℤ (lowIn i))) (rw (counted-from highestIn, extents-are) at at-high) d h in
+      let up = not-ltZ (highestIn d) (lowestIn d) (each-uncrossed (g .dims) lowestIn highestIn p d h) in
+      let chain = above-chain (highestIn d) (lowestIn d) (negℤ (lowIn d)) low up in
+      let first = inside-index (lowestIn d) (lowIn d) (extentIn d) low (omega arith) in
+      let last = inside-index (highestIn d) (lowIn d) (extentIn d) (leZ-trans (negℤ (lowIn d)) (lowestIn d) (highestIn d) low up) high in
+      record {
+        first = rw (l .done d h, extent-is d h) (omega (arith, first));
+        last = rw (l .done d h, extent-is d h) (omega (arith, last));
+        rises = rw (l .done d h, extent-is d h) (omega (arith, first, last));
+      }
+
+  stands : x .stood ≡ true → partOf (g .dims) x ≡ box lowest highest
+  unfolding partOf
+  stands t = rw t
+
+  -- 15.
+  pub refused-box : (m : ℕ) (s : Shape) (p : Placed) → Whole g w m s → x .stood ≡ true → PlacedIn (x .lowest) (x .highest) ls xs (g .dims) p → p .fits ≡ false → unsurveyedOf refusal.BadBox ≡ surveyOf g w x
+  unfolding surveyOf windowChecks firstOf
+  refused-box m s p k t r n = rw (k .grid, k .count, k .distinct, k .iterates, stands t, go (badBox sizes offsets (box lowest highest)) refl)
+    where
+      go : (u : Bool) → badBox sizes offsets (box lowest highest) ≡ u → badBox sizes offsets (box lowest highest) ≡ true
+      go true f = f
+      go false f = let (d, h, out) = r .outside n in absurd (out (fits-lies f d h))
+
+  -- A box that lies among the iterations.
+  module _ (m : ℕ) (s : Shape) (p : Placed) (k : Whole g w m s) (t : x .stood ≡ true) (r : PlacedIn (x .lowest) (x .highest) ls xs (g .dims) p) (y : p .fits ≡ true) where
+    abbrev c : Course
+    c = boxCourse lowest highest
+
+    fits : badBox sizes offsets (box lowest highest) ≡ false
+    fits = lies-fits (r .inside y)
+
+    listed : 0 < count c
+    unfolding course noIteration
+    listed = course-some sizes offsets (box lowest highest) fits (omega (arith, eqb-false (iterationCount sizes offsets) 0 (k .iterates)))
+
+    -- Its widths in an array.
+    width-is : (d : ℕ) → d < g .dims → numberAt (p .widths) d ≡ indexCount (lowestIn d) (highestIn d)
+    width-is d h = r .widths y .done d h ∙ lies d h (r .inside y d h) .width
+
+    pub small-widths : Small (p .widths) (g .dims)
+    unfolding extent
+    small-widths d =
+        le-trans (part-at-most (numberAt (p .widths)) (numberAt (g .sizes)) d (g .dims)
+        (λ i h. let z = lies i h (r .inside y i h) in omega (arith, width-is i h, index-count (lowestIn i) (highestIn i) (z .rises), above-chain (highestIn i) (lowestIn i) (negℤ (lowIn i)) (z .low) (z .rises), z .high)))
+        (small-sizes g w a b d)
+
+    count-is : product (part (numberAt (p .widths)) 0 (g .dims)) ≡ count c
+    unfolding count boxCourse
+    count-is =
+        ap product (part-all (numberAt (p .widths)) (g .dims) ∙ tabulate-same (g .dims) (numberAt (p .widths)) (λ d. indexCount (lowestIn d) (highestIn d)) width-is ∙ sym (widths-by (g .dims) lowestIn highestIn))
+
+    widths-are : p .widths ≡ tabulate 4 (λ d. getD (c .widths) d 0)
+    unfolding boxCourse
+    widths-are =
+        filled-all 4 0 (λ d. lastAt (x .lowest) (x .highest) ls xs d - firstAt (x .lowest) (x .highest) ls xs d + 1) (λ d. getD (widths lowest highest) d 0) (g .dims) (p .widths)
+        (λ d h. lies d h (r .inside y d h) .width ∙ sym (ap (λ (ws : List ℕ). getD ws d 0) by-dimension ∙ getD-tabulate (g .dims) wide d 0 h))
+        (λ d h. List·getD-eq-default (widths lowest highest) 0 (rw (by-dimension, length-tabulate (g .dims) wide) h)) (r .widths y)
+      where
+        wide : ℕ → ℕ
+        wide d = indexCount (lowestIn d) (highestIn d)
+
+        by-dimension : widths lowest highest ≡ tabulate (g .dims) wide
+        by-dimension = widths-by (g .dims) lowestIn highestIn
+
+    -- Its first iteration lies so many cells behind the first of all.
+    abbrev pub behind : ℕ
+    behind = sum (tabulate (g .dims) (λ d. numberAt (p .firsts) d * numberAt (s .strides) d))
+
+    behind-is : behind ≡ place sizes (relative lowest (map negℤ (lows sizes offsets)))
+    unfolding sizesOf shapeFor
+    behind-is =
+        ap sum (tabulate-same (g .dims) _ (λ d. above (lowestIn d) (negℤ (lowIn d)) * product (part (numberAt (g .sizes)) (d + 1) (g .dims)))
+        (λ d h. ap₂ _*_ (r .firsts y .done d h ∙ lies d h (r .inside y d h) .first) (stride-there d h)))
+        ∙ sym (place-by-strides (g .dims) (numberAt (g .sizes)) (λ d. above (lowestIn d) (negℤ (lowIn d)))) ∙ ap (place sizes) (sym (counted-from lowestIn))
+      where
+        stride-there : (d : ℕ) → d < g .dims → numberAt (s .strides) d ≡ product (part (numberAt (g .sizes)) (d + 1) (g .dims))
+        stride-there d h =
+            ap (λ (z : Shape). numberAt (z .strides) d) (k .shape-is) ∙ getD-tabulate 4 (λ i. stride sizes i) d 0 (omega (arith, few-dimensions g a)) ∙ stride-behind (g .dims) (numberAt (g .sizes)) d h
+
+    -- What each reference reads there.
+    reads-there : (i : ℕ) → i < w .count → numberAt (s .at) i + behind ≡ position sizes (plus (vector c 0) (getD offsets i []))
+    unfolding shapeFor reads iteration course boxCourse
+    reads-there i h =
+        let q : i < length offsets = omega (arith, offsets-count (g .dims) w) in
+        let whole = ap (λ (z : Shape). numberAt (z .at) i) (k .shape-is) ∙ getD-tabulate 32 (λ j. reads sizes offsets 0 j) i 0 (omega (arith, few-references w b)) in
+        omega (arith, whole, behind-is, run.first-reads sizes offsets (box lowest highest) (offsets-sized g w) some boundedBy fits i listed q)
+
+    pub reads-small : (i : ℕ) → i < w .count → numberAt (s .at) i + behind ≤ mostCells
+    unfolding course
+    reads-small i h =
+        let q : i < length offsets = omega (arith, offsets-count (g .dims) w) in
+        omega (arith, reads-there i h, few-cells g a, run.below-cells sizes offsets (box lowest highest) (offsets-sized g w) some boundedBy fits 0 i listed q)
+
+    pub behind-small : behind ≤ mostCells
+    behind-small = omega (arith, reads-small 0 (some-references w b))
+
+    pub accepted-box : (n : ℕ) (at : List ℕ) → n ≡ product (part (numberAt (p .widths)) 0 (g .dims)) → Filled 32 0 (λ i. numberAt (s .at) i + behind) (w .count) at
+        → _≡_ {A = Survey} (record { verdict = verdict.Accepted; centre = m; shape = record { cells = s .cells; iterations = n; extents = p .widths; strides = s .strides; at = at } }) (surveyOf g w x)
+    unfolding surveyOf windowChecks firstOf courseOf course shapeFor
+    accepted-box n at q f =
+        rw (k .grid, k .count, k .distinct, k .iterates, stands t, fits, k .centre-is, k .shape-is, q ∙ count-is, widths-are, positions)
+      where
+        positions : at ≡ tabulate 32 (λ i. position sizes (plus (vector c 0) (getD offsets i [])))
+        positions =
+            filled-all 32 0 (λ i. numberAt (s .at) i + behind) (λ i. position sizes (plus (vector c 0) (getD offsets i []))) (w .count) at reads-there
+            (λ i h. nothing-read sizes offsets (vector c 0) i (rw (offsets-count (g .dims) w) h)) f
+
+-- The extents of all iterations.
+pub extents-there : (g : Grid) (w : Window) (m : ℕ) (s : Shape) → Whole g w m s → s .extents ≡ tabulate 4 (λ d. getD (extents (sizesOf g) (offsetsOf (g .dims) w)) d 0)
+unfolding shapeFor allIterations
+extents-there g w m s k = ap (λ (z : Shape). z .extents) (k .shape-is)
