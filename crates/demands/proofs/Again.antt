@@ -26,7 +26,8 @@ use Rattle.run_laws.proofs.Ends.{no-clock}
 use Rattle.run_laws.proofs.Between.{Setting, Reached, now, beginning, ending, clocks, ran, counted-call, lent-length, after-reached, now-after}
 use Rattle.run_laws.proofs.CallEnds.{call-clocks, why, not-short, not-short-events, enough-ends, reported}
 use Rattle.run_laws.proofs.CallEnds as call
-use Rattle.demands.proofs.Finishing.{reports, setting, reached}
+use Rattle.demands.proofs.Stops.{reports}
+use Rattle.demands.proofs.Finishing.{setting, reached}
 
 module _ (S : Setting) (l : Lending) (b : Between) {es : List Bool} (r : Reached S b es) where
   open Setting S using (trimmed as t, proper as p, accepted as a, stream)

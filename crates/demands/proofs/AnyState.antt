@@ -229,7 +229,7 @@ module _ (c : Chain) (s : State) (l : Lent) (j : Judged (trimmed c) s (l .store)
   proper = trimmed-proper c
 
   abbrev ok : Accepted t
-  ok = accepted t (j .value)
+  ok = accepted t proper (j .value)
 
   abbrev start : Standing
   start = begun t s (l .store) (l .output)

@@ -11,7 +11,7 @@ use lib.ListN.{length, getD, length-map}
 use lib.IntN.{ℤ}
 use Rattle.model.specs.Lists.{tabulate, upTo, without, any}
 use Rattle.model.specs.Vectors.{plus, isZero}
-use Rattle.model.specs.Geometry.{position}
+use Rattle.model.specs.Grounds.{Ground, dims, position}
 use Rattle.model.specs.Sized.{Sized, Proper}
 use Rattle.model.specs.Values.{Trimmed, trimmed}
 use Rattle.model.specs.Iterations.{positionOf, iterationOf, readsOf}
@@ -66,13 +66,13 @@ same-others c d (suc n) f g vs ws t e =
 
 -- ---- a window in the author's order and in falling order
 
-module _ (sizes : List ℕ) (os : List (List ℤ)) (n : ℕ) (count : length os ≡ n) (stream : ℕ → ℕ) (u v : List ℤ) (same : u ≡ v) where
+module _ (g : Ground) (os : List (List ℤ)) (n : ℕ) (count : length os ≡ n) (stream : ℕ → ℕ) (u v : List ℤ) (same : u ≡ v) where
   -- The words of the author's references, and those of the filters, in one iteration.
   author : List ℕ
-  author = tabulate n (λ k. stream (position sizes (plus v (getD os k []))))
+  author = tabulate n (λ k. stream (position g (plus v (getD os k []))))
 
   chain : List ℕ
-  chain = tabulate n (λ k. stream (position sizes (plus u (getD (falling os) k []))))
+  chain = tabulate n (λ k. stream (position g (plus u (getD (falling os) k []))))
 
   order : ℕ → ℕ
   order i = getD (authorsOrder os) i 0
@@ -82,17 +82,17 @@ module _ (sizes : List ℕ) (os : List (List ℤ)) (n : ℕ) (count : length os 
   order-is = sym (tabulate-back 0 (authorsOrder os) n (λ i. getD (authorsOrder os) i 0) (length-authors os ∙ count) (λ i h. refl))
 
   -- A cell is read by the same offset, wherever it stands.
-  read-alike : (k l : ℕ) → getD (falling os) k [] ≡ getD os l [] → position sizes (plus u (getD (falling os) k [])) ≡ position sizes (plus v (getD os l []))
-  read-alike k l e = ap₂ (λ (w o : List ℤ). position sizes (plus w o)) same e
+  read-alike : (k l : ℕ) → getD (falling os) k [] ≡ getD os l [] → position g (plus u (getD (falling os) k [])) ≡ position g (plus v (getD os l []))
+  read-alike k l e = ap₂ (λ (w o : List ℤ). position g (plus w o)) same e
 
   -- The filter that byte i names is presented the word of the author's reference i,
   held : (i : ℕ) → i < n → getD chain (order i) 0 ≡ getD author i 0
   unfolding author chain order
   held i h =
       let b : i < length os = omega (arith, count) in
-      getD-tabulate n (λ k. stream (position sizes (plus u (getD (falling os) k [])))) (order i) 0 (omega (arith, authors-below os i b, count))
+      getD-tabulate n (λ k. stream (position g (plus u (getD (falling os) k [])))) (order i) 0 (omega (arith, authors-below os i b, count))
       ∙ ap stream (read-alike (order i) i (authors-hold os i b))
-      ∙ sym (getD-tabulate n (λ k. stream (position sizes (plus v (getD os k [])))) i 0 h)
+      ∙ sym (getD-tabulate n (λ k. stream (position g (plus v (getD os k [])))) i 0 h)
 
   -- and filter k that of the author's reference whose offset it holds.
   holds : (k : ℕ) → k < n → getD author (whichOf os (getD (falling os) k [])) 0 ≡ getD chain k 0
@@ -101,9 +101,9 @@ module _ (sizes : List ℕ) (os : List (List ℤ)) (n : ℕ) (count : length os 
       let b : k < length (falling os) = omega (arith, length-falling os, count) in
       let l = whichOf os (getD (falling os) k []) in
       let c : l < length os = which-below os (getD (falling os) k []) (falling-no-other os k b) in
-      getD-tabulate n (λ k. stream (position sizes (plus v (getD os k [])))) l 0 (omega (arith, count))
+      getD-tabulate n (λ k. stream (position g (plus v (getD os k [])))) l 0 (omega (arith, count))
       ∙ ap stream (sym (read-alike k l (sym (which-stands os (getD (falling os) k []) c))))
-      ∙ sym (getD-tabulate n (λ k. stream (position sizes (plus u (getD (falling os) k [])))) k 0 h)
+      ∙ sym (getD-tabulate n (λ k. stream (position g (plus u (getD (falling os) k [])))) k 0 h)
 
   -- Raw: in chain order.
   raw-words : wordsAt (upTo n) chain ≡ wordsAt (map (whichOf os) (falling os)) author
@@ -122,20 +122,20 @@ module _ (sizes : List ℕ) (os : List (List ℤ)) (n : ℕ) (count : length os 
   all-words = ap (λ (ks : List ℕ). wordsAt ks chain) order-is ∙ same-words n order (λ i. i) chain author held
 
   -- All but the centre, and the centre itself.
-  module _ (sized : Sized sizes os) (distinct : repeats os ≡ false) (has : any isZero os ≡ true) where
+  module _ (sized : Sized (dims g) os) (distinct : repeats os ≡ false) (has : any isZero os ≡ true) where
     other-words : wordsAt (without (centreOf (falling os)) (authorsOrder os)) chain ≡ wordsAt (without (centreOf os) (upTo n)) author
     unfolding upTo order
     other-words =
         ap (λ (ks : List ℕ). wordsAt (without (centreOf (falling os)) ks) chain) order-is
-        ∙ same-others (centreOf (falling os)) (centreOf os) n order (λ i. i) chain author (λ i h. same-centre sizes os sized distinct has i (omega (arith, count))) held
+        ∙ same-others (centreOf (falling os)) (centreOf os) n order (λ i. i) chain author (λ i h. same-centre (dims g) os sized distinct has i (omega (arith, count))) held
 
     centre-word : getD chain (centreOf (falling os)) 0 ≡ getD author (centreOf os) 0
     unfolding order
     centre-word =
-        ap (λ (k : ℕ). getD chain k 0) (sym (centre-held sizes os sized distinct has)) ∙ held (centreOf os) (omega (arith, authors-centre-below sizes os sized distinct has, count))
+        ap (λ (k : ℕ). getD chain k 0) (sym (centre-held (dims g) os sized distinct has)) ∙ held (centreOf os) (omega (arith, authors-centre-below (dims g) os sized distinct has, count))
 
   -- What a firing writes of the one and of the other.
-  written-alike : Sized sizes os → repeats os ≡ false → (k : Kernel) → lacksCentre k (centred os) ≡ false
+  written-alike : Sized (dims g) os → repeats os ≡ false → (k : Kernel) → lacksCentre k (centred os) ≡ false
       → written k (centreOf (falling os)) (terms k (centreOf (falling os)) (authorsOrder os)) (upTo n) chain
       ≡ written k (centreOf os) (terms k (centreOf os) (upTo n)) (map (whichOf os) (falling os)) author
   unfolding written terms difference scaled blend lacksCentre needsCentre
@@ -205,7 +205,7 @@ sorted-writes : (t : Trimmed) → Proper t → judged t ≡ verdict.Accepted →
 unfolding judged sorted wordsOf writtenBy termsOf filtersOf writesOf readsOf positionOf author chain
 sorted-writes t p e stream j =
     let q = value-passes t e in
-    written-alike (t .sizes) (t .offsets) (t .count) (p .references) stream (iterationOf (sorted t) j) (iterationOf t j)
+    written-alike (t .ground) (t .offsets) (t .count) (p .references) stream (iterationOf (sorted t) j) (iterationOf t j)
     (same-iteration (sorted t) t refl (falling-no-other (t .offsets)) (falling-each (t .offsets)) refl j) (p .entries) (q .window .distinct) (t .kernel) (q .kernel .centre)
 
 loop : (r : Request) → judgeRequest r ≡ verdict.Accepted → (stream : ℕ → ℕ) (j : ℕ) → wordsOf (trimmed (planOf r .chain)) stream j ≡ loopOf r stream j

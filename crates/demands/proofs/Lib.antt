@@ -1,5 +1,6 @@
 pub mod FullBox
 pub mod Iterations
+pub mod Stops
 pub mod Finishing
 pub mod HandedOn
 pub mod Timing

@@ -10,6 +10,8 @@ use lib.ListN.{length, getD, drop}
 use Rattle.model.specs.Lists.{tabulate, upTo}
 use Rattle.model.specs.Boxes.{Part}
 use Rattle.model.specs.Boxes.Part.{whole, box}
+use Rattle.model.specs.Grounds.{groundSizes}
+use Rattle.model.specs.Grounds.Ground.{rectangle}
 use Rattle.model.specs.Values.{Trimmed, sizesOf, offsetOf, offsetsOf, partOf, capacitiesOf, orderOf, trimmedOf, onGrid, trimmed, chainOf, blankChain, Same}
 use Rattle.model.specs.Answers.{check, firstOf, byVerdict}
 use Rattle.model.specs.Judging.{judged, judgeChain}
@@ -71,7 +73,7 @@ trimmed-alike : (g h : Grid) (v w : Window) (p q : Bounds) (xs ys : List ℕ) (s
     → trimmedOf g v p xs s os k ≡ trimmedOf h w q ys t ps l
 trimmed-alike g h v w p q xs ys s t os ps k l a b x capacities stood order kernel = λ i. record {
   dims = a .dims i;
-  sizes = sizes-alike g h a i;
+  ground = rectangle (sizes-alike g h a i);
   count = b .count i;
   offsets = offsets-alike (g .dims) (h .dims) v w (a .dims) b i;
   part = parts-alike (g .dims) (h .dims) p q (a .dims) x i;
@@ -141,7 +143,7 @@ boxFrom dims whole = []
 boxFrom dims (box lowest highest) = (8 ∷ flatMap (λ d. wordBytes (wordPattern (getD lowest d (pos 0))) ++ wordBytes (wordPattern (getD highest d (pos 0)))) (upTo dims)) ∷ []
 
 linesFrom : Trimmed → List (List ℕ)
-linesFrom t = (1 ∷ t .dims ∷ flatMap wordBytes (t .sizes)) ∷ (map offsetLine (t .offsets) ++ (boxFrom (t .dims) (t .part) ++ (map capacityLine (t .capacities) ++ (cond (t .ordered) ((6 ∷ t .order) ∷ []) [] ++ (kernelLine (t .kernel) ∷ [])))))
+linesFrom t = (1 ∷ t .dims ∷ flatMap wordBytes (groundSizes (t .ground))) ∷ (map offsetLine (t .offsets) ++ (boxFrom (t .dims) (t .part) ++ (map capacityLine (t .capacities) ++ (cond (t .ordered) ((6 ∷ t .order) ∷ []) [] ++ (kernelLine (t .kernel) ∷ [])))))
 
 writtenFrom : Trimmed → List ℕ → Written
 writtenFrom t output =

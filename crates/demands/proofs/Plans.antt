@@ -1,12 +1,13 @@
 -- Demand 2, of a plan: what planning gives.
-use Prim.Native.Nat.{ℕ, suc, _+_, _-_, _<_}
+use Prim.Native.Nat.{ℕ, suc, _+_, _-_, _≤_, _<_}
 use mathlib.Core.List.{List, [], _∷_}
 use mathlib.Core.Path.{_≡_, refl, _∙_}
 use native.Mathlib.Omega.{arith}
 use lib.ListN.{length, getD}
 use Rattle.model.specs.Lists.{sum}
+use Rattle.model.specs.Grounds.Ground.{rectangle}
 use Rattle.model.specs.Values.{Trimmed, sizesOf, offsetsOf, trimmed}
-use Rattle.model.specs.Iterations.{iterationsOf, readsOf, distanceOf}
+use Rattle.model.specs.Iterations.{positionOf, courseOf, iterationsOf, iterationOf, readsOf, distanceIn, distanceOf}
 use Rattle.model.specs.Judging.{judgeChain}
 use Rattle.model.specs.Running.{layout}
 use Rattle.model.specs.Steps.{distances, sorted}
@@ -14,6 +15,7 @@ use Rattle.model.specs.Planning.{trimmedRequest, judgeRequest, planOf}
 use Rattle.model.specs.declared.Request.{Request}
 use Rattle.model.specs.declared.Verdict.the-variants as verdict
 use Rattle.model.proofs.ListLaws.{getD-tabulate}
+use Rattle.model.proofs.Iterations.{falls, distance-most, distance-reached}
 use Rattle.model.proofs.SameWindows.{fewest-places}
 use Rattle.model.proofs.SortLaws.{length-falling, falling-each, falling-no-other, falling-falls}
 use Rattle.model.proofs.TermLaws.{length-authors, authors-below, authors-hold}
@@ -31,27 +33,40 @@ unfolding sum
 steps-sum at [] f = omega arith
 steps-sum at (s ∷ ss) f = omega (arith, f 0 (omega arith), steps-sum (λ k. at (suc k)) ss (λ k h. f (suc k) (omega arith)))
 
--- Of a planned value: the capacities are the reuse distances in every iteration, and their sum is that of the first and the last reference.
+-- Of a planned value: no iteration has a greater distance than the capacity, and one has it;
 module _ (t : Trimmed) (proper : Proper t) (ok : Accepted t) (p : Planned t) where
-  every-iteration : (j k : ℕ) → j < iterationsOf t → suc k < t .count
-      → readsOf t j k ≡ readsOf t j (suc k) + getD (t .capacities) k 0
-  unfolding layout
-  every-iteration j k h g = omega (arith, planned-layout t proper ok p .exact j k h g, wants-read t proper ok j k h, wants-read t proper ok j (suc k) h)
+  no-more : (j k : ℕ) → j < iterationsOf t → suc k < t .count → readsOf t j k ≤ readsOf t j (suc k) + getD (t .capacities) k 0
+  unfolding distanceIn
+  no-more j k h g = omega (arith, p k g .exact, distance-most t (fitting-of t proper ok) j k h g)
 
-  total-distance : (j : ℕ) → j < iterationsOf t
-      → readsOf t j 0 ≡ readsOf t j (t .count - 1) + sum (t .capacities)
-  total-distance j h =
-      rw (proper .fifos) at (steps-sum (readsOf t j) (t .capacities) (λ k b. every-iteration j k h (omega (arith, proper .fifos))))
+  one-has : (k : ℕ) → suc k < t .count → (j : ℕ) × (j < iterationsOf t) × (readsOf t j k ≡ readsOf t j (suc k) + getD (t .capacities) k 0)
+  unfolding distanceIn
+  one-has k g =
+      let f = fitting-of t proper ok in
+      let (j, h, e) = distance-reached t f k (ok .iterates) in
+      (j, h, omega (arith, p k g .exact, falls t f j k (suc k) h (omega arith) g .0 (p k g .falls)))
+
+  -- on a rectangle every iteration has it, and the capacities' sum is the distance of the first and the last reference.
+  module _ (sizes : List ℕ) (is : t .ground ≡ rectangle sizes) where
+    every-iteration : (j k : ℕ) → j < iterationsOf t → suc k < t .count
+        → readsOf t j k ≡ readsOf t j (suc k) + getD (t .capacities) k 0
+    unfolding layout
+    every-iteration j k h g = omega (arith, planned-layout t proper ok sizes is p .exact j k h g, wants-read t proper ok j k h, wants-read t proper ok j (suc k) h)
+
+    total-distance : (j : ℕ) → j < iterationsOf t
+        → readsOf t j 0 ≡ readsOf t j (t .count - 1) + sum (t .capacities)
+    total-distance j h =
+        rw (proper .fifos) at (steps-sum (readsOf t j) (t .capacities) (λ k b. every-iteration j k h (omega (arith, proper .fifos))))
 
 module _ (r : Request) (ok : judgeRequest r ≡ verdict.Accepted) where
   planned-pairs : Planned (sorted (trimmedRequest r))
-  unfolding judgeRequest trimmedRequest sorted distances distanceOf
+  unfolding judgeRequest trimmedRequest sorted distances distanceOf distanceIn readsOf positionOf iterationOf courseOf
   planned-pairs k g =
       let p = request-proper r in
       let os = offsetsOf (r .grid .dims) (r .window) in
       let n = length-falling os in
       record {
-        falls = falling-falls (sizesOf (r .grid)) os (p .entries) (no-repeats (trimmedRequest r) ok) k (omega (arith, p .references));
+        falls = falling-falls (length (sizesOf (r .grid))) os (p .entries) (no-repeats (trimmedRequest r) ok) k (omega (arith, p .references));
         exact = getD-tabulate (r .window .count - 1) _ k 0 (omega arith);
       }
 
@@ -60,11 +75,11 @@ module _ (r : Request) (ok : judgeRequest r ≡ verdict.Accepted) where
   planned-right =
       let t = sorted (trimmedRequest r) in
       let proper = sorted-proper (trimmedRequest r) (request-proper r) in
-      let good = accepted t (planned-judged r ok) in
+      let good = accepted t proper (planned-judged r ok) in
       let os = offsetsOf (r .grid .dims) (r .window) in
       record {
         dims = refl;
-        sizes = refl;
+        ground = refl;
         part = refl;
         kernel = refl;
         count = refl;
@@ -74,11 +89,12 @@ module _ (r : Request) (ok : judgeRequest r ≡ verdict.Accepted) where
         terms = length-authors os ∙ request-proper r .references;
         holds = λ i h. let b : i < length os = omega (arith, request-proper r .references) in (omega (arith, authors-below os i b, request-proper r .references), authors-hold os i b);
         planned = planned-pairs;
+        most = no-more t proper good planned-pairs;
+        reached = one-has t proper good planned-pairs;
         every = every-iteration t proper good planned-pairs;
         total = total-distance t proper good planned-pairs;
         least = λ c same right.
-            fewest-places t (trimmed c) (same .sizes) (same .each) (same .no-other) (same .part) (fitting-of t proper good) (trimmed-proper c) right 0 (good .iterates)
-            (total-distance t proper good planned-pairs 0 (good .iterates));
+            fewest-places t (trimmed c) (same .ground) (same .each) (same .no-other) (same .part) proper (trimmed-proper c) (fitting-of t proper good) (good .iterates) planned-pairs right;
       }
 
 pub plan-demand : PlanDemand

@@ -2,16 +2,18 @@
 use Prim.Native.Nat.{ℕ, suc, _+_, _-_, _<_}
 use mathlib.Core.Bool.{true}
 use mathlib.Core.List.{List, []}
-use mathlib.Core.Path.{_≡_, sym, _∙_, ap, ap₂, subst}
+use mathlib.Core.Path.{_≡_, refl, sym, _∙_, ap, ap₂, subst}
 use native.Mathlib.Omega.{arith}
 use lib.IntN.{ℤ}
 use lib.ListN.{length, getD}
 use Rattle.model.specs.Lists.{tabulate, sum}
 use Rattle.model.specs.Vectors.{plus, before}
-use Rattle.model.specs.Geometry.{position, iterationCount, iteration, reads, distance}
+use Rattle.model.specs.Grounds.{cellPlace, position}
+use Rattle.model.specs.Grounds.Ground.{rectangle}
+use Rattle.model.specs.Sized.{Sized, Fitting}
 use Rattle.model.specs.Windows.{Members}
-use Rattle.model.specs.Values.{sizesOf, offsetsOf, onGrid}
-use Rattle.model.specs.Iterations.{positionOf, isIterationOf}
+use Rattle.model.specs.Values.{Trimmed, sizesOf, offsetsOf, partOf, onGrid}
+use Rattle.model.specs.Iterations.{positionOf, isIterationOf, courseOf, iterationsOf, iterationOf, readsOf, distanceIn, distanceOf}
 use Rattle.model.specs.Judging.{judgeWindow}
 use Rattle.model.specs.Steps.{falling, authorsOrder, sorted, distances, total, stepsOf}
 use Rattle.model.specs.Planning.{planOf}
@@ -21,13 +23,19 @@ use Rattle.model.specs.declared.Steps.{Steps}
 use Rattle.model.specs.declared.Window.{Window}
 use Rattle.model.specs.declared.Verdict.the-variants as verdict
 use Rattle.model.proofs.ListLaws.{length-tabulate, getD-tabulate}
-use Rattle.model.proofs.Distances.{complete}
+use Rattle.model.proofs.Rectangles as rectangle
+use Rattle.model.proofs.Distances as window
+use Rattle.model.proofs.DistanceLaws.{rectangle-distance as by-sizes}
+use Rattle.model.proofs.WholeLaws.{rectangle-iteration}
+use Rattle.model.proofs.Iterations.{falls, distance-most, distance-reached, same-distance}
+use Rattle.model.proofs.SameWindows.{same-iterations, same-count, same-iteration}
 use Rattle.model.proofs.SortLaws.{falling-each, falling-no-other}
 use Rattle.model.proofs.TermLaws.{authors-below, authors-hold}
-use Rattle.model.proofs.ChainLaws.{offsets-count, offsets-sized}
+use Rattle.model.proofs.ChainLaws.{offsets-count}
 use Rattle.model.proofs.CheckLaws.{some-references, few-references}
 use Rattle.model.proofs.StepLaws as laws
 use Rattle.demands.specs.Steps as promised
+use Rattle.demands.proofs.Iterations.{enumerated}
 use Rattle.demands.proofs.Plans.{steps-sum}
 
 module _ (g : Grid) (w : Window) (x : Bounds) (e : judgeWindow g w x ≡ verdict.Accepted) where
@@ -63,26 +71,71 @@ module _ (g : Grid) (w : Window) (x : Bounds) (e : judgeWindow g w x ≡ verdict
 
   -- ---- Section 3.3.2: the distances of neighbours
 
-  -- An iteration has a number, and what is read in it goes by that.
-  numbered : (v : List ℤ) → isIterationOf (onGrid g w x) v ≡ true → (j : ℕ) × (j < iterationCount (sizesOf g) given) × (v ≡ iteration (sizesOf g) given j)
-  unfolding isIterationOf
-  numbered v h =
-      complete (sizesOf g) given (offsets-sized g w) v (omega (arith, offsets-count (g .dims) w, some-references (w .count) (laws.passed g w x e .count))) h
+  abbrev t : Trimmed
+  t = onGrid g w x
 
-  reads-are : (v : List ℤ) (j k : ℕ) → v ≡ iteration (sizesOf g) given j → promised.readBy g w x v k ≡ reads (sizesOf g) (falling given) j k
-  unfolding positionOf
-  reads-are v j k f = ap₂ (λ (u o : List ℤ). position (sizesOf g) (plus u o)) f (place-is k) ∙ laws.reads-there g w j k
+  abbrev arranged : Trimmed
+  arranged = sorted (onGrid g w x)
 
-  distance-is : (k : ℕ) → suc k < w .count → promised.distance g w x k ≡ distance (sizesOf g) (falling given) k
+  fit : Fitting (onGrid g w x)
+  fit = laws.given-fits g w x e
+
+  -- What is read in an iteration of the run goes by its number.
+  reads-are : (v : List ℤ) (j k : ℕ) → v ≡ iterationOf t j → promised.readBy g w x v k ≡ readsOf arranged j k
+  unfolding sorted positionOf readsOf
+  reads-are v j k f =
+      ap₂ (λ (u o : List ℤ). position (rectangle (sizesOf g)) (plus u o)) (f ∙ same-iteration t arranged refl (falling-each given) (falling-no-other given) refl j) (place-is k)
+
+  distance-is : (k : ℕ) → suc k < w .count → promised.distance g w x k ≡ distanceOf arranged k
   distance-is k h = ap (λ (s : Steps). getD (s .distances) k 0) (laws.steps-taken g w x e) ∙ laws.distance-there g w x e k h
 
+  -- In each iteration of the run the first of a pair reads a later position than the second.
+  reads-fall : (j k : ℕ) → j < iterationsOf arranged → suc k < w .count → readsOf arranged j (suc k) < readsOf arranged j k
+  unfolding sorted
+  reads-fall j k h b = falls arranged (laws.arranged-fits g w x e) j k (suc k) h (omega arith) b .0 (laws.arranged-falls g w x e k b)
+
+  same-number : iterationsOf arranged ≡ iterationsOf t
+  unfolding sorted
+  same-number = sym (same-count t arranged refl (falling-each given) (falling-no-other given) refl)
+
   distances-right : promised.Distances g w x
+  unfolding distanceIn sorted
   distances-right = record {
-    every = λ v k h b.
-        let (j, l, f) = numbered v h in
-        omega (arith, reads-are v j k f, reads-are v j (suc k) f, distance-is k b, laws.reads-apart g w x e j k l b);
-    some = λ k b. omega (arith, distance-is k b, laws.reads-apart g w x e 0 k (laws.some-given g w x e) b, laws.reads-fall g w x e 0 k (laws.some-given g w x e) b);
+    most = λ v k h b.
+        let (j, l, f) = enumerated t fit .no-other v h in
+        omega (arith, reads-are v j k f, reads-are v j (suc k) f, distance-is k b, distance-most arranged (laws.arranged-fits g w x e) j k (omega (arith, same-number)) b);
+    reached = λ k b.
+        let (j, l, d) = distance-reached arranged (laws.arranged-fits g w x e) k (laws.some-arranged g w x e) in (
+          iterationOf t j,
+          enumerated t fit .each j (omega (arith, same-number)),
+          omega (arith, reads-are (iterationOf t j) j k refl, reads-are (iterationOf t j) j (suc k) refl, distance-is k b, reads-fall j k l b),
+        );
+    some = λ k b.
+        let (j, l, d) = distance-reached arranged (laws.arranged-fits g w x e) k (laws.some-arranged g w x e) in
+        omega (arith, distance-is k b, reads-fall j k l b);
   }
+
+  -- On a rectangle they go by its sizes, and an iteration by its number among all.
+  rectangle-distance : (k : ℕ) → suc k < w .count → promised.distance g w x k ≡ rectangle.distance (sizesOf g) (falling given) k
+  unfolding sorted positionOf readsOf iterationOf courseOf iterationsOf
+  rectangle-distance k b =
+      let f = laws.arranged-fits g w x e in
+      let some = laws.some-arranged g w x e in
+      distance-is k b ∙ sym (same-distance arranged f (sizesOf g) refl 0 k some b)
+      ∙ by-sizes (sizesOf g) (falling given) (partOf (g .dims) x) (f .suits) 0 k some (omega (arith, f .references))
+
+  every-iteration : (v : List ℤ) (k : ℕ) → isIterationOf t v ≡ true → suc k < w .count → promised.readBy g w x v k ≡ promised.readBy g w x v (suc k) + promised.distance g w x k
+  unfolding isIterationOf positionOf position cellPlace rectangle.reads rectangle.position
+  every-iteration v k h b =
+      let os = falling given in
+      let n : length os ≡ w .count = laws.arranged-count g w in
+      let sized : Sized (length (sizesOf g)) os = λ i l. laws.arranged-sized g w i (omega arith) in
+      let (j, l, f) = window.complete (sizesOf g) os sized v (omega (arith, some-references (w .count) (laws.passed g w x e .count)))
+      (sym (rectangle-iteration (sizesOf g) os v) ∙ same-iterations (rectangle (sizesOf g)) given os (falling-no-other given) v h) in
+      let read : (k : ℕ) → promised.readBy g w x v k ≡ rectangle.reads (sizesOf g) os j k =
+      λ k. ap₂ (λ (u o : List ℤ). rectangle.position (sizesOf g) (plus u o)) f (place-is k) in
+      let fall = window.falls (sizesOf g) os sized j k (suc k) l (omega arith) (omega arith) .0 (laws.arranged-falls g w x e k b) in
+      omega (arith, read k, read (suc k), rectangle-distance k b, window.same-distance (sizesOf g) os sized j k l (omega arith))
 
   -- ---- Section 3.3.3: their sum
 
@@ -96,7 +149,7 @@ module _ (g : Grid) (w : Window) (x : Bounds) (e : judgeWindow g w x ≡ verdict
   unfolding total
   total-right = ap (λ (s : Steps). s .total) (laws.steps-taken g w x e) ∙ ap sum (sym listed-are)
 
-  first-to-last : promised.FirstToLast g w x
+  first-to-last : (v : List ℤ) → isIterationOf t v ≡ true → promised.readBy g w x v 0 ≡ promised.readBy g w x v (w .count - 1) + stepsOf g w x .total
   first-to-last v h =
       rw (length-tabulate (w .count - 1) (promised.distance g w x)) at (steps-sum (promised.readBy g w x v) listed apart)
       ∙ ap (λ (y : ℕ). promised.readBy g w x v (w .count - 1) + y) (sym total-right)
@@ -104,7 +157,7 @@ module _ (g : Grid) (w : Window) (x : Bounds) (e : judgeWindow g w x ≡ verdict
       apart : (k : ℕ) → k < length listed → promised.readBy g w x v k ≡ promised.readBy g w x v (suc k) + getD listed k 0
       apart k b =
           let l : k < w .count - 1 = rw length-tabulate at b in
-          distances-right .every v k h (omega arith) ∙ ap (λ (y : ℕ). promised.readBy g w x v (suc k) + y) (sym (getD-tabulate (w .count - 1) (promised.distance g w x) k 0 l))
+          every-iteration v k h (omega arith) ∙ ap (λ (y : ℕ). promised.readBy g w x v (suc k) + y) (sym (getD-tabulate (w .count - 1) (promised.distance g w x) k 0 l))
 
 -- A plan is the steps, what refuses, the chain.
 plans-by-steps : promised.PlansBySteps
@@ -116,4 +169,4 @@ plans-by-steps r = record {
 }
 
 pub paper-steps : promised.PaperSteps
-paper-steps = record { sorted = sorted-right; distances = distances-right; total = total-right; first-to-last = first-to-last; plans = plans-by-steps }
+paper-steps = record { sorted = sorted-right; distances = distances-right; total = total-right; rectangles = λ g w x sizes is e. record { every = every-iteration g w x e; first-to-last = first-to-last g w x e }; plans = plans-by-steps }

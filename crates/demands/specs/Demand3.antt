@@ -1,10 +1,11 @@
--- Demand 3: one statement about a whole list of calls (document 01, "Running", last paragraph).
+-- Demand 3: one statement about a whole list of calls (document 01, "Running", last paragraph; document 02, request 5).
 use Prim.Native.Nat.{ℕ, _+_, _≤_, _<_}
 use mathlib.Core.Bool.{Bool}
 use mathlib.Core.List.{List}
 use mathlib.Core.Logic.{_↔_}
 use mathlib.Core.Path.{_≡_}
 use lib.ListN.{length, getD}
+use Rattle.model.specs.Grounds.Ground.{rectangle}
 use Rattle.model.specs.Values.{trimmed}
 use Rattle.model.specs.Iterations.{iterationsOf, iterationOf, newestOf}
 use Rattle.model.specs.Judging.{judgeChain}
@@ -13,7 +14,7 @@ use Rattle.model.specs.CallLists.{Lending, Between, Fresh, LentEnough, FiresIn,
 use Rattle.model.specs.declared.Chain.{Chain}
 use Rattle.model.specs.declared.Outcome.the-variants as outcome
 use Rattle.model.specs.declared.Verdict.the-variants as verdict
-use Rattle.model.specs.Right.{Right, Planned}
+use Rattle.model.specs.Right.{Falls, Right, Planned, FirstBlocked}
 use Rattle.model.specs.Reports.{Reports, firingsOf, Each}
 use Rattle.demands.specs.Plan.{SameWindow}
 
@@ -48,10 +49,29 @@ module _ (q : ListOfCalls) where
     -- in that case no call of the list and not the last, whatever it is lent, reports Stalled.
     pub no-stall : Right (trimmed (q .chain)) → Each (λ r. Reports outcome.Stalled r → ⊥) runsOf × ((l : Lending) → Reports outcome.Stalled (oneMore l) → ⊥)
 
-  -- Otherwise no call makes a firing, and the one more, lent enough, reports Stalled.
+  -- The firings of the list and of one more call.
+  abbrev pub madeWith : Lending → ℕ
+  madeWith l = firingsMade runsOf + firingsOf (oneMore l)
+
+  -- "a shorter one makes every firing before the first that needs more, then stalls": every list, with one more call, makes at most B firings; lent enough, that call makes them exactly B
+  -- and, where these are not all, reports Stalled; and no call, whatever it is lent, reports Stalled before, or where they are all.
+  pub record StopsAt (B : ℕ) : Type 0 where
+    pub at-most : (l : Lending) → madeWith l ≤ B
+    pub exactly : (l : Lending) → LentEnough (trimmed (q .chain)) l handedOn → madeWith l ≡ B
+    pub stalled : B < iterationsOf (trimmed (q .chain)) → (l : Lending) → LentEnough (trimmed (q .chain)) l handedOn → Reports outcome.Stalled (oneMore l)
+    pub not-before : (l : Lending) → Reports outcome.Stalled (oneMore l) → (madeWith l ≡ B) × (B < iterationsOf (trimmed (q .chain)))
+
+  -- No call makes a firing, and the one more, lent enough, reports Stalled.
+  pub record NeverFires : Type 0 where
+    pub no-firing : Each (λ r. firingsOf r ≡ 0) runsOf × ((l : Lending) → firingsOf (oneMore l) ≡ 0)
+    pub stalled : (l : Lending) → LentEnough (trimmed (q .chain)) l handedOn → Reports outcome.Stalled (oneMore l)
+
+  -- A chain that is not right: where its offsets fall, there is a first iteration that needs more, and it stops at that; where they do not, it never fires; and on a rectangle it never fires.
   pub record Stalls : Type 0 where
-    pub no-firing : (Right (trimmed (q .chain)) → ⊥) → Each (λ r. firingsOf r ≡ 0) runsOf × ((l : Lending) → firingsOf (oneMore l) ≡ 0)
-    pub stalled : (Right (trimmed (q .chain)) → ⊥) → (l : Lending) → LentEnough (trimmed (q .chain)) l handedOn → Reports outcome.Stalled (oneMore l)
+    pub first : (Right (trimmed (q .chain)) → ⊥) → Falls (trimmed (q .chain)) → (B : ℕ) × FirstBlocked (trimmed (q .chain)) B × (B < iterationsOf (trimmed (q .chain)))
+    pub shorter : Falls (trimmed (q .chain)) → (B : ℕ) → FirstBlocked (trimmed (q .chain)) B → StopsAt B
+    pub disordered : (Falls (trimmed (q .chain)) → ⊥) → NeverFires
+    pub rectangular : (sizes : List ℕ) → trimmed (q .chain) .ground ≡ rectangle sizes → (Right (trimmed (q .chain)) → ⊥) → NeverFires
 
   -- Clocks are numbered from 0 through all calls: there is an event for each, and as many of them fire as firings are made.
   pub record Numbered : Type 0 where
@@ -67,8 +87,9 @@ module _ (q : ListOfCalls) where
   abbrev pub Indexed : Type 0
   Indexed = (j u : ℕ) → FiresIn eventsOf u j → j < iterationsOf (trimmed (q .chain))
 
-  -- On a planned chain the iterations fired by the list are exactly those whose newest cell has a position below the clocks made, and each fires in the clock that equals this position.
-  pub record OnTime : Type 0 where
+  -- "The firing clocks are promised for rectangles only": there, on a planned chain the iterations fired by the list are exactly those whose newest cell has a position below the clocks
+  -- made, and each fires in the clock that equals this position.
+  pub record OnTime (sizes : List ℕ) (is : trimmed (q .chain) .ground ≡ rectangle sizes) : Type 0 where
     pub fired : Planned (trimmed (q .chain)) → (j : ℕ) → j < iterationsOf (trimmed (q .chain)) → ((u : ℕ) × FiresIn eventsOf u j) ↔ (newestOf (trimmed (q .chain)) j < clocksMade runsOf)
     pub clock : Planned (trimmed (q .chain)) → (j u : ℕ) → FiresIn eventsOf u j → u ≡ newestOf (trimmed (q .chain)) j
 
@@ -79,6 +100,8 @@ pub record NotEarlier (p q : ListOfCalls) : Type 0 where
   pub same-iteration : SameWindow (trimmed (p .chain)) (trimmed (q .chain)) → (j : ℕ) → iterationOf (trimmed (p .chain)) j ≡ iterationOf (trimmed (q .chain)) j
   pub newest-first : SameWindow (trimmed (p .chain)) (trimmed (q .chain)) → (j u : ℕ) → FiresIn (eventsOf q) u j → newestOf (trimmed (p .chain)) j ≤ u
   pub planned-first : SameWindow (trimmed (p .chain)) (trimmed (q .chain)) → Planned (trimmed (p .chain)) → (j u v : ℕ) → FiresIn (eventsOf p) u j → FiresIn (eventsOf q) v j → u ≤ v
+  -- Indeed it fires in the planned chain's clock or never: where the planned chain's list made a clock of that number, that clock fires the iteration too.
+  pub same-clock : SameWindow (trimmed (p .chain)) (trimmed (q .chain)) → Planned (trimmed (p .chain)) → (j v : ℕ) → FiresIn (eventsOf q) v j → v < clocksMade (runsOf p) → FiresIn (eventsOf p) v j
 
 -- Demand 3.
 pub record Demand3 : Type 0 where
@@ -87,5 +110,5 @@ pub record Demand3 : Type 0 where
   pub numbered : (q : ListOfCalls) → Numbered q
   pub hands-on : (q : ListOfCalls) → HandsOn q
   pub indexed : (q : ListOfCalls) → Indexed q
-  pub on-time : (q : ListOfCalls) → OnTime q
+  pub on-time : (q : ListOfCalls) (sizes : List ℕ) (is : trimmed (q .chain) .ground ≡ rectangle sizes) → OnTime q sizes is
   pub not-earlier : (p q : ListOfCalls) → NotEarlier p q

@@ -1,17 +1,18 @@
--- Iterations, distances and cells, and numbers 6 and 15 (document 01, "Grid, window, distances"; document 02, request 4).
-use Prim.Native.Nat.{ℕ, suc, _+_, _-_, _<_}
+-- Iterations, distances and cells, and numbers 6 and 15 (document 01, "Grid, window, distances"; document 02, requests 4 and 5).
+use Prim.Native.Nat.{ℕ, suc, _+_, _-_, _≤_, _<_}
 use mathlib.Core.Bool.{true, false}
 use mathlib.Core.List.{List}
 use mathlib.Core.Logic.{_↔_}
 use mathlib.Core.Path.{_≡_}
 use lib.IntN.{ℤ}
 use Rattle.model.specs.Vectors.{before}
+use Rattle.model.specs.Grounds.Ground.{rectangle}
 use Rattle.model.specs.Boxes.{between, crossed, badBox, fullBox}
 use Rattle.model.specs.Boxes.Part.{whole, box}
 use Rattle.model.specs.Values.{Trimmed, sizesOf, offsetsOf, partOf, trimmed, setBounds}
-use Rattle.model.specs.Iterations.{cellsOf, isCellOf, positionOf, isIterationOf, coversOf, iterationsOf, iterationOf, readsOf, distanceOf}
+use Rattle.model.specs.Iterations.{cellsOf, isCellOf, positionOf, isIterationOf, coversOf, iterationsOf, iterationOf, readsOf, distanceIn, distanceOf}
 use Rattle.model.specs.Answers.{verdictNumber}
-use Rattle.model.specs.Judging.{badGrid, badCount, repeats, noIteration, judged, judgeChain}
+use Rattle.model.specs.Judging.{badGround, badCount, repeats, noIteration, judged, judgeChain}
 use Rattle.model.specs.Planning.{trimmedRequest}
 use Rattle.model.specs.Running.{runOf}
 use Rattle.model.specs.declared.Bounds.{Bounds}
@@ -29,7 +30,12 @@ module _ (t : Trimmed) where
     pub once : (i j : ℕ) → i < iterationsOf t → j < iterationsOf t → iterationOf t i ≡ iterationOf t j → i ≡ j
     pub in-order : (i j : ℕ) → i < j → j < iterationsOf t → before (iterationOf t i) (iterationOf t j) ≡ true
 
-  -- "This is the same in all iterations": of any two references, whichever reads further on, and of neighbours by the name of their distance.
+  -- The reuse distance is the largest over the iterations of a run: none has a greater one, and one has it.
+  pub record Largest : Type 0 where
+    pub most : (j k : ℕ) → j < iterationsOf t → suc k < t .count → distanceIn t j k ≤ distanceOf t k
+    pub reached : (k : ℕ) → suc k < t .count → (j : ℕ) × (j < iterationsOf t) × (distanceIn t j k ≡ distanceOf t k)
+
+  -- On a rectangle "This is the same in all iterations": of any two references, whichever reads further on, and of neighbours by the name of their distance.
   pub record SameDistance : Type 0 where
     pub pair : (i j k l : ℕ) → i < iterationsOf t → j < iterationsOf t → k < t .count → l < t .count → readsOf t i k + readsOf t j l ≡ readsOf t j k + readsOf t i l
     pub neighbours : (j k : ℕ) → j < iterationsOf t → suc k < t .count → readsOf t j k - readsOf t j (suc k) ≡ distanceOf t k
@@ -45,21 +51,21 @@ module _ (t : Trimmed) where
   abbrev pub Empty : Type 0
   Empty = (v : List ℤ) → isIterationOf t v ≡ false
 
-  -- "6: no iteration": where there is a reference its condition holds exactly if there is none, and where 3, 4 and 5 do not hold the answer is 6 exactly then.
+  -- "6: no iteration": where there is a reference its condition holds exactly if there is none, and where 3, 16, 4 and 5 do not hold the answer is 6 exactly then.
   pub record Number6 : Type 0 where
-    pub condition : badCount (t .count) ≡ false → noIteration (t .sizes) (t .offsets) ≡ true ↔ Empty
-    pub answer : badGrid (t .dims) (t .sizes) ≡ false → badCount (t .count) ≡ false → repeats (t .offsets) ≡ false → verdictNumber (judged t) ≡ 6 ↔ Empty
+    pub condition : badCount (t .count) ≡ false → noIteration (t .ground) (t .offsets) ≡ true ↔ Empty
+    pub answer : badGround (t .dims) (t .ground) ≡ false → badCount (t .count) ≡ false → repeats (t .offsets) ≡ false → verdictNumber (judged t) ≡ 6 ↔ Empty
 
   -- "15, a lowest above its highest, or an iteration of the box that reads outside the grid": never without a box; of a box, where there is a reference, its condition fails exactly if
-  -- no lowest is above its highest and each vector of the box is an iteration, and for that the two corners decide; where 3 to 6 do not hold the answer is 15 exactly if it holds.
+  -- no lowest is above its highest and each vector of the box is an iteration, and for that on a rectangle the two corners decide; where 3 to 6 and 16 do not hold the answer is 15 exactly if it holds.
   pub record Number15 : Type 0 where
-    pub none : t .part ≡ whole → badBox (t .sizes) (t .offsets) (t .part) ≡ false
+    pub none : t .part ≡ whole → badBox (t .ground) (t .offsets) (t .part) ≡ false
     pub condition : (lowest highest : List ℤ) → t .part ≡ box lowest highest → badCount (t .count) ≡ false
-        → badBox (t .sizes) (t .offsets) (t .part) ≡ false ↔ ((crossed lowest highest ≡ false) × ((v : List ℤ) → between lowest highest v ≡ true → isIterationOf t v ≡ true))
-    pub corners : (lowest highest : List ℤ) → t .part ≡ box lowest highest → badCount (t .count) ≡ false
-        → badBox (t .sizes) (t .offsets) (t .part) ≡ false ↔ ((crossed lowest highest ≡ false) × (isIterationOf t lowest ≡ true) × (isIterationOf t highest ≡ true))
-    pub answer : badGrid (t .dims) (t .sizes) ≡ false → badCount (t .count) ≡ false → repeats (t .offsets) ≡ false → noIteration (t .sizes) (t .offsets) ≡ false
-        → verdictNumber (judged t) ≡ 15 ↔ badBox (t .sizes) (t .offsets) (t .part) ≡ true
+        → badBox (t .ground) (t .offsets) (t .part) ≡ false ↔ ((crossed lowest highest ≡ false) × ((v : List ℤ) → between lowest highest v ≡ true → isIterationOf t v ≡ true))
+    pub corners : (sizes : List ℕ) → t .ground ≡ rectangle sizes → (lowest highest : List ℤ) → t .part ≡ box lowest highest → badCount (t .count) ≡ false
+        → badBox (t .ground) (t .offsets) (t .part) ≡ false ↔ ((crossed lowest highest ≡ false) × (isIterationOf t lowest ≡ true) × (isIterationOf t highest ≡ true))
+    pub answer : badGround (t .dims) (t .ground) ≡ false → badCount (t .count) ≡ false → repeats (t .offsets) ≡ false → noIteration (t .ground) (t .offsets) ≡ false
+        → verdictNumber (judged t) ≡ 15 ↔ badBox (t .ground) (t .offsets) (t .part) ≡ true
 
 -- A chain without a box, and the same chain with a box that is the full one.
 pub record Filling (c : Chain) (b : Bounds) : Type 0 where
@@ -72,10 +78,12 @@ FullBoxRuns = (c : Chain) (b : Bounds) → Filling c b → judgeChain c ≡ verd
     → (judgeChain (setBounds b c) ≡ verdict.Accepted)
     × ((s : State) (store lent output : List ℕ) (allowance : ℕ) → runOf (setBounds b c) s store lent output allowance ≡ runOf c s store lent output allowance)
 
--- Iterations of every accepted chain, distances of every chain that 4 and 15 let pass, cells of every chain, numbers 6 and 15 of every chain and every request.
+-- Iterations and largest distances of every accepted chain, one distance on every rectangle that 4 and 15 let pass, cells of every chain, numbers 6 and 15 of every chain and every request.
 pub record Geometry : Type 0 where
   pub iterations : (c : Chain) → judgeChain c ≡ verdict.Accepted → Enumerated (trimmed c)
-  pub distances : (c : Chain) → badCount (c .window .count) ≡ false → badBox (trimmed c .sizes) (trimmed c .offsets) (trimmed c .part) ≡ false → SameDistance (trimmed c)
+  pub largest : (c : Chain) → judgeChain c ≡ verdict.Accepted → Largest (trimmed c)
+  pub distances : (c : Chain) (sizes : List ℕ) → trimmed c .ground ≡ rectangle sizes → badCount (c .window .count) ≡ false
+      → badBox (trimmed c .ground) (trimmed c .offsets) (trimmed c .part) ≡ false → SameDistance (trimmed c)
   pub cells : (c : Chain) → Placed (trimmed c)
   pub chain-6 : (c : Chain) → Number6 (trimmed c)
   pub request-6 : (r : Request) → Number6 (trimmedRequest r)

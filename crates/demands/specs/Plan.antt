@@ -1,11 +1,12 @@
 -- Demand 2, of a plan: the sorted window and the reuse distances, and the author's order.
 use Prim.Native.Nat.{ℕ, suc, _+_, _-_, _≤_, _<_}
 use mathlib.Core.Bool.{true}
-use mathlib.Core.List.{[]}
+use mathlib.Core.List.{List, []}
 use mathlib.Core.Path.{_≡_}
 use lib.ListN.{length, getD}
 use Rattle.model.specs.Lists.{sum}
 use Rattle.model.specs.Windows.{Members}
+use Rattle.model.specs.Grounds.Ground.{rectangle}
 use Rattle.model.specs.Values.{Trimmed, sizesOf, offsetsOf, partOf, trimmed}
 use Rattle.model.specs.Iterations.{iterationsOf, readsOf}
 use Rattle.model.specs.Judging.{judgeChain}
@@ -15,9 +16,9 @@ use Rattle.model.specs.declared.Request.{Request}
 use Rattle.model.specs.declared.Verdict.the-variants as verdict
 use Rattle.model.specs.Right.{Right, Planned}
 
--- Values of the same grid, box and window: the same sizes, the same box or none, and the same offsets in any order; capacities, orders and kernels as they like.
+-- Values of the same grid, box and window: the same cells, the same box or none, and the same offsets in any order; capacities, orders and kernels as they like.
 pub record SameWindow (t u : Trimmed) : Type 0 where
-  pub sizes : t .sizes ≡ u .sizes
+  pub ground : t .ground ≡ u .ground
   pub part : t .part ≡ u .part
   pub each : Members (t .offsets) (u .offsets)
   pub no-other : Members (u .offsets) (t .offsets)
@@ -26,7 +27,7 @@ pub record SameWindow (t u : Trimmed) : Type 0 where
 pub record PlanRight (r : Request) (t : Trimmed) : Type 0 where
   -- The grid, the box and the kernel are the request's: "Planning copies it", and where none stood there is none.
   pub dims : t .dims ≡ r .grid .dims
-  pub sizes : t .sizes ≡ sizesOf (r .grid)
+  pub ground : t .ground ≡ rectangle (sizesOf (r .grid))
   pub part : t .part ≡ partOf (r .grid .dims) (r .bounds)
   pub kernel : t .kernel ≡ r .kernel
   -- The offsets are the request's, as many, each once.
@@ -40,11 +41,14 @@ pub record PlanRight (r : Request) (t : Trimmed) : Type 0 where
       → (getD (t .order) i 0 < t .count) × (getD (t .offsets) (getD (t .order) i 0) [] ≡ getD (offsetsOf (r .grid .dims) (r .window)) i [])
   -- They fall, and the capacities are the reuse distances of neighbours,
   pub planned : Planned t
-  -- in every iteration;
-  pub every : (j k : ℕ) → j < iterationsOf t → suc k < t .count
+  -- which no iteration exceeds and one has: "the largest over all iterations, or over the box's where a box is given";
+  pub most : (j k : ℕ) → j < iterationsOf t → suc k < t .count → readsOf t j k ≤ readsOf t j (suc k) + getD (t .capacities) k 0
+  pub reached : (k : ℕ) → suc k < t .count → (j : ℕ) × (j < iterationsOf t) × (readsOf t j k ≡ readsOf t j (suc k) + getD (t .capacities) k 0)
+  -- on a rectangle every iteration has them,
+  pub every : (sizes : List ℕ) → t .ground ≡ rectangle sizes → (j k : ℕ) → j < iterationsOf t → suc k < t .count
       → readsOf t j k ≡ readsOf t j (suc k) + getD (t .capacities) k 0
-  -- their sum is the reuse distance of the first and the last reference.
-  pub total : (j : ℕ) → j < iterationsOf t
+  -- and their sum is the reuse distance of the first and the last reference.
+  pub total : (sizes : List ℕ) → t .ground ≡ rectangle sizes → (j : ℕ) → j < iterationsOf t
       → readsOf t j 0 ≡ readsOf t j (t .count - 1) + sum (t .capacities)
   -- No chain of the same grid, box and window, accepted or not, whose order and capacities are right has fewer places.
   pub least : (c : Chain) → SameWindow t (trimmed c) → Right (trimmed c) → sum (t .capacities) ≤ sum (trimmed c .capacities)

@@ -1,5 +1,5 @@
 -- The three steps of planning (document 003, section 3.3), each by itself, of every grid, window and box that 3 to 6 and 15 let pass: so also of a request that 7, 8 or 9 turns back.
-use Prim.Native.Nat.{ℕ, suc, _+_, _-_, _<_}
+use Prim.Native.Nat.{ℕ, suc, _+_, _-_, _≤_, _<_}
 use mathlib.Core.Bool.{true}
 use mathlib.Core.List.{List, []}
 use mathlib.Core.Path.{_≡_}
@@ -8,8 +8,9 @@ use lib.ListN.{getD}
 use Rattle.model.specs.Lists.{tabulate, sum}
 use Rattle.model.specs.Vectors.{plus, before}
 use Rattle.model.specs.Windows.{Members}
+use Rattle.model.specs.Grounds.Ground.{rectangle}
 use Rattle.model.specs.Values.{offsetsOf, onGrid}
-use Rattle.model.specs.Iterations.{positionOf, isIterationOf}
+use Rattle.model.specs.Iterations.{positionOf, isIterationOf, coversOf}
 use Rattle.model.specs.Answers.{byVerdict}
 use Rattle.model.specs.Judging.{centred, judgeWindow, judgeBehind}
 use Rattle.model.specs.Steps.{stepsOf}
@@ -50,20 +51,22 @@ module _ (g : Grid) (w : Window) (b : Bounds) where
     -- the author's reference i is held by the filter that is named.
     pub held : (i : ℕ) → i < w .count → (getD (steps .filters) i 0 < w .count) × (arranged (getD (steps .filters) i 0) ≡ given i)
 
-  -- Section 3.3.2: "the .. reuse distances of all the pairs of adjacent array references"
+  -- Section 3.3.2: "the maximum reuse distances of all the pairs of adjacent array references"
   pub record Distances : Type 0 where
-    -- In every iteration, inside the box and outside it, the pair's positions differ by the distance,
-    pub every : (v : List ℤ) (k : ℕ) → isIterationOf (onGrid g w b) v ≡ true → suc k < w .count → readBy v k ≡ readBy v (suc k) + distance k
-    -- which is at least 1.
+    -- In no iteration that a run covers the pair's positions differ by more than the distance, in one they differ by it,
+    pub most : (v : List ℤ) (k : ℕ) → coversOf (onGrid g w b) v ≡ true → suc k < w .count → readBy v k ≤ readBy v (suc k) + distance k
+    pub reached : (k : ℕ) → suc k < w .count → (v : List ℤ) × (coversOf (onGrid g w b) v ≡ true) × (readBy v k ≡ readBy v (suc k) + distance k)
+    -- and it is at least 1.
     pub some : (k : ℕ) → suc k < w .count → 0 < distance k
 
   -- Section 3.3.3: "the sum of the sizes of all the reuse FIFOs"
   abbrev pub Summed : Type 0
   Summed = steps .total ≡ sum (tabulate (w .count - 1) distance)
 
-  -- On a rectangle it "is equal to the maximum reuse distance between array reference A_0 and A_{n-1}".
-  abbrev pub FirstToLast : Type 0
-  FirstToLast = (v : List ℤ) → isIterationOf (onGrid g w b) v ≡ true → readBy v 0 ≡ readBy v (w .count - 1) + steps .total
+  -- On a rectangle they differ by the distance in every iteration, inside the box and outside it, and the sum "is equal to the maximum reuse distance between array reference A_0 and A_{n-1}".
+  pub record OnRectangle : Type 0 where
+    pub every : (v : List ℤ) (k : ℕ) → isIterationOf (onGrid g w b) v ≡ true → suc k < w .count → readBy v k ≡ readBy v (suc k) + distance k
+    pub first-to-last : (v : List ℤ) → isIterationOf (onGrid g w b) v ≡ true → readBy v 0 ≡ readBy v (w .count - 1) + steps .total
 
 abbrev pub StepOne : Type 0
 StepOne = (g : Grid) (w : Window) (b : Bounds) → judgeWindow g w b ≡ verdict.Accepted → Sorted g w b
@@ -75,7 +78,7 @@ abbrev pub StepThree : Type 0
 StepThree = (g : Grid) (w : Window) (b : Bounds) → judgeWindow g w b ≡ verdict.Accepted → Summed g w b
 
 abbrev pub OnRectangles : Type 0
-OnRectangles = (g : Grid) (w : Window) (b : Bounds) → judgeWindow g w b ≡ verdict.Accepted → FirstToLast g w b
+OnRectangles = (g : Grid) (w : Window) (b : Bounds) (sizes : List ℕ) → onGrid g w b .ground ≡ rectangle sizes → judgeWindow g w b ≡ verdict.Accepted → OnRectangle g w b
 
 -- A plan is these steps, then what refuses, then the chain.
 pub record PlannedBySteps (r : Request) (s : Steps) : Type 0 where
@@ -93,5 +96,5 @@ pub record PaperSteps : Type 0 where
   pub sorted : StepOne
   pub distances : StepTwo
   pub total : StepThree
-  pub first-to-last : OnRectangles
+  pub rectangles : OnRectangles
   pub plans : PlansBySteps

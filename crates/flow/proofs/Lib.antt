@@ -7,3 +7,5 @@ pub mod Bounds
 pub mod Timing
 pub mod Planned
 pub mod Laws
+pub mod Blocked
+pub mod Capacities

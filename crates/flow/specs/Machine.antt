@@ -1,10 +1,10 @@
 -- What the laws speak of: clocks made one after another, and what is asked of a layout and of counters. Definitions only.
 use Prim.Native.Nat.{ℕ, zero, suc, _+_, _≤_, _<_}
-use mathlib.Core.Bool.{Bool, cond, _&&_}
+use mathlib.Core.Bool.{Bool, true, cond, _&&_}
 use mathlib.Core.List.{List, [], _∷_}
 use mathlib.Core.Path.{_≡_}
 use lib.Dec.{ltb}
-use Rattle.model.specs.Clock.{Layout, Counters, next, moves}
+use Rattle.model.specs.Clock.{Layout, Counters, fires, next, moves, fresh}
 pub use Rattle.model.specs.Clock.{first}
 
 module _ (L : Layout) where
@@ -32,6 +32,14 @@ module _ (L : Layout) where
   pub record Ran (s : Counters) (t : ℕ) (s′ : Counters) : Type 0 where
     pub state : s′ ≡ run t s
     pub each : made t s ≡ t
+
+  -- Clock u, counted from 0 and from fresh counters, fires iteration j.
+  pub record Firing (u j : ℕ) : Type 0 where
+    pub now : Counters
+    pub ran : Ran (fresh L) u now
+    pub live : live now ≡ true
+    pub fires : fires L now ≡ true
+    pub fired : now .fired ≡ j
 
   -- There is a filter, and the positions that a reference reads rise from iteration to iteration and stay within the stream.
   pub record Lawful : Type 0 where

@@ -1,16 +1,18 @@
 -- A call goes on by the clock that is made: one law for each way that a turn of a loop over its clocks goes.
 use Prim.Native.Nat.{ℕ, zero, suc, _+_, _*_, _-_, _≤_, _<_}
-use mathlib.Core.Bool.{Bool, true, false}
-use mathlib.Core.List.{List, _∷_, map}
+use mathlib.Core.Bool.{Bool, true, false, cond}
+use mathlib.Core.List.{List, [], _∷_, _++_, map}
 use mathlib.Core.Path.{_≡_, refl, sym, _∙_, ap}
+use native.Mathlib.Nat.{add-mul, suc-mul}
 use native.Mathlib.Omega.{arith}
-use lib.Dec.{leb, eqb}
-use lib.ListN.{length, getD, drop, length-drop}
-use lib.Seq.{sets, getD-drop}
-use borrow.Author.Tests.{lt-ltb, le-ltb, le-leb, lt-leb, ne-eqb, leb-true, leb-false}
+use lib.Dec.{ltb, leb, eqb}
+use lib.ListN.{length, getD, take, drop, set, length-drop, length-append, take-append-drop}
+use lib.Seq.{sets, length-sets, getD-drop, take-at, drop-at, take-set-le, drop-set-add}
+use borrow.Author.Tests.{lt-ltb, le-ltb, le-leb, lt-leb, ne-eqb, ltb-true, ltb-false, leb-true, leb-false}
 use Rattle.model.specs.Clock.{Layout, first, fires, next, moves}
 use Rattle.model.specs.Store.{presented, stored}
 use Rattle.model.specs.Running.{Standing, Done, Spent, Starved, Stalled, Full, Look, goes, ends, Ended, byLook, words, clocked, look, call}
+use Rattle.run_laws.proofs.Looks.{Looked, is-going, along-call}
 use Rattle.loop_laws.specs.Passes.{Aligned, Places, flow, flowed, gets, puts}
 use Rattle.loop_laws.specs.Standings.{counting, stand, endedAt}
 use Rattle.loop_laws.proofs.AlignedLaws.{fires-yes, fires-no, next-fires, next-waits, moves-fires, moves-waits}
@@ -138,19 +140,52 @@ module _ (L : Layout) (write : List ℕ → List ℕ) (size : ℕ) (lent : List 
     unfolding s x
     aligned-fires t e r = call-fires t s more lends (moves-fires L f p ps here aligned e) (fires-yes L f p ps here aligned e) r ∙ ap (call L write size lent t) (fired e)
 
--- The counts of a call that began a cells and b clocks further on.
-abbrev pub later : (a b : ℕ) → Standing → Standing
-later a b s = record {
+-- Every firing had room for its words.
+module _ (L : Layout) (write : List ℕ → List ℕ) (size : ℕ) (lent : List ℕ) where
+  pub record Roomy (s : Standing) (e : Ended) : Type 0 where
+    pub same-length : length (e .standing .output) ≡ length (s .output)
+    pub room : s .done .firings * size ≤ length (s .output) → e .standing .done .firings * size ≤ length (s .output)
+
+  clocked-roomy : (t : ℕ) (s : Standing) (e : Ended) → Looked L write size lent (suc t) s goes → Roomy (clocked L write size lent s) e → Roomy s e
+  unfolding clocked
+  clocked-roomy t s e (is-going _ _ _ _ r) h = go (fires L (s .counters)) refl (write (words L write size lent s)) (h .same-length) (h .room)
+    where
+      go : (b : Bool) → fires L (s .counters) ≡ b → (ws : List ℕ)
+          → length (e .standing .output) ≡ length (cond b (sets (s .output) (s .done .firings * size) ws) (s .output))
+          → (cond b (suc (s .done .firings)) (s .done .firings) * size ≤ length (cond b (sets (s .output) (s .done .firings * size) ws) (s .output))
+          → e .standing .done .firings * size ≤ length (cond b (sets (s .output) (s .done .firings * size) ws) (s .output)))
+          → Roomy s e
+      go false f ws l g = record { same-length = l; room = g }
+      go true f ws l g =
+          let k = length-sets (s .output) (s .done .firings * size) ws in
+          record { same-length = l ∙ k; room = λ _. omega (arith, k, g (omega (arith, k, suc-mul (s .done .firings) size, r f))) }
+
+  pub call-room : (left : ℕ) (s : Standing) → Roomy s (call L write size lent left s)
+  call-room = along-call L write size lent (λ _ s e _. Roomy s e) (λ _ s e _. record { same-length = refl; room = λ h. h }) (λ t s e _ h ih. clocked-roomy t s e h ih)
+
+-- A part from o on that was written, back in its whole.
+pub sets-part : (l : List ℕ) (o i : ℕ) (vs : List ℕ) → take o l ++ sets (drop o l) i vs ≡ sets l (o + i) vs
+sets-part l o i [] = take-append-drop o l
+sets-part l o i (a ∷ vs) =
+    let e : o + suc i ≡ suc (o + i) = omega arith in
+    rw (← take-set-le o l (o + i) a (omega arith), ← drop-set-add o l i a) (sets-part (set l (o + i) a) o (suc i) vs ∙ rw e)
+
+sets-behind : (front out : List ℕ) (i : ℕ) (vs : List ℕ) → sets (front ++ out) (length front + i) vs ≡ front ++ sets out i vs
+sets-behind front out i vs = sym (rw (take-at front out (length front) refl, drop-at front out (length front) refl) at (sets-part (front ++ out) (length front) i vs))
+
+-- The counts and the output of a call that began a cells, b clocks and m firings further on, and whose output begins with `front`.
+abbrev pub later : (a b m : ℕ) (front : List ℕ) → Standing → Standing
+later a b m front s = record {
   counters = s .counters;
   store = s .store;
-  output = s .output;
-  done = record { cells = a + s .done .cells; firings = s .done .firings; clocks = b + s .done .clocks };
+  output = front ++ s .output;
+  done = record { cells = a + s .done .cells; firings = m + s .done .firings; clocks = b + s .done .clocks };
 }
 
-abbrev pub endedLater : (a b : ℕ) → Ended → Ended
-endedLater a b e = record { ending = e .ending; standing = later a b (e .standing) }
+abbrev pub endedLater : (a b m : ℕ) (front : List ℕ) → Ended → Ended
+endedLater a b m front e = record { ending = e .ending; standing = later a b m front (e .standing) }
 
-module _ (L : Layout) (write : List ℕ → List ℕ) (size : ℕ) (lent : List ℕ) (a b : ℕ) (within : a ≤ length lent) where
+module _ (L : Layout) (write : List ℕ → List ℕ) (size : ℕ) (lent front : List ℕ) (a b m : ℕ) (within : a ≤ length lent) (wrote : length front ≡ m * size) where
   open Layout L using (wants, capacity, filters, cells, iterations)
 
   same-starved : (i : ℕ) → leb (length lent) (a + i) ≡ leb (length (drop a lent)) i
@@ -160,24 +195,48 @@ module _ (L : Layout) (write : List ℕ → List ℕ) (size : ℕ) (lent : List 
       go true e = le-leb (length lent) (a + i) (omega (arith, leb-true (length (drop a lent)) i e, length-drop a lent))
       go false e = lt-leb (length lent) (a + i) (omega (arith, leb-false (length (drop a lent)) i e, length-drop a lent))
 
-  look-later : (t : ℕ) (s : Standing) → look L write size lent t (later a b s) ≡ look L write size (drop a lent) t s
-  unfolding look
-  look-later t s = rw (same-starved (s .done .cells))
+  place : (i : ℕ) → (m + i) * size ≡ length front + i * size
+  place i = add-mul m i size ∙ ap (λ (x : ℕ). x + i * size) (sym wrote)
 
-  clocked-later : (s : Standing) → clocked L write size lent (later a b s) ≡ later a b (clocked L write size (drop a lent) s)
+  same-full : (out : List ℕ) (i : ℕ) → ltb (length (front ++ out)) ((m + i) * size + size) ≡ ltb (length out) (i * size + size)
+  same-full out i = go (ltb (length out) (i * size + size)) refl
+    where
+      go : (x : Bool) → ltb (length out) (i * size + size) ≡ x → ltb (length (front ++ out)) ((m + i) * size + size) ≡ x
+      go true e =
+          lt-ltb (length (front ++ out)) ((m + i) * size + size)
+          (omega (arith, place i, length-append front out, ltb-true (length out) (i * size + size) e))
+      go false e =
+          le-ltb (length (front ++ out)) ((m + i) * size + size)
+          (omega (arith, place i, length-append front out, ltb-false (length out) (i * size + size) e))
+
+  output-later : (x : Bool) (out ws : List ℕ) (i : ℕ)
+      → cond x (sets (front ++ out) ((m + i) * size) ws) (front ++ out) ≡ front ++ cond x (sets out (i * size) ws) out
+  output-later true out ws i = ap (λ (o : ℕ). sets (front ++ out) o ws) (place i) ∙ sets-behind front out (i * size) ws
+  output-later false out ws i = refl
+
+  firings-later : (x : Bool) (i : ℕ) → cond x (suc (m + i)) (m + i) ≡ m + cond x (suc i) i
+  firings-later true i = omega arith
+  firings-later false i = refl
+
+  look-later : (t : ℕ) (s : Standing) → look L write size lent t (later a b m front s) ≡ look L write size (drop a lent) t s
+  unfolding look
+  look-later t s = rw (same-starved (s .done .cells), same-full (s .output) (s .done .firings))
+
+  clocked-later : (s : Standing) → clocked L write size lent (later a b m front s) ≡ later a b m front (clocked L write size (drop a lent) s)
   unfolding clocked words
   clocked-later s =
       let w : getD lent (a + s .done .cells) 0 ≡ getD (drop a lent) (s .done .cells) 0 = sym (getD-drop a lent (s .done .cells) 0) in
       let d = first (next L (s .counters) .passed) - first (s .counters .passed) in
       let t : (a + s .done .cells) + d ≡ a + (s .done .cells + d) = omega arith in
       let k : suc (b + s .done .clocks) ≡ b + suc (s .done .clocks) = omega arith in
-      rw (w, t, k)
+      let ws = write (presented capacity 0 (getD (drop a lent) (s .done .cells) 0) (s .store) (s .counters .passed)) in
+      rw (w, t, k, output-later (fires L (s .counters)) (s .output) ws (s .done .firings), firings-later (fires L (s .counters)) (s .done .firings))
 
-  by-later : (l : Look) (s : Standing) (e e′ : Ended) → e ≡ endedLater a b e′ → byLook l (later a b s) e ≡ endedLater a b (byLook l s e′)
+  by-later : (l : Look) (s : Standing) (e e′ : Ended) → e ≡ endedLater a b m front e′ → byLook l (later a b m front s) e ≡ endedLater a b m front (byLook l s e′)
   by-later goes s e e′ h = h
   by-later (ends x) s e e′ h = refl
 
-  pub call-later : (t : ℕ) (s : Standing) → call L write size lent t (later a b s) ≡ endedLater a b (call L write size (drop a lent) t s)
+  pub call-later : (t : ℕ) (s : Standing) → call L write size lent t (later a b m front s) ≡ endedLater a b m front (call L write size (drop a lent) t s)
   unfolding call
   call-later zero s = rw (look-later zero s) (by-later (look L write size (drop a lent) zero s) s _ _ refl)
   call-later (suc t) s =

@@ -9,3 +9,4 @@ pub mod FillLaws
 pub mod GlideLaws
 pub mod WalkLaws
 pub mod RowLaws
+pub mod StretchLaws

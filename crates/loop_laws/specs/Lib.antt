@@ -2,3 +2,4 @@ pub mod Passes
 pub mod Sweeps
 pub mod Standings
 pub mod Tables
+pub mod Stretches

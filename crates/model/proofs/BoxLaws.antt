@@ -1,7 +1,7 @@
 -- Laws of a smaller box: its vectors, and when 15 does not hold.
-use Prim.Native.Nat.{ℕ, zero, suc, _+_, _-_, _<_}
+use Prim.Native.Nat.{ℕ, zero, suc, _<_}
 use mathlib.Core.Bool.{Bool, true, false, not, _&&_, _||_, and-eq-true-iff, true≢false}
-use mathlib.Core.List.{List, [], _∷_, map}
+use mathlib.Core.List.{List, [], _∷_}
 use mathlib.Core.Logic.{_↔_}
 use mathlib.Core.Path.{_≡_, refl, sym, _∙_, ap, ap₂}
 use native.Mathlib.Nat.{suc-inj}
@@ -9,22 +9,26 @@ use native.Mathlib.Decide.{ℕ-discrete}
 use native.Mathlib.Omega.{arith}
 use lib.Dec.{ltb}
 use lib.ListN.{length}
-use lib.IntN.{ℤ, pos, negℤ, _+ℤ_}
+use lib.IntN.{ℤ, pos, _+ℤ_}
 use lib.Signed.{ltZ, leZ}
 use borrow.Author.Tests.{le-ltb}
-use Rattle.model.specs.Lists.{someBelow, product, all}
-use Rattle.model.specs.Vectors.{above}
-use Rattle.model.specs.Geometry.{isIteration, lows, extents, iterationCount, iteration, indices, countedFrom, Course, count, vector, allIterations, place, cellCount}
-use Rattle.model.specs.Boxes.{between, indexCount, widths, boxCourse, crossed, readsOutside, badBox}
+use Rattle.model.specs.Lists.{someBelow}
+use Rattle.model.specs.Vectors.{above, plus}
+use Rattle.model.specs.Geometry.{countedFrom}
+use Rattle.model.specs.Grounds.{Ground, row, noRow, dims, cellAt, isIteration}
+use Rattle.model.specs.Grounds.Ground.{rectangle, rows}
+use Rattle.model.specs.Courses.{Course, count, vector}
+use Rattle.model.specs.Boxes.{between, indexCount, widths, equalRows, boxShape, boxCourse, crossed, readsOutside, badBox}
 use Rattle.model.specs.Boxes.Part.{whole, box}
 use Rattle.model.specs.Windows.{relative}
-use Rattle.model.specs.Sized.{Sized, Bounded}
+use Rattle.model.specs.Sized.{Bounded}
 use Rattle.model.proofs.Tests.{neither}
-use Rattle.model.proofs.IntegerLaws.{leZ-refl, leZ-trans, not-ltZ, above-back, above-order, above-more, above-chain, sum-above, sum-at-least}
-use Rattle.model.proofs.PlaceLaws.{Below, add, AtLeast, indices-below, place-below, place-indices, place-injective}
-use Rattle.model.proofs.PlaceLaws.AtLeast.{none, next}
-use Rattle.model.proofs.IterationLaws.{iteration-at-least, relative-iteration}
-use Rattle.model.proofs.Distances.{listed, complete}
+use Rattle.model.proofs.ListLaws.{length-tabulate, getD-tabulate}
+use Rattle.model.proofs.IntegerLaws.{leZ-refl, leZ-trans, not-ltZ, above-back, above-order, above-chain, sum-above, sum-at-least}
+use Rattle.model.proofs.PlaceLaws.{Below}
+use Rattle.model.proofs.RowLaws.{RowCell, row-there}
+use Rattle.model.proofs.GroundLaws.{Cell, at-cell}
+use Rattle.model.proofs.CourseLaws.{cell-listed}
 
 -- Where no number below n passes a test, none does, and the other way round.
 pub none-below : (n : ℕ) (p : ℕ → Bool) → someBelow n p ≡ false → (j : ℕ) → j < n → p j ≡ false
@@ -42,7 +46,7 @@ below-none zero p f = refl
 below-none (suc n) p f = rw (f n (omega arith)) (below-none n p (λ j h. f j (omega arith)))
 
 -- In one dimension.
-not-crossed : (l h : ℤ) (b : Bool) → ltZ h l || b ≡ false → (leZ l h ≡ true) × (b ≡ false)
+pub not-crossed : (l h : ℤ) (b : Bool) → ltZ h l || b ≡ false → (leZ l h ≡ true) × (b ≡ false)
 not-crossed l h b e = let (x, y) = neither (ltZ h l) b e in (not-ltZ h l x, y)
 
 pub index-count : (l h : ℤ) → leZ l h ≡ true → indexCount l h ≡ suc (above h l)
@@ -65,17 +69,9 @@ length-widths [] h n = refl
 length-widths (x ∷ l) [] n = absurd (omega arith)
 length-widths (x ∷ l) (y ∷ h) n = ap suc (length-widths l h (suc-inj n))
 
-pub some-vector : (l h : List ℤ) → crossed l h ≡ false → 0 < product (widths l h)
-unfolding widths product crossed
-some-vector [] h e = omega arith
-some-vector (x ∷ l) [] e = omega arith
-some-vector (x ∷ l) (y ∷ h) e =
-    let (p, q) = not-crossed x y (crossed l h) e in
-    rw (index-count x y p) (omega (arith, some-vector l h q))
-
 -- Where no lowest is above its highest, what is counted from the lowest by indices below the widths lies in the box, and what lies in the box is so counted.
 pub counted-between : (l h : List ℤ) (us : List ℕ) → length l ≡ length h → crossed l h ≡ false → Below (widths l h) us → between l h (countedFrom l us) ≡ true
-unfolding widths crossed between countedFrom
+unfolding widths crossed between plus
 counted-between [] [] [] n e b = refl
 counted-between [] [] (u ∷ us) n e b = absurd b
 counted-between [] (y ∷ h) us n e b = absurd (omega arith)
@@ -86,7 +82,7 @@ counted-between (x ∷ l) (y ∷ h) (u ∷ us) n e b =
     rw (sum-at-least u x, index-within x y u p (b .0)) (counted-between l h us (suc-inj n) q (b .1))
 
 pub between-counted : (l h v : List ℤ) → between l h v ≡ true → Below (widths l h) (relative v l) × (v ≡ countedFrom l (relative v l))
-unfolding widths between countedFrom relative
+unfolding widths between plus relative
 between-counted [] [] [] e = (tt, refl)
 between-counted [] [] (z ∷ v) e = absurd (true≢false (sym e))
 between-counted [] (y ∷ h) v e = absurd (true≢false (sym e))
@@ -117,125 +113,95 @@ lowest-between (x ∷ l) (y ∷ h) n e =
     let (p, q) = not-crossed x y (crossed l h) e in
     rw (leZ-refl x, p) (lowest-between l h (suc-inj n) q)
 
-module _ (l h : List ℤ) where
-  -- Each vector of the box's course lies in the box,
-  pub vector-between : length l ≡ length h → crossed l h ≡ false → (j : ℕ) → j < count (boxCourse l h) → between l h (vector (boxCourse l h) j) ≡ true
-  unfolding count vector boxCourse
-  vector-between n e j b = counted-between l h (indices (widths l h) j) n e (indices-below (widths l h) j b)
+-- Equal rows have the cells of the rectangle.
+equal-row : (n w i : ℕ) → i < n → row (equalRows (n ∷ w ∷ [])) i ≡ record { start = 0; length = w }
+unfolding equalRows
+equal-row n w i h = getD-tabulate n (λ _. record { start = 0; length = w }) i noRow h
 
-  -- and each vector that lies in the box is listed.
-  pub between-listed : (v : List ℤ) → between l h v ≡ true → (j : ℕ) × (j < count (boxCourse l h)) × (v ≡ vector (boxCourse l h) j)
-  unfolding count vector boxCourse cellCount
-  between-listed v e =
-      let ws = widths l h in
-      let us = relative v l in
-      let (b, f) = between-counted l h v e in
-      let j = place ws us in
-      let below = place-below ws us b in
-      (j, below, f ∙ ap (countedFrom l) (place-injective ws us (indices ws j) b (indices-below ws j below) (sym (place-indices ws j below))))
+equal-cell : (n w : ℕ) (u : List ℕ) → RowCell (equalRows (n ∷ w ∷ [])) u → Below (n ∷ w ∷ []) u
+unfolding equalRows
+equal-cell n w [] h = absurd h
+equal-cell n w (i ∷ []) h = absurd h
+equal-cell n w (i ∷ c ∷ d ∷ u) h = absurd h
+equal-cell n w (i ∷ c ∷ []) h =
+    let there : i < n = rw length-tabulate at (row-there (equalRows (n ∷ w ∷ [])) i c h) in
+    let here = rw (equal-row n w i there) at h in
+    (there, (omega (arith, here .below), tt))
 
--- Counted from m, what is counted from l lies further on by how far l lies above m.
-pub relative-counted : {m l : List ℤ} (us : List ℕ) → AtLeast m l → relative (countedFrom l us) m ≡ add (relative l m) us
-unfolding relative countedFrom add
-relative-counted [] none = refl
-relative-counted [] (next h a) = refl
-relative-counted (u ∷ us) none = refl
-relative-counted (u ∷ us) (next {l = m} {x = l} h a) = ap₂ _∷_ (above-more u l m h) (relative-counted us a)
+cell-equal : (n w : ℕ) (u : List ℕ) → Below (n ∷ w ∷ []) u → RowCell (equalRows (n ∷ w ∷ [])) u
+cell-equal n w [] h = absurd h
+cell-equal n w (i ∷ []) h = absurd (h .1)
+cell-equal n w (i ∷ c ∷ []) h = rw (equal-row n w i (h .0)) (record { from = omega arith; below = omega arith })
+cell-equal n w (i ∷ c ∷ d ∷ u) h = absurd (h .1 .1)
 
-counted-further : {m l : List ℤ} (us : List ℕ) → AtLeast m l → countedFrom l us ≡ countedFrom m (add (relative l m) us)
-unfolding relative countedFrom add
-counted-further [] none = refl
-counted-further [] (next h a) = refl
-counted-further (u ∷ us) none = refl
-counted-further (u ∷ us) (next {l = m} {x = l} h a) = ap₂ _∷_ (further u l m h) (counted-further us a)
-  where
-    further : (u : ℕ) (l m : ℤ) → leZ m l ≡ true → pos u +ℤ l ≡ pos (above l m + u) +ℤ m
-    further u l m h =
-        let k = leZ-trans m l (pos u +ℤ l) h (sum-at-least u l) in
-        sym (above-back (pos u +ℤ l) m k) ∙ ap (λ (n : ℕ). pos n +ℤ m) (above-more u l m h)
+-- On either ground the cells of a box's shape are those below its widths.
+box-cell : (g : Ground) (l h : List ℤ) → Bounded (dims g) (box l h) → (u : List ℕ) → Cell (boxCourse g l h .shape) u ↔ Below (widths l h) u
+unfolding boxCourse boxShape widths
+box-cell (rectangle ss) l h b u = (λ c. c, λ c. c)
+box-cell (rows rs) (k ∷ l ∷ []) (h ∷ i ∷ []) b u = (equal-cell (indexCount k h) (indexCount l i) u, cell-equal (indexCount k h) (indexCount l i) u)
+box-cell (rows rs) [] h b u = absurd (omega (arith, b .0))
+box-cell (rows rs) (k ∷ []) h b u = absurd (omega (arith, b .0))
+box-cell (rows rs) (k ∷ l ∷ j ∷ ls) h b u = absurd (omega (arith, b .0))
+box-cell (rows rs) (k ∷ l ∷ []) [] b u = absurd (omega (arith, b .1))
+box-cell (rows rs) (k ∷ l ∷ []) (h ∷ []) b u = absurd (omega (arith, b .1))
+box-cell (rows rs) (k ∷ l ∷ []) (h ∷ i ∷ j ∷ hs) b u = absurd (omega (arith, b .1))
 
--- A box from l on, whose highest lies below the extents counted from m, has all its vectors below them.
-further-below : (es : List ℕ) {m l : List ℤ} (h : List ℤ) (us : List ℕ) → AtLeast m l → length l ≡ length h → crossed l h ≡ false → Below es (relative h m) → Below (widths l h) us
-    → Below es (add (relative l m) us)
-unfolding relative widths crossed add
-further-below [] [] us none n e b c = tt
-further-below [] (y ∷ h) us none n e b c = absurd (omega arith)
-further-below (x ∷ es) [] us none n e b c = absurd b
-further-below (x ∷ es) (y ∷ h) us none n e b c = absurd (omega arith)
-further-below es [] us (next k a) n e b c = absurd (omega arith)
-further-below [] (y ∷ h) us (next k a) n e b c = absurd b
-further-below (x ∷ es) (y ∷ h) [] (next k a) n e b c = absurd c
-further-below (x ∷ es) (y ∷ h) (u ∷ us) (next {l = m} {x = l} {xs = ls} k a) n e b c =
-    let (p, q) = not-crossed l y (crossed ls h) e in
-    (omega (arith, b .0, c .0, index-count l y p, above-chain y l m k p), further-below es h us a (suc-inj n) q (b .1) (c .1))
+-- The first vector has an entry for each dimension of the shape, which are those of the ground.
+pub box-dims : (g : Ground) (l h : List ℤ) → Bounded (dims g) (box l h)
+    → (length (boxCourse g l h .first) ≡ dims (boxCourse g l h .shape)) × (dims (boxCourse g l h .shape) ≡ dims g)
+unfolding boxCourse boxShape
+box-dims (rectangle ss) l h b = let e = length-widths l h (b .0 ∙ sym (b .1)) in (sym e, e ∙ b .0)
+box-dims (rows rs) l h b = (b .0, refl)
 
--- 15 of a box, where the window has an offset and both fit the grid.
-module _ (sizes : List ℕ) (offsets : List (List ℤ)) (sized : Sized sizes offsets) (some : 0 < length offsets) (l h : List ℤ) (bounded : Bounded sizes (box l h)) where
-  abbrev m : List ℤ
-  m = map negℤ (lows sizes offsets)
-
+module _ (g : Ground) (l h : List ℤ) (bounded : Bounded (dims g) (box l h)) where
   abbrev c : Course
-  c = boxCourse l h
+  c = boxCourse g l h
 
   alike : length l ≡ length h
   alike = bounded .0 ∙ sym (bounded .1)
 
-  -- What is counted from the first iteration by indices below the extents is an iteration.
-  below-iterates : (us : List ℕ) → Below (extents sizes offsets) us → isIteration sizes offsets (countedFrom m us) ≡ true
-  unfolding iterationCount count iteration vector allIterations cellCount
-  below-iterates us b =
-      let es = extents sizes offsets in
-      let j = place es us in
-      let below = place-below es us b in
-      let same = place-injective es us (indices es j) b (indices-below es j below) (sym (place-indices es j below)) in
-      rw same (listed sizes offsets sized j below)
-
-  -- Where 15 does not hold, no lowest is above its highest, and each vector of the box is an iteration;
-  pub box-passes : badBox sizes offsets (box l h) ≡ false → (crossed l h ≡ false) × ((j : ℕ) → j < count c → isIteration sizes offsets (vector c j) ≡ true)
-  unfolding badBox readsOutside
-  box-passes e =
-      let (a, b) = neither (crossed l h) (readsOutside sizes offsets c) e in
-      (a, λ j i. go (isIteration sizes offsets (vector c j)) (none-below (count c) _ b j i))
-    where
-      go : (t : Bool) → not t ≡ false → t ≡ true
-      go true f = refl
-      go false f = absurd (true≢false f)
-
-  -- and the other way round.
-  pub passes-box : crossed l h ≡ false → ((j : ℕ) → j < count c → isIteration sizes offsets (vector c j) ≡ true) → badBox sizes offsets (box l h) ≡ false
-  unfolding badBox readsOutside
-  passes-box e f = rw e (below-none (count c) _ (λ j i. ap not (f j i)))
-
-  -- Counted from the first iteration: the lowest is at least that, and the highest lies below the extents; where both hold, so does each vector of the box.
-  pub within-fits : crossed l h ≡ false → AtLeast m l → Below (extents sizes offsets) (relative h m) → badBox sizes offsets (box l h) ≡ false
+  -- Each vector of the box's course lies in the box,
+  pub vector-between : crossed l h ≡ false → (j : ℕ) → j < count c → between l h (vector c j) ≡ true
   unfolding count vector boxCourse
-  within-fits e a b =
-      passes-box e (λ j i.
-      let us = indices (widths l h) j in
-      rw (counted-further us a) (below-iterates (add (relative l m) us) (further-below (extents sizes offsets) h us a alike e b (indices-below (widths l h) j i))))
+  vector-between e j b = counted-between l h (cellAt (c .shape) j) alike e (box-cell g l h bounded (cellAt (c .shape) j) .0 (at-cell (c .shape) j b))
 
-  -- An iteration is so counted.
-  pub iteration-within : (v : List ℤ) → isIteration sizes offsets v ≡ true → AtLeast m v × Below (extents sizes offsets) (relative v m)
-  unfolding iterationCount count allIterations
-  iteration-within v e =
-      let (j, b, f) = complete sizes offsets sized v some e in
-      rw f (iteration-at-least sizes offsets j, rw (relative-iteration sizes offsets j) (indices-below (extents sizes offsets) j b))
+  -- and each vector that lies in the box is listed.
+  pub between-listed : (v : List ℤ) → between l h v ≡ true → (j : ℕ) × (j < count c) × (v ≡ vector c j)
+  unfolding boxCourse
+  between-listed v e =
+      let (b, f) = between-counted l h v e in
+      let (j, i, d) = cell-listed c (relative v l) (box-cell g l h bounded (relative v l) .1 b) in
+      (j, i, f ∙ sym d)
 
-  pub in-box : badBox sizes offsets (box l h) ≡ false → (v : List ℤ) → between l h v ≡ true → isIteration sizes offsets v ≡ true
-  in-box e v b = let (j, i, f) = between-listed l h v b in rw f (box-passes e .1 j i)
+  -- So a box whose lowest are not above its highest has a vector.
+  pub some-vector : crossed l h ≡ false → 0 < count c
+  some-vector e = let (j, i, _) = between-listed l (lowest-between l h alike e) in omega arith
 
-  -- The corners decide.
-  pub corners : badBox sizes offsets (box l h) ≡ false ↔ ((crossed l h ≡ false) × (isIteration sizes offsets l ≡ true) × (isIteration sizes offsets h ≡ true))
-  corners = (
-    λ e. let a = box-passes e .0 in (a, in-box e l (lowest-between l h alike a), in-box e h (highest-between l h alike a)),
-    λ k. within-fits (k .0) (iteration-within l (k .1) .0) (iteration-within h (k .2) .1),
-  )
+  module _ (offsets : List (List ℤ)) where
+    -- Where 15 does not hold, no lowest is above its highest, and each vector of the box is an iteration;
+    pub box-passes : badBox g offsets (box l h) ≡ false → (crossed l h ≡ false) × ((j : ℕ) → j < count c → isIteration g offsets (vector c j) ≡ true)
+    unfolding badBox readsOutside
+    box-passes e =
+        let (a, b) = neither (crossed l h) (readsOutside g offsets c) e in
+        (a, λ j i. go (isIteration g offsets (vector c j)) (none-below (count c) _ b j i))
+      where
+        go : (t : Bool) → not t ≡ false → t ≡ true
+        go true f = refl
+        go false f = absurd (true≢false f)
 
-  -- 15 does not hold exactly if no lowest is above its highest and each vector of the box is an iteration.
-  pub each-of-box : badBox sizes offsets (box l h) ≡ false ↔ ((crossed l h ≡ false) × ((v : List ℤ) → between l h v ≡ true → isIteration sizes offsets v ≡ true))
-  each-of-box = (λ e. (box-passes e .0, in-box e), λ k. passes-box (k .0) (λ j i. k .1 (vector c j) (vector-between l h alike (k .0) j i)))
+    -- and the other way round.
+    pub passes-box : crossed l h ≡ false → ((j : ℕ) → j < count c → isIteration g offsets (vector c j) ≡ true) → badBox g offsets (box l h) ≡ false
+    unfolding badBox readsOutside
+    passes-box e f = rw e (below-none (count c) _ (λ j i. ap not (f j i)))
+
+    -- 15 does not hold exactly if no lowest is above its highest and each vector of the box is an iteration.
+    pub each-of-box : badBox g offsets (box l h) ≡ false ↔ ((crossed l h ≡ false) × ((v : List ℤ) → between l h v ≡ true → isIteration g offsets v ≡ true))
+    each-of-box = (
+      λ e. (box-passes e .0, λ v b. let (j, i, f) = between-listed v b in rw f (box-passes e .1 j i)),
+      λ k. passes-box (k .0) (λ j i. k .1 (vector c j) (vector-between (k .0) j i)),
+    )
 
 -- Without a box it never holds.
-pub none-whole : (sizes : List ℕ) (offsets : List (List ℤ)) → badBox sizes offsets whole ≡ false
+pub none-whole : (g : Ground) (offsets : List (List ℤ)) → badBox g offsets whole ≡ false
 unfolding badBox
-none-whole sizes offsets = refl
+none-whole g offsets = refl

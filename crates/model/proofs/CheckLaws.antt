@@ -9,7 +9,7 @@ use borrow.Author.Tests.{eqb-false, ltb-false}
 use Rattle.model.specs.Boxes.{badBox}
 use Rattle.model.specs.Values.{Trimmed}
 use Rattle.model.specs.Answers.{Check, check, firstOf, byVerdict}
-use Rattle.model.specs.Judging.{badDims, badSizes, badGrid, badCount, repeats, noIteration, centred, lacksCentre, badFactor, tooLarge, badOrder, windowChecks, kernelChecks, chainChecks, valueChecks}
+use Rattle.model.specs.Judging.{badDims, badSizes, badGrid, badGround, badCount, repeats, noIteration, centred, lacksCentre, badFactor, tooLarge, badOrder, windowChecks, kernelChecks, chainChecks, valueChecks}
 use Rattle.model.specs.declared.Kernel.{Kernel}
 use Rattle.model.specs.declared.Refusal.{Refusal}
 use Rattle.model.specs.declared.Verdict.{Verdict}
@@ -42,11 +42,11 @@ both-pass cs ds e = go (firstOf cs) refl (sym (then-checks cs ds) ∙ e)
 
 -- What each group says where none of its checks holds.
 pub record WindowPasses (t : Trimmed) : Type 0 where
-  pub grid : badGrid (t .dims) (t .sizes) ≡ false
+  pub grid : badGround (t .dims) (t .ground) ≡ false
   pub count : badCount (t .count) ≡ false
   pub distinct : repeats (t .offsets) ≡ false
-  pub iterates : noIteration (t .sizes) (t .offsets) ≡ false
-  pub fits : badBox (t .sizes) (t .offsets) (t .part) ≡ false
+  pub iterates : noIteration (t .ground) (t .offsets) ≡ false
+  pub fits : badBox (t .ground) (t .offsets) (t .part) ≡ false
 
 pub window-passes : (t : Trimmed) → firstOf (windowChecks t) ≡ verdict.Accepted → WindowPasses t
 unfolding windowChecks

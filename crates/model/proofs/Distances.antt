@@ -1,7 +1,7 @@
--- The laws of iterations, positions and distances (document 01, "Grid, window, distances"), for all dimension counts together.
+-- The laws of iterations, positions and distances (document 01, "Grid, window, distances"), on rectangles, for all dimension counts together.
 -- `sizes` are the grid's and `offsets` the window's; reference k has the offset `getD offsets k []`.
 use Prim.Native.Nat.{ℕ, suc, _+_, _-_, _≤_, _<_}
-use mathlib.Core.Bool.{Bool, true, false, and-eq-true-iff}
+use mathlib.Core.Bool.{Bool, true, and-eq-true-iff}
 use mathlib.Core.List.{List, [], _∷_, map}
 use mathlib.Core.Logic.{_↔_}
 use mathlib.Core.Path.{_≡_, refl, sym, _∙_, ap, ap₂}
@@ -10,30 +10,12 @@ use lib.Dec.{ltb, eqb}
 use lib.ListN.{length, getD}
 use lib.IntN.{ℤ, pos, negℤ}
 use borrow.Author.Tests.{ltb-true, lt-ltb, eq-eqb, eqb-true}
-use Rattle.model.specs.Lists.{product, all}
+use Rattle.model.specs.Lists.{all}
 use Rattle.model.specs.Vectors.{plus, before}
-use Rattle.model.specs.Geometry.{
-  cellCount,
-  place,
-  position,
-  inside,
-  isIteration,
-  firstEntry,
-  otherEntries,
-  lows,
-  extents,
-  iterationCount,
-  indices,
-  countedFrom,
-  count,
-  vector,
-  allIterations,
-  iteration,
-  reads,
-  distance,
-}
+use Rattle.model.specs.Geometry.{cellCount, place, inside, firstEntry, otherEntries, lows, extents, indices, countedFrom}
 use Rattle.model.specs.Sized.{Sized}
 use Rattle.model.specs.Windows.{relative, Members}
+use Rattle.model.proofs.Rectangles.{isIteration, iterationCount, iteration, reads, distance}
 use Rattle.model.proofs.ListLaws.{all-each, each-all, among-map}
 use Rattle.model.proofs.IntegerLaws.{least-same}
 use Rattle.model.proofs.PlaceLaws.{place-below, place-add, place-injective, indices-below, place-indices, first-indices, before-place}
@@ -44,8 +26,6 @@ use Rattle.model.proofs.IterationLaws.{
   indicesOf,
   firstCell,
   length-iteration,
-  iteration-order,
-  iteration-once,
   indices-rise,
   offset-at-least,
   cell-read,
@@ -55,20 +35,12 @@ use Rattle.model.proofs.IterationLaws.{
 }
 
 module _ (sizes : List ℕ) (offsets : List (List ℤ)) where
-  -- Iterations go in rising lexicographic order.
-  pub in-order : (i j : ℕ) → i < j → j < iterationCount sizes offsets → before (iteration sizes offsets i) (iteration sizes offsets j) ≡ true
-  in-order i j l b = iteration-order sizes offsets i j (omega arith) b ∙ lt-ltb i j l
-
-  -- No iteration comes twice.
-  pub once : (i j : ℕ) → i < iterationCount sizes offsets → j < iterationCount sizes offsets → iteration sizes offsets i ≡ iteration sizes offsets j → i ≡ j
-  once = iteration-once sizes offsets
-
   -- There are at most as many iterations as cells.
   pub at-most-cells : iterationCount sizes offsets ≤ cellCount sizes
-  unfolding iterationCount count allIterations cellCount
+  unfolding iterationCount cellCount
   at-most-cells = product-extents sizes offsets
 
-  module _ (sized : Sized sizes offsets) where
+  module _ (sized : Sized (length sizes) offsets) where
     -- Each vector that is listed is an iteration.
     pub listed : (j : ℕ) → j < iterationCount sizes offsets → isIteration sizes offsets (iteration sizes offsets j) ≡ true
     unfolding isIteration
@@ -81,7 +53,7 @@ module _ (sizes : List ℕ) (offsets : List (List ℤ)) where
 
     -- Each iteration is listed.
     pub complete : (v : List ℤ) → 0 < length offsets → isIteration sizes offsets v ≡ true → (j : ℕ) × (j < iterationCount sizes offsets) × (v ≡ iteration sizes offsets j)
-    unfolding isIteration iterationCount count iteration vector allIterations cellCount
+    unfolding isIteration iterationCount iteration cellCount
     complete v s e =
         let es = extents sizes offsets in
         let stays : List ℤ → Bool = λ o. inside sizes (plus v o) in
@@ -90,14 +62,6 @@ module _ (sizes : List ℕ) (offsets : List (List ℤ)) where
         let j = place es us in
         let below = place-below es us b in
         (j, below, f ∙ ap (countedFrom (map negℤ (lows sizes offsets))) (place-injective es us (indices es j) b (indices-below es j below) (sym (place-indices es j below))))
-
-    -- Where the list is empty there is no iteration.
-    pub no-iteration : 0 < length offsets → iterationCount sizes offsets ≡ 0 → (v : List ℤ) → isIteration sizes offsets v ≡ false
-    no-iteration s z v = go (isIteration sizes offsets v) refl
-      where
-        go : (t : Bool) → isIteration sizes offsets v ≡ t → t ≡ false
-        go true e = absurd (omega (arith, complete v s e .1))
-        go false e = refl
 
     -- The position read is that of the offset counted from the lows plus that of the iteration's indices.
     pub reads-sum : (j k : ℕ) → j < iterationCount sizes offsets → k < length offsets
@@ -161,14 +125,3 @@ same-extents [] a b m n = refl
 same-extents (s ∷ ss) a b m n =
     ap₂ _∷_ (same-extent s (map firstEntry a) (map firstEntry b) (among-map firstEntry [] a b m) (among-map firstEntry [] b a n))
     (same-extents ss (map otherEntries a) (map otherEntries b) (among-map otherEntries [] a b m) (among-map otherEntries [] b a n))
-
-module _ (sizes : List ℕ) (a b : List (List ℤ)) (m : Members a b) (n : Members b a) where
-  -- They have equally many iterations.
-  pub same-count : iterationCount sizes a ≡ iterationCount sizes b
-  unfolding iterationCount count allIterations
-  same-count = ap product (same-extents sizes a b m n)
-
-  -- They have the same iterations.
-  pub same-iteration : (j : ℕ) → iteration sizes a j ≡ iteration sizes b j
-  unfolding iteration vector allIterations
-  same-iteration j = ap₂ (λ (es : List ℕ) (ls : List ℤ). countedFrom (map negℤ ls) (indices es j)) (same-extents sizes a b m n) (same-lows sizes a b m n)

@@ -7,15 +7,17 @@ use native.Mathlib.Nat.{le-of-suc-le-suc}
 use native.Mathlib.Omega.{arith}
 use lib.Dec.{eqb, ltb}
 use lib.ListN.{length, getD}
+use Rattle.model.specs.Grounds.{Ground}
+use Rattle.model.specs.Grounds.Ground.{rectangle, rows}
 use Rattle.model.specs.Values.{Trimmed, trimmed}
 use Rattle.model.specs.Answers.{numberOf, verdictNumber, Check, check, firstOf}
-use Rattle.model.specs.Judging.{windowChecks, kernelChecks, chainChecks, valueChecks, judged, judgeChain}
+use Rattle.model.specs.Judging.{groundRefusal, windowChecks, kernelChecks, chainChecks, valueChecks, judged, judgeChain}
 use Rattle.model.specs.Planning.{trimmedRequest, judgeRequest}
 use Rattle.model.specs.Running.{layout, countersOf, shortStore, badState, judgeRun}
 use Rattle.model.specs.Frames.{Seen}
 use Rattle.model.specs.Reading.{kindOf, secondOf, malformed, lineChecks, lineVerdict, cellVerdict}
 use Rattle.model.specs.Writing.{sheetOf, writeVerdict}
-use Rattle.model.specs.FirstChecks.{HoldsFirst, NoneHolds, AnswersFirst, numbersOf, conditionsOf, valueConditions, valueNumbers, FirstChecks}
+use Rattle.model.specs.FirstChecks.{HoldsFirst, NoneHolds, AnswersFirst, numbersOf, conditionsOf, valueConditions, gridNumber, valueNumbers, FirstChecks}
 use Rattle.model.specs.declared.Chain.{Chain}
 use Rattle.model.specs.declared.Reading.{Reading}
 use Rattle.model.specs.declared.Refusal.the-variants as refusal
@@ -64,21 +66,32 @@ checks : (cs : List Check) → AnswersFirst (numbersOf cs) (conditionsOf cs) (fi
 checks cs = record { if-first = if-first cs; only-first = only-first cs; if-none = if-none cs; only-none = only-none cs }
 
 -- The checks of a value, and others behind them.
-value : (t : Trimmed) → AnswersFirst valueNumbers (valueConditions t) (firstOf (valueChecks t))
+grid-number : (g : Ground) → numberOf (groundRefusal g) ≡ gridNumber g
+unfolding numberOf
+grid-number (rectangle sizes) = refl
+grid-number (rows rs) = refl
+
+value-behind : (t : Trimmed) (cs : List Check) → AnswersFirst (valueNumbers (t .ground) ++ numbersOf cs) (valueConditions t ++ conditionsOf cs) (firstOf (valueChecks t ++ cs))
 unfolding numbersOf conditionsOf numberOf valueConditions valueChecks windowChecks kernelChecks chainChecks
-value t = checks (valueChecks t)
+value-behind t cs =
+    subst (λ (n : ℕ). AnswersFirst (n ∷ 4 ∷ 5 ∷ 6 ∷ 15 ∷ 7 ∷ 8 ∷ 9 ∷ 14 ∷ numbersOf cs) (conditionsOf (valueChecks t ++ cs)) (firstOf (valueChecks t ++ cs))) (grid-number (t .ground))
+    (checks (valueChecks t ++ cs))
+
+value : (t : Trimmed) → AnswersFirst (valueNumbers (t .ground)) (valueConditions t) (firstOf (valueChecks t))
+unfolding numbersOf conditionsOf numberOf valueConditions valueChecks windowChecks kernelChecks chainChecks
+value t = value-behind t []
 
 run : (t : Trimmed) (s : State) (store : List ℕ)
-    → AnswersFirst (valueNumbers ++ (10 ∷ 11 ∷ [])) (valueConditions t ++ (shortStore t store ∷ badState (layout t) (countersOf (t .count) s) ∷ [])) (judgeRun t s store)
-unfolding numbersOf conditionsOf numberOf valueConditions valueChecks windowChecks kernelChecks chainChecks judgeRun
-run t s store = checks _
+    → AnswersFirst (valueNumbers (t .ground) ++ (10 ∷ 11 ∷ [])) (valueConditions t ++ (shortStore t store ∷ badState (layout t) (countersOf (t .count) s) ∷ [])) (judgeRun t s store)
+unfolding numbersOf conditionsOf numberOf judgeRun
+run t s store = value-behind t _
 
-write : (c : Chain) (room : ℕ) → AnswersFirst (valueNumbers ++ (12 ∷ [])) (valueConditions (trimmed c) ++ (ltb room (length (sheetOf c)) ∷ [])) (writeVerdict c room)
-unfolding numbersOf conditionsOf numberOf valueConditions valueChecks windowChecks kernelChecks chainChecks writeVerdict judgeChain judged
+write : (c : Chain) (room : ℕ) → AnswersFirst (valueNumbers (trimmed c .ground) ++ (12 ∷ [])) (valueConditions (trimmed c) ++ (ltb room (length (sheetOf c)) ∷ [])) (writeVerdict c room)
+unfolding numbersOf conditionsOf numberOf writeVerdict judgeChain judged
 write c room =
     let last = check (ltb room (length (sheetOf c))) refusal.ShortOutput ∷ [] in
-    subst (AnswersFirst (valueNumbers ++ (12 ∷ [])) (valueConditions (trimmed c) ++ (ltb room (length (sheetOf c)) ∷ []))) (then-checks (valueChecks (trimmed c)) last)
-    (checks (valueChecks (trimmed c) ++ last))
+    subst (AnswersFirst (valueNumbers (trimmed c .ground) ++ (12 ∷ [])) (valueConditions (trimmed c) ++ (ltb room (length (sheetOf c)) ∷ []))) (then-checks (valueChecks (trimmed c)) last)
+    (value-behind (trimmed c) last)
 
 line : (chainSheet : Bool) (r : Reading) (l : Seen) → AnswersFirst (1 ∷ 2 ∷ 3 ∷ 1 ∷ 3 ∷ 4 ∷ 13 ∷ []) (conditionsOf (lineChecks chainSheet r l)) (lineVerdict chainSheet r l)
 unfolding numbersOf numberOf lineChecks lineVerdict

@@ -23,18 +23,11 @@ use Rattle.model.specs.Geometry.{
   extents,
   indices,
   countedFrom,
-  Course,
-  count,
-  vector,
-  allIterations,
   place,
-  position,
-  iteration,
-  iterationCount,
-  reads,
 }
 use Rattle.model.specs.Sized.{Sized}
 use Rattle.model.specs.Windows.{relative}
+use Rattle.model.proofs.Rectangles.{position, iteration, iterationCount, reads}
 use Rattle.model.proofs.IntegerLaws.{above-sum, sum-above, sum-at-least, natural-pos, least-below, least-stands}
 use Rattle.model.proofs.PlaceLaws.{Below, add, AtLeast, indices-below, place-indices, before-place}
 use Rattle.model.proofs.PlaceLaws.AtLeast.{none, next}
@@ -42,7 +35,7 @@ use Rattle.model.proofs.WindowLaws.{length-lows, length-extents, first-
 
 -- The cell that the offset xs reads in the iteration of the indices us.
 sum-of-entries : (us : List ℕ) {ls xs : List ℤ} → AtLeast ls xs → plus (countedFrom (map negℤ ls) us) xs ≡ map pos (add (relative xs ls) us)
-unfolding plus countedFrom add relative
+unfolding plus add relative
 sum-of-entries [] none = refl
 sum-of-entries [] (next h m) = refl
 sum-of-entries (u ∷ us) none = refl
@@ -83,7 +76,7 @@ unfolding otherEntries
 length-others [] n e = absurd (omega arith)
 length-others (x ∷ xs) n e = suc-inj e
 
-sized-others : (s : ℕ) (ss : List ℕ) (offsets : List (List ℤ)) → Sized (s ∷ ss) offsets → Sized ss (map otherEntries offsets)
+sized-others : (s : ℕ) (ss : List ℕ) (offsets : List (List ℤ)) → Sized (suc (length ss)) offsets → Sized (length ss) (map otherEntries offsets)
 sized-others s ss offsets sized k h = rw (others-of offsets k) (length-others (getD offsets k []) (length ss) (sized k (rw length-map at h)))
 
 inside-parts : (s : ℕ) (ss : List ℕ) (x : ℤ) (xs o : List ℤ) → length o ≡ suc (length ss) → inside (s ∷ ss) (plus (x ∷ xs) o) ≡ true
@@ -96,10 +89,10 @@ inside-parts s ss x xs (y ∷ ys) n e =
     (low, high, others)
 
 -- A vector that keeps each offset inside the grid has indices below the extents, counted from the negated lows.
-pub found : (sizes : List ℕ) (offsets : List (List ℤ)) (v : List ℤ) → 0 < length offsets → Sized sizes offsets → length v ≡ length sizes
+pub found : (sizes : List ℕ) (offsets : List (List ℤ)) (v : List ℤ) → 0 < length offsets → Sized (length sizes) offsets → length v ≡ length sizes
     → ((k : ℕ) → k < length offsets → inside sizes (plus v (getD offsets k [])) ≡ true)
     → (us : List ℕ) × Below (extents sizes offsets) us × (v ≡ countedFrom (map negℤ (lows sizes offsets)) us)
-unfolding lows extents countedFrom
+unfolding lows extents plus
 found [] offsets [] h sized n f = ([], tt, refl)
 found [] offsets (x ∷ xs) h sized n f = absurd (omega arith)
 found (s ∷ ss) offsets [] h sized n f = absurd (omega arith)
@@ -122,20 +115,20 @@ found (s ∷ ss) offsets (x ∷ xs) h sized n f =
 
 -- What is counted from xs is at least xs, its indices are counted from there, and it has as many entries.
 counted-at-least : (xs : List ℤ) (us : List ℕ) → length us ≡ length xs → AtLeast xs (countedFrom xs us)
-unfolding countedFrom
+unfolding plus
 counted-at-least [] [] n = none
 counted-at-least (x ∷ xs) [] n = absurd (omega arith)
 counted-at-least [] (u ∷ us) n = absurd (omega arith)
 counted-at-least (x ∷ xs) (u ∷ us) n = next (sum-at-least u x) (counted-at-least xs us (suc-inj n))
 
 pub counted-relative : (xs : List ℤ) (us : List ℕ) → length us ≡ length xs → relative (countedFrom xs us) xs ≡ us
-unfolding countedFrom relative
+unfolding plus relative
 counted-relative xs [] n = refl
 counted-relative [] (u ∷ us) n = absurd (omega arith)
 counted-relative (x ∷ xs) (u ∷ us) n = ap₂ _∷_ (sum-above u x) (counted-relative xs us (suc-inj n))
 
 pub length-counted : (xs : List ℤ) (us : List ℕ) → length us ≡ length xs → length (countedFrom xs us) ≡ length us
-unfolding countedFrom
+unfolding plus
 length-counted xs [] n = refl
 length-counted [] (u ∷ us) n = absurd (omega arith)
 length-counted (x ∷ xs) (u ∷ us) n = ap suc (length-counted xs us (suc-inj n))
@@ -145,43 +138,32 @@ unfolding indices
 length-indices [] j = refl
 length-indices (e ∷ es) j = ap suc (length-indices es (j % product es))
 
--- A course whose first vector has an entry for each of its widths.
-module _ (c : Course) (n : length (c .widths) ≡ length (c .first)) where
-  length-numbered : (j : ℕ) → length (indices (c .widths) j) ≡ length (c .first)
-  length-numbered j = length-indices (c .widths) j ∙ n
+-- The vectors of a box of these widths, counted from a first one that has an entry for each.
+module _ (first : List ℤ) (ws : List ℕ) (n : length ws ≡ length first) where
+  abbrev pub numbered : ℕ → List ℤ
+  numbered j = countedFrom first (indices ws j)
 
-  pub length-vector : (j : ℕ) → length (vector c j) ≡ length (c .first)
-  unfolding vector
-  length-vector j = length-counted (c .first) (indices (c .widths) j) (length-numbered j) ∙ length-numbered j
+  length-indexed : (j : ℕ) → length (indices ws j) ≡ length first
+  length-indexed j = length-indices ws j ∙ n
 
-  pub relative-vector : (j : ℕ) → relative (vector c j) (c .first) ≡ indices (c .widths) j
-  unfolding vector
-  relative-vector j = counted-relative (c .first) (indices (c .widths) j) (length-numbered j)
+  pub length-numbered : (j : ℕ) → length (numbered j) ≡ length first
+  length-numbered j = length-counted first (indices ws j) (length-indexed j) ∙ length-indexed j
 
-  pub vector-at-least : (j : ℕ) → AtLeast (c .first) (vector c j)
-  unfolding vector
-  vector-at-least j = counted-at-least (c .first) (indices (c .widths) j) (length-numbered j)
+  pub relative-numbered : (j : ℕ) → relative (numbered j) first ≡ indices ws j
+  relative-numbered j = counted-relative first (indices ws j) (length-indexed j)
 
-  -- Lexicographic order of its vectors is the order of their indices' places, in each grid that these lie in: the course's own box, and the whole grid.
-  order-in : (ss : List ℕ) (i j : ℕ) → Below ss (indices (c .widths) i) → Below ss (indices (c .widths) j)
-      → before (vector c i) (vector c j) ≡ ltb (place ss (indices (c .widths) i)) (place ss (indices (c .widths) j))
+  pub numbered-at-least : (j : ℕ) → AtLeast first (numbered j)
+  numbered-at-least j = counted-at-least first (indices ws j) (length-indexed j)
+
+  -- Lexicographic order of its vectors is the order of their indices' places, in each grid that these lie in: the box itself, and the whole grid.
+  order-in : (ss : List ℕ) (i j : ℕ) → Below ss (indices ws i) → Below ss (indices ws j)
+      → before (numbered i) (numbered j) ≡ ltb (place ss (indices ws i)) (place ss (indices ws j))
   order-in ss i j a b =
-      rw (relative-vector i, relative-vector j) at
-      (before-place ss (vector-at-least i) (vector-at-least j) (rw (relative-vector i) a) (rw (relative-vector j) b))
+      rw (relative-numbered i, relative-numbered j) at
+      (before-place ss (numbered-at-least i) (numbered-at-least j) (rw (relative-numbered i) a) (rw (relative-numbered j) b))
 
-  pub vector-order : (i j : ℕ) → i < count c → j < count c → before (vector c i) (vector c j) ≡ ltb i j
-  unfolding count
-  vector-order i j a b =
-      let es = c .widths in
-      rw (place-indices es i a, place-indices es j b) at (order-in es i j (indices-below es i a) (indices-below es j b))
-
-  -- None comes twice.
-  pub vector-once : (i j : ℕ) → i < count c → j < count c → vector c i ≡ vector c j → i ≡ j
-  unfolding count
-  vector-once i j a b e =
-      let es = c .widths in
-      let same = sym (relative-vector i) ∙ ap (λ (v : List ℤ). relative v (c .first)) e ∙ relative-vector j in
-      sym (place-indices es i a) ∙ ap (place es) same ∙ place-indices es j b
+  numbered-order : (i j : ℕ) → i < product ws → j < product ws → before (numbered i) (numbered j) ≡ ltb i j
+  numbered-order i j a b = rw (place-indices ws i a, place-indices ws j b) at (order-in ws i j (indices-below ws i a) (indices-below ws j b))
 
 module _ (sizes : List ℕ) (offsets : List (List ℤ)) where
   -- Iteration j's indices, counted from the first iteration's.
@@ -195,43 +177,38 @@ module _ (sizes : List ℕ) (offsets : List (List ℤ)) where
   pub entry-each : length (extents sizes offsets) ≡ length (map negℤ (lows sizes offsets))
   entry-each = length-extents sizes offsets ∙ sym (length-lows sizes offsets) ∙ sym (length-map (lows sizes offsets) negℤ)
 
+  -- The first iteration of all.
+  abbrev firstOfAll : List ℤ
+  firstOfAll = map negℤ (lows sizes offsets)
+
   pub length-iteration : (j : ℕ) → length (iteration sizes offsets j) ≡ length sizes
-  unfolding iteration allIterations
-  length-iteration j = length-vector (allIterations sizes offsets) entry-each j ∙ length-map (lows sizes offsets) negℤ ∙ length-lows sizes offsets
+  unfolding iteration
+  length-iteration j = length-numbered firstOfAll (extents sizes offsets) entry-each j ∙ length-map (lows sizes offsets) negℤ ∙ length-lows sizes offsets
 
   pub relative-iteration : (j : ℕ) → relative (iteration sizes offsets j) (map negℤ (lows sizes offsets)) ≡ indicesOf j
-  unfolding iteration allIterations
-  relative-iteration j = relative-vector (allIterations sizes offsets) entry-each j
+  unfolding iteration
+  relative-iteration j = relative-numbered firstOfAll (extents sizes offsets) entry-each j
 
   pub iteration-at-least : (j : ℕ) → AtLeast (map negℤ (lows sizes offsets)) (iteration sizes offsets j)
-  unfolding iteration allIterations
-  iteration-at-least j = vector-at-least (allIterations sizes offsets) entry-each j
-
-  pub iteration-order : (i j : ℕ) → i < iterationCount sizes offsets → j < iterationCount sizes offsets
-      → before (iteration sizes offsets i) (iteration sizes offsets j) ≡ ltb i j
-  unfolding iteration iterationCount allIterations
-  iteration-order i j a b = vector-order (allIterations sizes offsets) entry-each i j a b
-
-  pub iteration-once : (i j : ℕ) → i < iterationCount sizes offsets → j < iterationCount sizes offsets → iteration sizes offsets i ≡ iteration sizes offsets j → i ≡ j
-  unfolding iteration iterationCount allIterations
-  iteration-once i j a b e = vector-once (allIterations sizes offsets) entry-each i j a b e
+  unfolding iteration
+  iteration-at-least j = numbered-at-least firstOfAll (extents sizes offsets) entry-each j
 
   pub indices-rise : (i j : ℕ) → i < j → j < iterationCount sizes offsets → place sizes (indicesOf i) < place sizes (indicesOf j)
-  unfolding iterationCount count allIterations
+  unfolding iterationCount
   indices-rise i j l b =
       let es = extents sizes offsets in
       let a : i < product es = omega arith in
       ltb-true (place sizes (indicesOf i)) (place sizes (indicesOf j))
-      (sym (order-in (allIterations sizes offsets) entry-each sizes i j (extents-within sizes offsets (indicesOf i) (indices-below es i a)) (extents-within sizes offsets (indicesOf j) (indices-below es j b)))
-      ∙ vector-order (allIterations sizes offsets) entry-each i j a b ∙ lt-ltb i j l)
+      (sym (order-in firstOfAll es entry-each sizes i j (extents-within sizes offsets (indicesOf i) (indices-below es i a)) (extents-within sizes offsets (indicesOf j) (indices-below es j b)))
+      ∙ numbered-order firstOfAll es entry-each i j a b ∙ lt-ltb i j l)
 
-  module _ (sized : Sized sizes offsets) (k : ℕ) (h : k < length offsets) where
+  module _ (sized : Sized (length sizes) offsets) (k : ℕ) (h : k < length offsets) where
     pub offset-at-least : AtLeast (lows sizes offsets) (getD offsets k [])
     offset-at-least = at-least-lows sizes offsets k (getD offsets k []) h refl (sized k h)
 
     -- The cell read is the offset counted from the lows and the iteration's indices, added up.
     pub cell-read : (j : ℕ) → plus (iteration sizes offsets j) (getD offsets k []) ≡ map pos (add (firstCell k) (indicesOf j))
-    unfolding iteration vector allIterations
+    unfolding iteration
     cell-read j = sum-of-entries (indicesOf j) offset-at-least
 
     pub position-read : (j : ℕ) → reads sizes offsets j k ≡ place sizes (add (firstCell k) (indicesOf j))
@@ -239,9 +216,9 @@ module _ (sizes : List ℕ) (offsets : List (List ℤ)) where
     position-read j = rw (cell-read j, natural-of-pos)
 
     pub first-below : (j : ℕ) → j < iterationCount sizes offsets → Below sizes (firstCell k)
-    unfolding iterationCount count allIterations
+    unfolding iterationCount
     first-below j b = stays-inside sizes offsets k (getD offsets k []) (indicesOf j) h refl (sized k h) (indices-below (extents sizes offsets) j b) .0
 
     pub read-below : (j : ℕ) → j < iterationCount sizes offsets → Below sizes (add (firstCell k) (indicesOf j))
-    unfolding iterationCount count allIterations
+    unfolding iterationCount
     read-below j b = stays-inside sizes offsets k (getD offsets k []) (indicesOf j) h refl (sized k h) (indices-below (extents sizes offsets) j b) .1

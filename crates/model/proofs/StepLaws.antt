@@ -2,16 +2,15 @@
 use Prim.Native.Nat.{ℕ, suc, _+_, _-_, _≤_, _<_}
 use mathlib.Core.Bool.{Bool, true}
 use mathlib.Core.List.{List, [], _++_}
-use mathlib.Core.Path.{_≡_, refl, sym, _∙_, ap}
+use mathlib.Core.Path.{_≡_, refl, _∙_}
 use native.Mathlib.Omega.{arith}
 use lib.ListN.{length, getD}
 use lib.IntN.{ℤ}
-use Rattle.model.specs.Lists.{tabulate, sum, any}
-use Rattle.model.specs.Vectors.{plus, before}
-use Rattle.model.specs.Geometry.{position, iterationCount, iteration, reads, distance}
+use Rattle.model.specs.Lists.{tabulate, any}
+use Rattle.model.specs.Vectors.{before}
 use Rattle.model.specs.Sized.{Fitting}
 use Rattle.model.specs.Values.{Trimmed, sizesOf, offsetsOf, onGrid, windowOf, capacityArray, filterArray, chainOf, blankChain}
-use Rattle.model.specs.Iterations.{distanceOf}
+use Rattle.model.specs.Iterations.{iterationsOf, distanceOf}
 use Rattle.model.specs.Answers.{firstOf, byVerdict}
 use Rattle.model.specs.Judging.{tooLarge, twice, badOrder, centred, windowChecks, kernelChecks, chainChecks, valueChecks, judged, judgeWindow, judgeBehind}
 use Rattle.model.specs.Steps.{falling, authorsOrder, sorted, distances, total, stepsOf, refusedSteps}
@@ -27,9 +26,8 @@ use Rattle.model.specs.declared.Verdict.{Verdict}
 use Rattle.model.specs.declared.Verdict.the-variants as verdict
 use Rattle.model.specs.declared.Window.{Window}
 use Rattle.model.proofs.ListLaws.{length-tabulate, getD-tabulate}
-use Rattle.model.proofs.Distances as window
-use Rattle.model.proofs.Iterations.{some-iteration}
-use Rattle.model.proofs.SameWindows.{fitting-too}
+use Rattle.model.proofs.Iterations.{some-covered}
+use Rattle.model.proofs.SameWindows.{same-count, fitting-too}
 use Rattle.model.proofs.SortLaws.{length-falling, falling-each, falling-no-other, sized-falling, falling-falls}
 use Rattle.model.proofs.ChainLaws.{offsets-count, offsets-sized, part-bounded, offsets-back, capacities-back}
 use Rattle.model.proofs.CheckLaws.{then-checks, both-pass, WindowPasses, window-passes, few-dims, some-references, few-references}
@@ -54,16 +52,7 @@ module _ (g : Grid) (w : Window) where
   arranged-count = length-falling given ∙ offsets-count (g .dims) w
 
   pub arranged-sized : (k : ℕ) → k < w .count → length (getD arranged k []) ≡ length sizes
-  arranged-sized k h = sized-falling sizes given (offsets-sized g w) k (omega (arith, arranged-count))
-
-  -- The sorted offsets have the same iterations, and read there what the author's do.
-  pub same-iterations : iterationCount sizes arranged ≡ iterationCount sizes given
-  same-iterations = window.same-count sizes arranged given (falling-no-other given) (falling-each given)
-
-  pub reads-there : (j k : ℕ) → position sizes (plus (iteration sizes given j) (getD arranged k [])) ≡ reads sizes arranged j k
-  unfolding reads
-  reads-there j k =
-      ap (λ (v : List ℤ). position sizes (plus v (getD arranged k []))) (sym (window.same-iteration sizes arranged given (falling-no-other given) (falling-each given) j))
+  arranged-sized k h = sized-falling (length sizes) given (offsets-sized g w) k (omega (arith, arranged-count))
 
   module _ (bounds : Bounds) where
     -- What the steps answer, by what comes before them.
@@ -94,13 +83,15 @@ module _ (g : Grid) (w : Window) where
       passed = window-passes (onGrid g w bounds) e
 
       -- Window and box fit the grid, also with the offsets sorted.
-      given-fits : Fitting (onGrid g w bounds)
+      pub given-fits : Fitting (onGrid g w bounds)
       given-fits = record {
         references = offsets-count (g .dims) w;
-        entries = offsets-sized g w;
-        bounded = part-bounded g bounds;
-        some = some-references (w .count) (passed .count);
-        fits = passed .fits;
+        suits = record {
+          some = omega (arith, offsets-count (g .dims) w, some-references (w .count) (passed .count));
+          entries = offsets-sized g w;
+          bounded = part-bounded g bounds;
+          fits = passed .fits;
+        };
       }
 
       pub arranged-fits : Fitting (sorted (onGrid g w bounds))
@@ -120,30 +111,22 @@ module _ (g : Grid) (w : Window) where
           (few-dims (g .dims) sizes (passed .grid)) few
 
       pub arranged-falls : (k : ℕ) → suc k < w .count → before (getD arranged (suc k) []) (getD arranged k []) ≡ true
-      arranged-falls k h = falling-falls sizes given (offsets-sized g w) (passed .distinct) k (omega (arith, arranged-count))
+      arranged-falls k h = falling-falls (length sizes) given (offsets-sized g w) (passed .distinct) k (omega (arith, arranged-count))
 
-      -- The distances: in every iteration the first of a pair reads a later position than the second, by its distance.
-      pub reads-fall : (j k : ℕ) → j < iterationCount sizes given → suc k < w .count → reads sizes arranged j (suc k) < reads sizes arranged j k
-      reads-fall j k h b =
-          window.falls sizes arranged (λ i l. arranged-sized i (omega (arith, arranged-count))) j k (suc k) (omega (arith, same-iterations)) (omega (arith, arranged-count)) (omega (arith, arranged-count)) .0
-          (arranged-falls k b)
-
-      pub reads-apart : (j k : ℕ) → j < iterationCount sizes given → suc k < w .count
-          → reads sizes arranged j k ≡ reads sizes arranged j (suc k) + distance sizes arranged k
-      reads-apart j k h b =
-          omega (
-            arith,
-            reads-fall j k h b,
-            window.same-distance sizes arranged (λ i l. arranged-sized i (omega (arith, arranged-count))) j k (omega (arith, same-iterations)) (omega (arith, arranged-count)),
-          )
-
-      pub some-given : 0 < iterationCount sizes given
-      some-given = some-iteration (onGrid g w bounds) (passed .iterates)
-
-      pub distance-there : (k : ℕ) → suc k < w .count → getD (capacityArray (distances (sorted (onGrid g w bounds)))) k 0 ≡ distance sizes arranged k
-      unfolding distances distanceOf sorted
+      -- The distances: of the sorted offsets, in their array.
+      pub distance-there : (k : ℕ) → suc k < w .count → getD (capacityArray (distances (sorted (onGrid g w bounds)))) k 0 ≡ distanceOf (sorted (onGrid g w bounds)) k
+      unfolding distances sorted
       distance-there k h =
-          getD-tabulate 31 _ k 0 (omega (arith, few)) ∙ getD-tabulate (w .count - 1) (distance sizes arranged) k 0 (omega arith)
+          getD-tabulate 31 _ k 0 (omega (arith, few)) ∙ getD-tabulate (w .count - 1) (distanceOf (sorted (onGrid g w bounds))) k 0 (omega arith)
+
+      -- There is an iteration, of all and of those that a run covers.
+      pub some-given : 0 < iterationsOf (onGrid g w bounds)
+      some-given = some-covered (onGrid g w bounds) (part-bounded g bounds) (passed .fits) (passed .iterates)
+
+      pub some-arranged : 0 < iterationsOf (sorted (onGrid g w bounds))
+      unfolding sorted
+      some-arranged =
+          omega (arith, some-given, same-count (onGrid g w bounds) (sorted (onGrid g w bounds)) refl (falling-each given) (falling-no-other given) refl)
 
       -- Their sum: that of as many as there are pairs.
       pub distances-back : tabulate (w .count - 1) (λ k. getD (capacityArray (distances (sorted (onGrid g w bounds)))) k 0) ≡ distances (sorted (onGrid g w bounds))

@@ -29,6 +29,7 @@ numberOf refusal.ShortOutput = 12
 numberOf refusal.BadName = 13
 numberOf refusal.BadOrder = 14
 numberOf refusal.BadBox = 15
+numberOf refusal.BadRows = 16
 
 -- The number that a verdict answers; 0 where nothing is turned back.
 unfoldable pub verdictNumber : Verdict → ℕ

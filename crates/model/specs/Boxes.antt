@@ -4,9 +4,12 @@ use mathlib.Core.Bool.{Bool, true, false, cond, not, _&&_, _||_}
 use mathlib.Core.List.{List, [], _∷_, map}
 use lib.IntN.{ℤ, negℤ}
 use lib.Signed.{ltZ, leZ}
-use Rattle.model.specs.Lists.{someBelow}
+use Rattle.model.specs.Lists.{tabulate, someBelow}
 use Rattle.model.specs.Vectors.{above}
-use Rattle.model.specs.Geometry.{isIteration, lows, extents, countedFrom, Course, count, vector, allIterations}
+use Rattle.model.specs.Geometry.{lows, extents, countedFrom}
+use Rattle.model.specs.Grounds.{Row, Ground, isIteration}
+use Rattle.model.specs.Grounds.Ground.{rectangle, rows}
+use Rattle.model.specs.Courses.{Course, count, vector, allIterations}
 
 -- Which iterations a run covers: all of them, or those of a box, given by "the lowest, then the highest index of the iterations" in each dimension.
 pub data Part : Type 0 where
@@ -35,14 +38,25 @@ widths [] hs = []
 widths (l ∷ ls) [] = []
 widths (l ∷ ls) (h ∷ hs) = indexCount l h ∷ widths ls hs
 
+-- A rectangle of two dimensions as rows.
+unfoldable pub equalRows : List ℕ → List Row
+equalRows [] = []
+equalRows (n ∷ []) = []
+equalRows (n ∷ w ∷ ws) = tabulate n (λ _. record { start = 0; length = w })
+
+-- A box of these widths: a rectangle, which on rows is taken row by row.
+unfoldable pub boxShape : Ground → List ℕ → Ground
+boxShape (rectangle sizes) ws = rectangle ws
+boxShape (rows rs) ws = rows (equalRows ws)
+
 -- The vectors of a box.
-unfoldable pub boxCourse : (lowest highest : List ℤ) → Course
-boxCourse lowest highest = record { first = lowest; widths = widths lowest highest }
+unfoldable pub boxCourse : Ground → (lowest highest : List ℤ) → Course
+boxCourse g lowest highest = record { first = lowest; shape = boxShape g (widths lowest highest) }
 
 -- The iterations that a run covers.
-unfoldable pub course : List ℕ → List (List ℤ) → Part → Course
-course sizes offsets whole = allIterations sizes offsets
-course sizes offsets (box lowest highest) = boxCourse lowest highest
+unfoldable pub course : Ground → List (List ℤ) → Part → Course
+course g offsets whole = allIterations g offsets
+course g offsets (box lowest highest) = boxCourse g lowest highest
 
 -- 15: "a lowest above its highest,
 unfoldable pub crossed : (lowest highest : List ℤ) → Bool
@@ -51,14 +65,14 @@ crossed (l ∷ ls) [] = false
 crossed (l ∷ ls) (h ∷ hs) = ltZ h l || crossed ls hs
 
 -- or an iteration of the box that reads outside the grid": a vector of it that is no iteration.
-unfoldable pub readsOutside : List ℕ → List (List ℤ) → Course → Bool
-readsOutside sizes offsets c = someBelow (count c) (λ j. not (isIteration sizes offsets (vector c j)))
+unfoldable pub readsOutside : Ground → List (List ℤ) → Course → Bool
+readsOutside g offsets c = someBelow (count c) (λ j. not (isIteration g offsets (vector c j)))
 
-unfoldable pub badBox : List ℕ → List (List ℤ) → Part → Bool
-badBox sizes offsets whole = false
-badBox sizes offsets (box lowest highest) = crossed lowest highest || readsOutside sizes offsets (boxCourse lowest highest)
+unfoldable pub badBox : Ground → List (List ℤ) → Part → Bool
+badBox g offsets whole = false
+badBox g offsets (box lowest highest) = crossed lowest highest || readsOutside g offsets (boxCourse g lowest highest)
 
--- The full box: from the first iteration to the last.
+-- The full box of a rectangle: from the first iteration to the last.
 unfoldable pub fullBox : List ℕ → List (List ℤ) → Part
 fullBox sizes offsets =
     let first = map negℤ (lows sizes offsets) in

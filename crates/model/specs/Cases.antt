@@ -7,11 +7,15 @@ use lib.IntN.{ℤ, pos}
 use lib.ListN.{length, take, replicate}
 use Rattle.model.specs.Lists.{tabulate, upTo, sum, product, greatest, all, any, someBelow}
 use Rattle.model.specs.Vectors.{−1, same, above, plus, equal, before, isZero}
-use Rattle.model.specs.Geometry.{cellCount, place, natural, position, inside, isIteration, firstEntry, otherEntries, leastFrom, least, lows, extent, extents, indices, countedFrom, count, vector, allIterations, iterationCount, iteration, reads, distance}
-use Rattle.model.specs.Boxes.{Part, indexCount, widths, boxCourse, course, crossed, readsOutside, badBox}
+use Rattle.model.specs.Geometry.{place, natural, firstEntry, otherEntries, leastFrom, least, lows, extent, extents, indices}
+use Rattle.model.specs.Geometry as rectangular
+use Rattle.model.specs.Grounds.{cellCount, inside, cellPlace, position, cellAt, isIteration}
+use Rattle.model.specs.Grounds.Ground.{rectangle}
+use Rattle.model.specs.Courses.{count, vector, allIterations}
+use Rattle.model.specs.Boxes.{Part, indexCount, widths, boxShape, boxCourse, course, crossed, readsOutside, badBox}
 use Rattle.model.specs.Boxes.Part.{whole, box}
 use Rattle.model.specs.Values.{sizesOf, offsetOf, offsetsOf, partOf, capacitiesOf, orderOf, trimmed, boundsOf, chainOf, requestOf}
-use Rattle.model.specs.Iterations.{cellsOf, positionOf, courseOf, iterationsOf, iterationOf, readsOf, distanceOf}
+use Rattle.model.specs.Iterations.{cellsOf, positionOf, courseOf, iterationsOf, iterationOf, readsOf, firsts, distanceIn, distanceOf}
 use Rattle.model.specs.Answers.{numberOf, verdictNumber, outcomeCase, outcomeCounts, answerCounts, answerNumber, firstOf}
 use Rattle.model.specs.Judging.{badDims, badSizes, badGrid, badCount, repeats, noIteration, needsCentre, lacksCentre, notFinite, badFactor, tooLarge, twice, badOrder, windowChecks, kernelChecks, chainChecks, valueChecks, judged}
 use Rattle.model.specs.Steps.{insert, falling, whichOf, authorsOrder, distances, sorted}
@@ -65,7 +69,7 @@ endOf (answer.Refused r) = 5
 -- The raw chain of these sizes, offsets and capacities, without an order.
 abbrev rawChain : Part → List ℕ → List (List ℤ) → List ℕ → Chain
 rawChain part sizes offsets capacities =
-    chainOf (record { dims = length sizes; sizes = sizes; count = length offsets; offsets = offsets; part = part; capacities = capacities; ordered = false; order = []; kernel = kernel.Raw })
+    chainOf (record { dims = length sizes; ground = rectangle sizes; count = length offsets; offsets = offsets; part = part; capacities = capacities; ordered = false; order = []; kernel = kernel.Raw })
 
 unfoldable pub planned : Part → List ℕ → List (List ℤ) → Result
 planned part sizes offsets =
@@ -80,7 +84,7 @@ unfoldable pub ran : Part → List ℕ → List (List ℤ) → List ℕ → Resu
 ran part sizes offsets capacities =
     let c = rawChain part sizes offsets capacities in
     let t = trimmed c in
-    let cells = cellCount sizes in
+    let cells = product sizes in
     let store : List ℕ = replicate (sum capacities) 0 in
     let lent : List ℕ = tabulate cells (λ p. p) in
     let output : List ℕ = replicate (cells * length offsets) 0 in
@@ -176,5 +180,5 @@ cases =
     ∷ []
 
 pub table : map answered cases ≡ map expected cases
-unfolding answered copied expected cases cross crossByRows planned ran start endOf firingClocks tabulate upTo sum product greatest all any someBelow same above plus equal before isZero cellCount place natural position firstEntry otherEntries leastFrom least lows extent extents indices countedFrom count vector allIterations iterationCount iteration reads inside isIteration indexCount widths boxCourse course crossed readsOutside badBox distance cellsOf positionOf courseOf iterationsOf iterationOf readsOf distanceOf sizesOf offsetOf offsetsOf partOf capacitiesOf orderOf trimmed chainOf boundsOf numberOf verdictNumber outcomeCase outcomeCounts answerCounts answerNumber firstOf badDims badSizes badGrid badCount repeats noIteration needsCentre lacksCentre notFinite badFactor tooLarge twice badOrder windowChecks kernelChecks chainChecks valueChecks judged insert falling whichOf authorsOrder distances trimmedRequest judgeRequest sorted plannedChain planOf wordsAt terms written width centreOf turn limit turns ready fires next moves firstPlace placeIn presented stored layout countersOf withCounters outcomeOf words clocked look call events shortStore notPast badCounter badFifo badFilters badState judgeRun begun filtersOf termsOf writesOf writtenBy widthOf ended runTrimmed eventsTrimmed
+unfolding answered copied expected cases cross crossByRows planned ran start endOf firingClocks tabulate upTo sum product greatest all any someBelow same above plus equal before isZero rectangular.cellCount cellCount place natural position cellPlace cellAt firstEntry otherEntries leastFrom least lows extent extents indices count vector allIterations rectangular.inside inside isIteration indexCount widths boxShape boxCourse course crossed readsOutside badBox cellsOf positionOf courseOf iterationsOf iterationOf readsOf firsts distanceIn distanceOf sizesOf offsetOf offsetsOf partOf capacitiesOf orderOf trimmed chainOf boundsOf numberOf verdictNumber outcomeCase outcomeCounts answerCounts answerNumber firstOf badDims badSizes badGrid badCount repeats noIteration needsCentre lacksCentre notFinite badFactor tooLarge twice badOrder windowChecks kernelChecks chainChecks valueChecks judged insert falling whichOf authorsOrder distances trimmedRequest judgeRequest sorted plannedChain planOf wordsAt terms written width centreOf turn limit turns ready fires next moves firstPlace placeIn presented stored layout countersOf withCounters outcomeOf words clocked look call events shortStore notPast badCounter badFifo badFilters badState judgeRun begun filtersOf termsOf writesOf writtenBy widthOf ended runTrimmed eventsTrimmed
 table = refl

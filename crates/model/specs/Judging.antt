@@ -1,13 +1,17 @@
--- Judging a request or a chain as a value (document 01, "Turned back on account of the input", 3 to 9; document 02, requests 2 and 4, 14 and 15).
+-- Judging a request or a chain as a value (document 01, "Turned back on account of the input", 3 to 9; document 02, requests 2, 4 and 5, 14 to 16).
 use Prim.Native.Nat.{ℕ}
 use mathlib.Core.Bool.{Bool, true, false, not, _&&_, _||_}
 use mathlib.Core.List.{List, [], _∷_, _++_}
 use lib.Dec.{eqb, leb, ltb}
 use lib.IntN.{ℤ}
+use lib.ListN.{length}
 use lib.Ieee.{Float, nan, inf, fin}
 use Rattle.model.specs.Lists.{sum, any}
 use Rattle.model.specs.Vectors.{equal, isZero}
-use Rattle.model.specs.Geometry.{cellCount, iterationCount}
+use Rattle.model.specs.Geometry.{cellCount}
+use Rattle.model.specs.Grounds.{Row, Ground}
+use Rattle.model.specs.Grounds.Ground.{rectangle, rows}
+use Rattle.model.specs.Courses.{count, allIterations}
 use Rattle.model.specs.Boxes.{badBox}
 use Rattle.model.specs.Values.{Trimmed, trimmed, onGrid}
 use Rattle.model.specs.Answers.{Check, check, firstOf}
@@ -16,6 +20,7 @@ use Rattle.model.specs.declared.Chain.{Chain}
 use Rattle.model.specs.declared.Grid.{Grid}
 use Rattle.model.specs.declared.Kernel.{Kernel}
 use Rattle.model.specs.declared.Kernel.the-variants as kernel
+use Rattle.model.specs.declared.Refusal.{Refusal}
 use Rattle.model.specs.declared.Refusal.the-variants as refusal
 use Rattle.model.specs.declared.Verdict.{Verdict}
 use Rattle.model.specs.declared.Window.{Window}
@@ -36,6 +41,22 @@ badSizes sizes = any (λ s. eqb s 0) sizes || ltb mostCells (cellCount sizes)
 unfoldable pub badGrid : (dims : ℕ) (sizes : List ℕ) → Bool
 badGrid dims sizes = badDims dims || badSizes sizes
 
+-- 16: "a row count, start or length outside its range"
+unfoldable pub badRow : Row → Bool
+badRow r = ltb 4095 (r .start) || (eqb (r .length) 0 || ltb 1024 (r .length))
+
+unfoldable pub badRows : List Row → Bool
+badRows rs = eqb (length rs) 0 || (ltb 512 (length rs) || any badRow rs)
+
+-- "in a value 16 stands where 3 does": what is looked at of a grid, and which number says it.
+abbrev pub badGround : (dims : ℕ) → Ground → Bool
+badGround dims (rectangle sizes) = badGrid dims sizes
+badGround dims (rows rs) = badRows rs
+
+abbrev pub groundRefusal : Ground → Refusal
+groundRefusal (rectangle sizes) = refusal.BadGrid
+groundRefusal (rows rs) = refusal.BadRows
+
 -- 4: n outside 1 to 32
 unfoldable pub badCount : ℕ → Bool
 badCount n = eqb n 0 || ltb 32 n
@@ -46,8 +67,8 @@ repeats [] = false
 repeats (o ∷ os) = any (λ p. equal o p) os || repeats os
 
 -- 6: no iteration
-unfoldable pub noIteration : (sizes : List ℕ) (offsets : List (List ℤ)) → Bool
-noIteration sizes offsets = eqb (iterationCount sizes offsets) 0
+unfoldable pub noIteration : Ground → (offsets : List (List ℤ)) → Bool
+noIteration g offsets = eqb (count (allIterations g offsets)) 0
 
 -- 7: difference or blend without a centre. "The centre is the zero offset."
 unfoldable pub needsCentre : Kernel → Bool
@@ -87,14 +108,14 @@ twice (k ∷ ks) = any (λ l. eqb k l) ks || twice ks
 unfoldable pub badOrder : (n : ℕ) (order : List ℕ) → Bool
 badOrder n order = any (λ k. leb n k) order || twice order
 
--- The checks of a value, in groups: 3 to 6, of a window on a grid, and "15 .. after 6", of its box,
+-- The checks of a value, in groups: 3, or 16 in its place, to 6, of a window on a grid, and "15 .. after 6", of its box,
 unfoldable pub windowChecks : Trimmed → List Check
 windowChecks t =
-    check (badGrid (t .dims) (t .sizes)) refusal.BadGrid
+    check (badGround (t .dims) (t .ground)) (groundRefusal (t .ground))
     ∷ check (badCount (t .count)) refusal.BadCount
     ∷ check (repeats (t .offsets)) refusal.EqualOffsets
-    ∷ check (noIteration (t .sizes) (t .offsets)) refusal.NoIteration
-    ∷ check (badBox (t .sizes) (t .offsets) (t .part)) refusal.BadBox
+    ∷ check (noIteration (t .ground) (t .offsets)) refusal.NoIteration
+    ∷ check (badBox (t .ground) (t .offsets) (t .part)) refusal.BadBox
     ∷ []
 
 -- (what they answer by themselves)

@@ -8,6 +8,7 @@ use lib.ListN.{length}
 use lib.Ieee.{ofBits, toBits, add, sub, mul}
 use Rattle.model.specs.Lists.{tabulate, upTo, without}
 use Rattle.model.specs.Vectors.{same, isZero}
+use Rattle.model.specs.Grounds.Ground.{rectangle}
 use Rattle.model.specs.Boxes.Part.{whole}
 use Rattle.model.specs.Values.{Trimmed}
 use Rattle.model.specs.Kernels.{float, sumFrom, sumOf, centreOf, wordsAt, terms, squared, difference, scaled, blend, written}
@@ -39,7 +40,7 @@ blendBy a b = kernel.Blend (record { a = float a; b = float b })
 abbrev chain : Case → Trimmed
 chain c = record {
   dims = 1;
-  sizes = 8 ∷ [];
+  ground = rectangle (8 ∷ []);
   count = length (c .offsets);
   offsets = map (λ (x : ℤ). let offset : List ℤ = x ∷ [] in offset) (c .offsets);
   part = whole;

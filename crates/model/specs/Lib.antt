@@ -1,6 +1,8 @@
 pub mod Lists
 pub mod Vectors
 pub mod Geometry
+pub mod Grounds
+pub mod Courses
 pub mod Boxes
 pub mod Sized
 pub mod Windows
@@ -31,6 +33,7 @@ pub mod Cases
 pub mod JudgingCases
 pub mod StepCases
 pub mod RunCases
+pub mod RowCases
 pub mod KernelCases
 pub mod SheetCases
 pub mod ProgramCases

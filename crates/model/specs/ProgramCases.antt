@@ -1,5 +1,5 @@
 -- The two listings that document 01 prints, and other short inputs of the programs with what they write, by computation.
-use Prim.Native.Nat.{_+_, _-_}
+use Prim.Native.Nat.{_+_}
 use Prim.Native.String.{String, _++_}
 use mathlib.Core.Path.{_≡_, refl}
 use mathlib.Core.Bool.{Bool, true, _&&_}
@@ -7,11 +7,14 @@ use mathlib.Core.List.{List, [], _∷_, flatMap}
 use lib.Ieee.{ofBits, toBits, add, sub, mul}
 use Rattle.model.specs.Lists.{tabulate, upTo, without, sum, product, greatest, all, any, someBelow}
 use Rattle.model.specs.Vectors.{same, above, plus, equal, before, isZero}
-use Rattle.model.specs.Geometry.{cellCount, place, natural, position, firstEntry, otherEntries, leastFrom, least, lows, extent, extents, iterationCount}
-use Rattle.model.specs.Geometry.{inside, isIteration, indices, countedFrom, count, vector, allIterations, iteration, reads, distance}
-use Rattle.model.specs.Boxes.{indexCount, widths, boxCourse, course, crossed, readsOutside, badBox}
+use Rattle.model.specs.Geometry.{place, natural, firstEntry, otherEntries, leastFrom, least, lows, extent, extents}
+use Rattle.model.specs.Geometry as rectangular
+use Rattle.model.specs.Grounds.{cellCount, inside, cellPlace, position, cellAt, isIteration}
+use Rattle.model.specs.Courses.{count, vector, allIterations}
+use Rattle.model.specs.Geometry.{indices}
+use Rattle.model.specs.Boxes.{indexCount, widths, boxShape, boxCourse, course, crossed, readsOutside, badBox}
 use Rattle.model.specs.Values.{sizesOf, offsetOf, offsetsOf, partOf, capacitiesOf, orderOf, trimmed, boundsOf, chainOf}
-use Rattle.model.specs.Iterations.{cellsOf, positionOf, courseOf, iterationsOf, iterationOf, readsOf, distanceOf}
+use Rattle.model.specs.Iterations.{cellsOf, positionOf, courseOf, iterationsOf, iterationOf, readsOf, firsts, distanceIn, distanceOf}
 use Rattle.model.specs.Answers.{numberOf, verdictNumber, firstOf}
 use Rattle.model.specs.Judging.{badDims, badSizes, badGrid, badCount, repeats, noIteration, needsCentre, lacksCentre, notFinite, badFactor, tooLarge, twice, badOrder, windowChecks, kernelChecks, chainChecks, valueChecks, judged, judgeChain}
 use Rattle.model.specs.Steps.{insert, falling, whichOf, authorsOrder, distances, sorted}
@@ -136,7 +139,7 @@ runRight l = sameBytes (runText (bytesIn (l .input))) (bytesIn (l .output))
 pub table : (all planRight plans && all runRight runs) ≡ true
 unfolding bytesIn plans runs sameBytes planRight runRight flatMap ofBits toBits add sub mul
     tabulate upTo without sum product greatest all any someBelow same above plus equal before isZero
-    cellCount place natural position firstEntry otherEntries leastFrom least lows extent extents indices countedFrom count vector allIterations iterationCount iteration reads inside isIteration indexCount widths boxCourse course crossed readsOutside badBox distance cellsOf positionOf courseOf iterationsOf iterationOf readsOf distanceOf
+    rectangular.cellCount cellCount place natural position cellPlace cellAt firstEntry otherEntries leastFrom least lows extent extents indices count vector allIterations rectangular.inside inside isIteration indexCount widths boxShape boxCourse course crossed readsOutside badBox cellsOf positionOf courseOf iterationsOf iterationOf readsOf firsts distanceIn distanceOf
     sizesOf offsetOf offsetsOf partOf capacitiesOf orderOf chainOf boundsOf numberOf verdictNumber firstOf
     badDims badSizes badGrid badCount repeats noIteration needsCentre lacksCentre notFinite badFactor tooLarge twice badOrder windowChecks kernelChecks chainChecks valueChecks judged judgeChain
     insert falling whichOf authorsOrder distances trimmedRequest judgeRequest sorted trimmed plannedChain

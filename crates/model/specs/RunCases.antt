@@ -7,10 +7,13 @@ use lib.IntN.{ℤ, pos}
 use lib.ListN.{length}
 use Rattle.model.specs.Lists.{tabulate, upTo, sum, product, greatest, all, any, someBelow}
 use Rattle.model.specs.Vectors.{same, above, plus, equal, isZero}
-use Rattle.model.specs.Geometry.{cellCount, place, natural, position, inside, isIteration, firstEntry, otherEntries, leastFrom, least, lows, extent, extents, indices, countedFrom, count, vector, allIterations, iterationCount, iteration, reads}
-use Rattle.model.specs.Boxes.{indexCount, widths, boxCourse, course, crossed, readsOutside, badBox}
+use Rattle.model.specs.Geometry.{place, natural, firstEntry, otherEntries, leastFrom, least, lows, extent, extents, indices}
+use Rattle.model.specs.Geometry as rectangular
+use Rattle.model.specs.Grounds.{cellCount, inside, cellPlace, position, cellAt, isIteration}
+use Rattle.model.specs.Courses.{count, vector, allIterations}
+use Rattle.model.specs.Boxes.{indexCount, widths, boxShape, boxCourse, course, crossed, readsOutside, badBox}
 use Rattle.model.specs.Values.{sizesOf, offsetOf, offsetsOf, partOf, capacitiesOf, orderOf, trimmed}
-use Rattle.model.specs.Iterations.{cellsOf, positionOf, courseOf, iterationsOf, iterationOf, readsOf}
+use Rattle.model.specs.Iterations.{cellsOf, positionOf, courseOf, iterationsOf, iterationOf, readsOf, firsts, distanceIn}
 use Rattle.model.specs.Answers.{firstOf}
 use Rattle.model.specs.Judging.{badDims, badSizes, badGrid, badCount, repeats, noIteration, needsCentre, lacksCentre, badFactor, tooLarge, twice, badOrder, windowChecks, kernelChecks, chainChecks, valueChecks}
 use Rattle.model.specs.Kernels.{wordsAt, terms, written, width, centreOf}
@@ -175,7 +178,7 @@ AsExpected cases = map answered cases ≡ map expected cases
 pub table : AsExpected places × AsExpected looks × AsExpected refusals
 unfolding answered expected places looks refusals flatMap
     tabulate upTo sum product greatest all any someBelow same above plus equal isZero
-    cellCount place natural position firstEntry otherEntries leastFrom least lows extent extents indices countedFrom count vector allIterations iterationCount iteration reads inside isIteration indexCount widths boxCourse course crossed readsOutside badBox cellsOf positionOf courseOf iterationsOf iterationOf readsOf
+    rectangular.cellCount cellCount place natural position cellPlace cellAt firstEntry otherEntries leastFrom least lows extent extents indices count vector allIterations rectangular.inside inside isIteration indexCount widths boxShape boxCourse course crossed readsOutside badBox cellsOf positionOf courseOf iterationsOf iterationOf readsOf firsts distanceIn
     sizesOf offsetOf offsetsOf partOf capacitiesOf orderOf trimmed firstOf
     badDims badSizes badGrid badCount repeats noIteration needsCentre lacksCentre badFactor tooLarge twice badOrder windowChecks kernelChecks chainChecks valueChecks
     wordsAt terms written width centreOf turn limit turns ready fires next moves firstPlace placeIn presented stored

@@ -7,6 +7,8 @@ use lib.IntN.{ℤ, pos}
 use lib.ListN.{getD, replicate}
 use lib.Seq.{sets}
 use Rattle.model.specs.Lists.{tabulate}
+use Rattle.model.specs.Grounds.{Row, Ground, groundSizes}
+use Rattle.model.specs.Grounds.Ground.{rectangle, rows}
 use Rattle.model.specs.Boxes.{Part}
 use Rattle.model.specs.Boxes.Part.{whole, box}
 use Rattle.model.specs.declared.Grid.{Grid}
@@ -20,6 +22,10 @@ use Rattle.model.specs.declared.Chain.{Chain}
 
 unfoldable pub sizesOf : Grid → List ℕ
 sizesOf g = tabulate (g .dims) (λ d. getD (g .sizes) d 0)
+
+-- Rows that are lent beside a value, so many of them: row i's start is number 2 i and its length number 2 i + 1; where there are too few numbers, a row has no cells.
+unfoldable pub rowsOf : (count : ℕ) → List ℕ → List Row
+rowsOf count numbers = tabulate count (λ i. record { start = getD numbers (2 * i) 0; length = getD numbers (2 * i + 1) 0 })
 
 -- Entry d of reference k's offset.
 abbrev pub entryOf : Window → ℕ → ℕ → ℤ
@@ -49,7 +55,7 @@ partOf dims b = cond (b .stood) (box (tabulate dims (λ d. getD (b .lowest) d (p
 -- A request or a chain without the entries past its counts and without an absent part: all of it that plays a part.
 pub record Trimmed : Type 0 where
   pub dims : ℕ
-  pub sizes : List ℕ
+  pub ground : Ground
   pub count : ℕ
   pub offsets : List (List ℤ)
   pub part : Part
@@ -62,7 +68,7 @@ pub record Trimmed : Type 0 where
 abbrev pub trimmedOf : Grid → Window → Bounds → (capacities : List ℕ) → (ordered : Bool) (order : List ℕ) → Kernel → Trimmed
 trimmedOf g w b capacities ordered order k = record {
   dims = g .dims;
-  sizes = sizesOf g;
+  ground = rectangle (sizesOf g);
   count = w .count;
   offsets = offsetsOf (g .dims) w;
   part = partOf (g .dims) b;
@@ -82,6 +88,20 @@ Same c d = trimmed c ≡ trimmed d
 -- A window on a grid as a value, with no capacities and no order, and raw.
 abbrev pub onGrid : Grid → Window → Bounds → Trimmed
 onGrid g w b = trimmedOf g w b [] false [] kernel.Raw
+
+-- A window on rows as a value, likewise.
+abbrev pub onRows : (count : ℕ) → List ℕ → Window → Bounds → Trimmed
+onRows count numbers w b = record {
+  dims = 2;
+  ground = rows (rowsOf count numbers);
+  count = w .count;
+  offsets = offsetsOf 2 w;
+  part = partOf 2 b;
+  capacities = [];
+  ordered = false;
+  order = [];
+  kernel = kernel.Raw;
+}
 
 -- Offsets, capacities and an order's filters in their arrays, with 0 past the last.
 abbrev pub windowOf : (n : ℕ) → List (List ℤ) → Window
@@ -107,7 +127,7 @@ boundsOf (box lowest highest) = record { stood = true; lowest = indexArray lowes
 -- The chain of which this plays a part, with 0 past its counts: a chain's normal form.
 unfoldable pub chainOf : Trimmed → Chain
 chainOf t = record {
-  grid = record { dims = t .dims; sizes = tabulate 4 (λ d. getD (t .sizes) d 0) };
+  grid = record { dims = t .dims; sizes = tabulate 4 (λ d. getD (groundSizes (t .ground)) d 0) };
   window = windowOf (t .count) (t .offsets);
   bounds = boundsOf (t .part);
   capacities = capacityArray (t .capacities);

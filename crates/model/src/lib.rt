@@ -94,7 +94,7 @@ pub const STALLED_BYTE: u8 = 1;
 
 pub const STARVED_BYTE: u8 = 2;
 
-// Why input is turned back, from number 1 to 15.
+// Why input is turned back, from number 1 to 16.
 pub enum Refusal {
     Malformed,
     Misplaced,
@@ -111,6 +111,7 @@ pub enum Refusal {
     BadName,
     BadOrder,
     BadBox,
+    BadRows,
 }
 
 // What judging answers.

@@ -4,14 +4,14 @@ use mathlib.Core.List.{List}
 use mathlib.Core.Path.{_≡_, refl, sym, _∙_, ap, ap₂}
 use native.Mathlib.Numerals.{add-one}
 use native.Mathlib.Omega.{arith}
-use lib.Dec.{eqb}
 use lib.IntN.{ℤ}
 use lib.ListN.{getD, List·getD-eq-default}
 use Rattle.model.specs.Vectors.{plus}
-use Rattle.model.specs.Geometry.{position}
+use Rattle.model.specs.Grounds.{position}
+use Rattle.model.specs.Grounds.Ground.{rectangle}
 use Rattle.model.specs.Values.{Trimmed, sizesOf, offsetOf, offsetsOf, onGrid, capacityArray}
-use Rattle.model.specs.Iterations.{positionOf, iterationsOf, readsOf, distanceOf}
-use Rattle.model.specs.Judging.{noIteration, judgeWindow}
+use Rattle.model.specs.Iterations.{positionOf, readsOf, distanceOf}
+use Rattle.model.specs.Judging.{judgeWindow}
 use Rattle.model.specs.Steps.{sorted, distances}
 use Rattle.model.specs.declared.Bounds.{Bounds}
 use Rattle.model.specs.declared.Grid.{Grid}
@@ -19,9 +19,9 @@ use Rattle.model.specs.declared.Window.{Window}
 use Rattle.model.specs.declared.Verdict.the-variants as verdict
 use Rattle.model.proofs.ListLaws.{length-tabulate, getD-tabulate}
 use Rattle.model.proofs.SortLaws.{falling-each, falling-no-other}
-use Rattle.model.proofs.Iterations.{some-covered, falls, same-distance}
+use Rattle.model.proofs.Iterations.{falls, same-distance}
 use Rattle.model.proofs.SameWindows.{same-iteration}
-use Rattle.model.proofs.StepLaws.{same-iterations, passed, arranged-fits, arranged-falls}
+use Rattle.model.proofs.StepLaws.{arranged-fits, arranged-falls, some-arranged}
 use Rattle.geometry.specs.Parts.{numberAt, Filled}
 use Rattle.geometry.proofs.FillLaws.{filled-all}
 use Rattle.plan_steps.specs.Order.{Ordered, FirstPositions}
@@ -40,17 +40,11 @@ module _ (g : Grid) (w : Window) (x : Bounds) (e : judgeWindow g w x ≡ verdict
   unfolding offsetsOf offsetOf readsOf positionOf sorted
   placed k h =
       first (numberAt order k) (r .below k (omega arith) h)
-      ∙ ap₂ (λ (v o : List ℤ). position (sizesOf g) (plus v o)) (sym (same-iteration arranged (onGrid g w x) refl (falling-no-other os) (falling-each os) refl 0))
+      ∙ ap₂ (λ (v o : List ℤ). position (rectangle (sizesOf g)) (plus v o)) (sym (same-iteration arranged (onGrid g w x) refl (falling-no-other os) (falling-each os) refl 0))
       (sym (holds-at (g .dims) (w .count) (w .offsets) order r k h))
     where
       os : List (List ℤ)
       os = offsetsOf (g .dims) w
-
-  covered : 0 < iterationsOf arranged
-  unfolding sorted noIteration
-  covered =
-      some-covered arranged (arranged-fits g w x e .fits)
-      (ap (λ (n : ℕ). eqb n 0) (same-iterations g w) ∙ passed g w x e .iterates)
 
   pub positions-fall : (k : ℕ) → k + 1 < w .count → sortedAt (k + 1) ≤ sortedAt k
   unfolding sorted
@@ -60,7 +54,7 @@ module _ (g : Grid) (w : Window) (x : Bounds) (e : judgeWindow g w x ≡ verdict
         placed (k + 1) h,
         placed k (omega arith),
         ap (readsOf arranged 0) (add-one k),
-        falls arranged (arranged-fits g w x e) 0 k (suc k) covered (omega arith) (omega arith) .0 (arranged-falls g w x e k (omega arith)),
+        falls arranged (arranged-fits g w x e) 0 k (suc k) (some-arranged g w x e) (omega arith) (omega arith) .0 (arranged-falls g w x e k (omega arith)),
       )
 
   pub distances-are : (xs : List ℕ) → w .count ≤ 32 → Filled 31 0 (λ k. sortedAt k - sortedAt (k + 1)) (w .count - 1) xs → xs ≡ capacityArray (distances (sorted (onGrid g w x)))
@@ -74,7 +68,7 @@ module _ (g : Grid) (w : Window) (x : Bounds) (e : judgeWindow g w x ≡ verdict
       here k h =
           let l : k + 1 < w .count = omega arith in
           ap₂ _-_ (placed k (omega arith)) (placed (k + 1) l ∙ ap (readsOf arranged 0) (add-one k))
-          ∙ same-distance arranged (arranged-fits g w x e) 0 k covered (omega arith)
+          ∙ same-distance arranged (arranged-fits g w x e) (sizesOf g) refl 0 k (some-arranged g w x e) (omega arith)
           ∙ sym (getD-tabulate (w .count - 1) (distanceOf arranged) k 0 h)
 
       past : (k : ℕ) → w .count - 1 ≤ k → capacity k ≡ 0

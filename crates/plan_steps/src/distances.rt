@@ -1,4 +1,4 @@
-// Document 003, section 3.3.2: the reuse distances of all pairs of neighbours, which are the FIFOs' sizes. A pair's distance is the same in all iterations, so the first one's positions tell it.
+// Document 003, section 3.3.2: the reuse distances of all pairs of neighbours, which are the FIFOs' sizes. On a rectangle a pair's distance is the same in all iterations, so the first one's positions tell it.
 ghost use Prim.Native.Nat.{ℕ, _+_, _-_, _≤_, _<_};
 ghost use Rattle.geometry.specs.Parts.{numberAt, Filled};
 

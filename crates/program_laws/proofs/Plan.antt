@@ -15,7 +15,7 @@ use Rattle.model.specs.declared.Request.{Request}
 use Rattle.model.specs.declared.Verdict.{Verdict}
 use Rattle.model.specs.declared.Verdict.the-variants as verdict
 use Rattle.model.specs.Answers.{byVerdict}
-use Rattle.model.specs.Values.{trimmed, blankChain, requestOf}
+use Rattle.model.specs.Values.{sizesOf, trimmed, blankChain, requestOf}
 use Rattle.model.specs.Lines.{linesOf}
 use Rattle.model.specs.Judging.{badDims, badSizes, badGrid, judgeChain}
 use Rattle.model.specs.Planning.{judgeRequest, plannedChain, planOf}
@@ -66,7 +66,7 @@ unfolding judgeChain badGrid badDims trimmed
 chain-fits c e =
     let a = accepted-chain c e in
     let grid = value-passes (trimmed c) (a .checks) .window .grid in
-    let dims = neither (badDims (c .grid .dims)) (badSizes (trimmed c .sizes)) grid .0 in
+    let dims = neither (badDims (c .grid .dims)) (badSizes (sizesOf (c .grid))) grid .0 in
     sheet-length c (ltb-false 4 (c .grid .dims) (neither (eqb (c .grid .dims) 0) (ltb 4 (c .grid .dims)) dims .1)) (a .few)
 
 planned-fits : (r : Request) → judgeRequest r ≡ verdict.Accepted → length (sheetOf (plannedChain r)) ≤ longestSheet

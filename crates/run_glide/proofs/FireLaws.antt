@@ -1,13 +1,13 @@
 -- What a firing leaves, by the two ways that its words go.
-use Prim.Native.Nat.{ℕ, suc, _+_, _-_, _≤_, _<_}
+use Prim.Native.Nat.{ℕ, _+_, _-_, _≤_, _<_}
 use mathlib.Core.List.{List, [], _∷_, _++_, append-nil}
 use mathlib.Core.Logic.{inl, inr}
 use mathlib.Core.Path.{_≡_, refl, sym, _∙_, ap, ap₂}
 use native.Mathlib.Nat.{add-zero}
 use native.Mathlib.Decide.{decLt}
 use native.Mathlib.Omega.{arith}
-use lib.ListN.{length, getD, take, drop, set, length-drop, take-append-drop, List·getD-append, List·getD-eq-default}
-use lib.Seq.{slice, sets, sets-eq, length-sets, getD-append-add, getD-drop, take-all, take-set-le, drop-set-add, drop-length, length-take-le}
+use lib.ListN.{length, getD, take, drop, length-drop, List·getD-append, List·getD-eq-default}
+use lib.Seq.{slice, sets, sets-eq, length-sets, getD-append-add, getD-drop, take-all, drop-length, length-take-le}
 use Rattle.model.specs.Lists.{upTo}
 use Rattle.model.specs.Kernels.{wordsAt, difference, scaled, blend, written, width}
 use Rattle.model.specs.declared.Kernel.{Kernel}
@@ -20,6 +20,7 @@ use types.Run.{OneOf}
 use denote.Enum.Declared.{tagOf}
 use Rattle.loop_laws.specs.Passes.{Lent, lentOf, passing, passOf, InStore}
 use Rattle.loop_laws.proofs.FlowLaws.{length-flowed}
+use Rattle.loop_laws.proofs.CallLaws.{sets-part}
 use Rattle.run_glide.specs.Glides.{Blank, Fires, firedOf}
 
 pub part-all : (l : List ℕ) (o : ℕ) → take (length l - o) (drop o l) ≡ drop o l
@@ -27,13 +28,6 @@ part-all l o = take-all (length l - o) (drop o l) (omega (arith, length-drop o l
 
 pub part-length : (l : List ℕ) (o : ℕ) → length (take (length l - o) (drop o l)) ≡ length l - o
 part-length l o = ap length (part-all l o) ∙ length-drop o l
-
--- A part from o on that was written, back in its whole.
-sets-part : (l : List ℕ) (o i : ℕ) (vs : List ℕ) → take o l ++ sets (drop o l) i vs ≡ sets l (o + i) vs
-sets-part l o i [] = take-append-drop o l
-sets-part l o i (a ∷ vs) =
-    let e : o + suc i ≡ suc (o + i) = omega arith in
-    rw (← take-set-le o l (o + i) a (omega arith), ← drop-set-add o l i a) (sets-part (set l (o + i) a) o (suc i) vs ∙ rw e)
 
 -- A word for each filter.
 pub passing-count : (n word : ℕ) (puts gets store : List ℕ) → 0 < n → InStore (n - 1) puts gets store → length (passing (n - 1) word puts gets store) ≡ n

@@ -8,8 +8,8 @@ use native.Mathlib.Numerals.{add-one}
 use native.Mathlib.Omega.{arith}
 use lib.ListN.{length, getD, take}
 use lib.Seq.{sets, getD-take, length-take-le}
-use Rattle.model.specs.Values.{Trimmed}
-use Rattle.model.specs.Running.{Done, Spent, Starved, Full, layout, writtenBy}
+use Rattle.model.specs.Clock.{Layout}
+use Rattle.model.specs.Running.{Done, Spent, Starved, Full}
 use Rattle.model.specs.declared.Kernel.{Kernel}
 use Rattle.flow.proofs.Invariant.{first-wanted}
 use Rattle.loop_laws.specs.Passes.{of, ahead, Lent, lentOf, passing, passOf, heads}
@@ -32,17 +32,17 @@ use Rattle.run_glide.proofs.RingLaws.{caps-at, puts-at, gets-at}
 use Rattle.run_glide.specs.Glides.{firedOf, passesOf, firesOf, Starts, Glides, calls, GoodPlaces, InRows, InRings, Sound}
 
 -- The terms and the width of a firing, by other names.
-pub named : (t : Trimmed) (kernel : Kernel) (ts ts′ : List ℕ) (n row iterations cells centre w w′ fired dims : ℕ) (at wants caps bases tops spans strides passed us gs store : List ℕ) → ts ≡ ts′ → w ≡ w′
-    → Glides t kernel ts′ n row iterations cells centre w′ fired dims at wants caps bases tops spans strides passed us gs store
-    → Glides t kernel ts n row iterations cells centre w fired dims at wants caps bases tops spans strides passed us gs store
-named t kernel ts ts′ n row iterations cells centre w w′ fired dims at wants caps bases tops spans strides passed us gs store e d G = rw (e, d) G
+pub named : (L : Layout) (write : List ℕ → List ℕ) (kernel : Kernel) (ts ts′ : List ℕ) (n row iterations cells centre w w′ fired dims : ℕ) (at wants caps bases tops spans strides passed us gs store : List ℕ) → ts ≡ ts′ → w ≡ w′
+    → Glides L write kernel ts′ n row iterations cells centre w′ fired dims at wants caps bases tops spans strides passed us gs store
+    → Glides L write kernel ts n row iterations cells centre w fired dims at wants caps bases tops spans strides passed us gs store
+named L write kernel ts ts′ n row iterations cells centre w w′ fired dims at wants caps bases tops spans strides passed us gs store e d G = rw (e, d) G
 
-module _ (t : Trimmed) (kernel : Kernel) (ts : List ℕ) (n row iterations cells centre size fired₀ dims : ℕ) (at wants caps bases tops spans strides passed us₀ gs₀ store₀ : List ℕ)
+module _ (L : Layout) (write : List ℕ → List ℕ) (kernel : Kernel) (ts : List ℕ) (n row iterations cells centre size fired₀ dims : ℕ) (at wants caps bases tops spans strides passed us₀ gs₀ store₀ : List ℕ)
     (lent out₀ : List ℕ) (allowance : ℕ) where
   abbrev pub Glide : (us gs store out : List ℕ) (fired wait left taken o : ℕ) → Type 0
-  Glide = Gliding (layout t) (walked spans strides dims 0) (writtenBy t) size n cells iterations row at caps bases tops passed lent fired₀ allowance us₀ gs₀ store₀ out₀
+  Glide = Gliding L (walked spans strides dims 0) write size n cells iterations row at caps bases tops passed lent fired₀ allowance us₀ gs₀ store₀ out₀
 
-  module _ (G : Glides t kernel ts n row iterations cells centre size fired₀ dims at wants caps bases tops spans strides passed us₀ gs₀ store₀) where
+  module _ (G : Glides L write kernel ts n row iterations cells centre size fired₀ dims at wants caps bases tops spans strides passed us₀ gs₀ store₀) where
     first-small : getD at 0 0 ≤ 1048576
     first-small =
         let zeroth : 0 < iterations = omega (arith, G .more) in
@@ -59,7 +59,7 @@ module _ (t : Trimmed) (kernel : Kernel) (ts : List ℕ) (n row iterations cells
     due =
         omega (
           arith,
-          first-wanted (layout t) (counting fired₀ (take n passed)) (G .stands .holds),
+          first-wanted L (counting fired₀ (take n passed)) (G .stands .holds),
           first-take n passed (G .tables .some) (omega (arith, G .stands .there, G .tables .few)),
           G .tables .reads fired₀ 0 (G .more) (G .tables .some),
         )
@@ -126,7 +126,7 @@ module _ (t : Trimmed) (kernel : Kernel) (ts : List ℕ) (n row iterations cells
       -- A firing.
       module _ (us′ gs′ store′ out′ : List ℕ) (x : ℕ) (e : lentOf us′ gs′ store′ out′ ≡ firedOf kernel centre ts n o bases tops x (lentOf us gs store out))
           (ex : x ≡ getD lent taken 0) (fl : fired < iterations) (al : taken ≡ allowance → ⊥) (tl : taken < length lent) (wl : wait ≤ 0) (r : size ≤ length out - o) where
-        output : out′ ≡ sets out o (writtenBy t (passing (n - 1) x us gs store))
+        output : out′ ≡ sets out o (write (passing (n - 1) x us gs store))
         output = ap (λ (l : Lent). l .words) e ∙ ap (λ (ws : List ℕ). sets out o ws) (sym (G .writes-are (passing (n - 1) x us gs store)))
 
         glide-fires : 0 < left - 1 → Glide us′ gs′ store′ out′ (fired + 1) wait (left - 1) (taken + 1) (o + size)
@@ -142,20 +142,20 @@ module _ (t : Trimmed) (kernel : Kernel) (ts : List ℕ) (n row iterations cells
 
       -- The ways out.
       pub glide-spent : fired < iterations → taken ≡ allowance
-          → endedAt Spent (stand (fired₀ + (fired - fired₀)) (ahead taken (take n passed)) store out taken taken (fired - fired₀)) ≡ calls t n fired₀ passed store₀ lent out₀ allowance
-      glide-spent h e = rw (G .size-is) (ends-spent _ _ _ _ _ _ _ _ _ _ _ _ _ _ _ _ _ _ _ _ (G .tables) (G .stands) (G .rows) (G .rings) _ _ _ _ _ _ _ _ _ s h e)
+          → endedAt Spent (stand (fired₀ + (fired - fired₀)) (ahead taken (take n passed)) store out taken taken (fired - fired₀)) ≡ calls L write size n fired₀ passed store₀ lent out₀ allowance
+      glide-spent h e = ends-spent _ _ _ _ _ _ _ _ _ _ _ _ _ _ _ _ _ _ _ _ (G .tables) (G .stands) (G .rows) (G .rings) _ _ _ _ _ _ _ _ _ s h e
 
       pub glide-starved : fired < iterations → (taken ≡ allowance → ⊥) → length lent ≤ taken
-          → endedAt Starved (stand (fired₀ + (fired - fired₀)) (ahead taken (take n passed)) store out taken taken (fired - fired₀)) ≡ calls t n fired₀ passed store₀ lent out₀ allowance
-      glide-starved h e l = rw (G .size-is) (ends-starved _ _ _ _ _ _ _ _ _ _ _ _ _ _ _ _ _ _ _ _ (G .tables) (G .stands) (G .rows) (G .rings) _ _ _ _ _ _ _ _ _ s h e l)
+          → endedAt Starved (stand (fired₀ + (fired - fired₀)) (ahead taken (take n passed)) store out taken taken (fired - fired₀)) ≡ calls L write size n fired₀ passed store₀ lent out₀ allowance
+      glide-starved h e l = ends-starved _ _ _ _ _ _ _ _ _ _ _ _ _ _ _ _ _ _ _ _ (G .tables) (G .stands) (G .rows) (G .rings) _ _ _ _ _ _ _ _ _ s h e l
 
       pub glide-full : fired < iterations → (taken ≡ allowance → ⊥) → taken < length lent → wait ≤ 0 → length out - o < size
-          → endedAt Full (stand (fired₀ + (fired - fired₀)) (ahead taken (take n passed)) store out taken taken (fired - fired₀)) ≡ calls t n fired₀ passed store₀ lent out₀ allowance
-      glide-full h e l w r = rw (G .size-is) (ends-full _ _ _ _ _ _ _ _ _ _ _ _ _ _ _ _ _ _ _ _ (G .tables) (G .stands) (G .rows) (G .rings) _ _ _ _ _ _ _ _ _ s h e l w r)
+          → endedAt Full (stand (fired₀ + (fired - fired₀)) (ahead taken (take n passed)) store out taken taken (fired - fired₀)) ≡ calls L write size n fired₀ passed store₀ lent out₀ allowance
+      glide-full h e l w r = ends-full _ _ _ _ _ _ _ _ _ _ _ _ _ _ _ _ _ _ _ _ (G .tables) (G .stands) (G .rows) (G .rings) _ _ _ _ _ _ _ _ _ s h e l w r
 
       pub glide-done : iterations ≤ fired
-          → endedAt Done (stand (fired₀ + (fired - fired₀)) (ahead taken (take n passed)) store out taken taken (fired - fired₀)) ≡ calls t n fired₀ passed store₀ lent out₀ allowance
-      glide-done h = rw (G .size-is) (ends-done _ _ _ _ _ _ _ _ _ _ _ _ _ _ _ _ _ _ _ _ (G .tables) (G .stands) (G .rows) (G .rings) _ _ _ _ _ _ _ _ _ s h)
+          → endedAt Done (stand (fired₀ + (fired - fired₀)) (ahead taken (take n passed)) store out taken taken (fired - fired₀)) ≡ calls L write size n fired₀ passed store₀ lent out₀ allowance
+      glide-done h = ends-done _ _ _ _ _ _ _ _ _ _ _ _ _ _ _ _ _ _ _ _ (G .tables) (G .stands) (G .rows) (G .rings) _ _ _ _ _ _ _ _ _ s h
 
     -- Many clocks.
     module _ (us gs store out : List ℕ) (fired wait left taken o : ℕ) (s : Glide us gs store out fired wait left taken o) where

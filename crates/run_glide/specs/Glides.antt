@@ -7,8 +7,8 @@ use lib.ListN.{length, getD, take}
 use lib.Seq.{slice, sets}
 use Rattle.model.specs.Lists.{upTo}
 use Rattle.model.specs.Kernels.{written, width}
-use Rattle.model.specs.Values.{Trimmed}
-use Rattle.model.specs.Running.{Ending, Done, Spent, Starved, Stalled, Full, Ended, layout, writtenBy, widthOf, call}
+use Rattle.model.specs.Clock.{Layout}
+use Rattle.model.specs.Running.{Ending, Done, Spent, Starved, Stalled, Full, Ended, call}
 use Rattle.model.specs.declared.Kernel.{Kernel}
 use Rattle.loop_laws.specs.Passes.{ahead, flow, stepped, Lent, passing, passOf, FullFifos, InStore}
 use Rattle.loop_laws.specs.Standings.{counting, stand, endedAt}
@@ -72,22 +72,21 @@ firesOf kernel centre ts n size bases tops cells from o (suc i) l =
     firedOf kernel centre ts n (o + i * size) bases tops (getD cells (from + i) 0) (firesOf kernel centre ts n size bases tops cells from o i l)
 
 -- The call that a loop makes the clocks of, from its beginning.
-abbrev pub calls : (t : Trimmed) (n fired : ℕ) (passed store lent out : List ℕ) (allowance : ℕ) → Ended
-calls t n fired passed store lent out allowance = call (layout t) (writtenBy t) (widthOf t) lent allowance (stand fired (take n passed) store out 0 0 0)
+abbrev pub calls : (L : Layout) (write : List ℕ → List ℕ) (size n fired : ℕ) (passed store lent out : List ℕ) (allowance : ℕ) → Ended
+calls L write size n fired passed store lent out allowance = call L write size lent allowance (stand fired (take n passed) store out 0 0 0)
 
--- What the caller hands in: tables, counters and ring places, rows, and what a firing writes.
-pub record Glides (t : Trimmed) (kernel : Kernel) (ts : List ℕ) (n row iterations cells centre size fired dims : ℕ) (at wants caps bases tops spans strides passed puts gets store : List ℕ)
+-- What the caller hands in: tables, counters and ring places of layout L, rows, and what a firing writes.
+pub record Glides (L : Layout) (write : List ℕ → List ℕ) (kernel : Kernel) (ts : List ℕ) (n row iterations cells centre size fired dims : ℕ) (at wants caps bases tops spans strides passed puts gets store : List ℕ)
     : Type 0 where
-  pub tables : Tables (layout t) (walked spans strides dims 0) n cells iterations at caps bases
-  pub stands : Stands (layout t) n fired caps bases passed store
+  pub tables : Tables L (walked spans strides dims 0) n cells iterations at caps bases
+  pub stands : Stands L n fired caps bases passed store
   pub more : fired < iterations
   pub most : iterations ≤ 1048576
   pub wanted : getD wants 0 0 ≡ getD at 0 0 + walked spans strides dims 0 fired
   pub rings : Rings n at caps bases tops passed puts gets
   pub rows : Rows (walked spans strides dims 0) row iterations
   pub walks : Walks dims spans strides
-  pub writes-are : (ws : List ℕ) → writtenBy t ws ≡ written kernel centre ts (upTo n) ws
-  pub size-is : widthOf t ≡ size
+  pub writes-are : (ws : List ℕ) → write ws ≡ written kernel centre ts (upTo n) ws
 
 -- What the loop is handed of tables and counters.
 pub record Starts (full : Bool) (n row fired first position wait left : ℕ) (at wants caps passed : List ℕ) : Type 0 where
@@ -104,9 +103,9 @@ wayOf way.Starved = Starved
 wayOf way.Full = Full
 
 -- The call ends as they do.
-pub record GlidesTo (r : Slid) (t : Trimmed) (n iterations cells fired : ℕ) (passed store store′ out out′ lent : List ℕ) (allowance : ℕ) : Type 0 where
+pub record GlidesTo (r : Slid) (L : Layout) (write : List ℕ → List ℕ) (size n iterations cells fired : ℕ) (passed store store′ out out′ lent : List ℕ) (allowance : ℕ) : Type 0 where
   pub ends : endedAt (wayOf (r .how)) (stand (fired + r .firings) (ahead (r .clocks) (take n passed)) store′ out′ (r .clocks) (r .clocks) (r .firings))
-      ≡ calls t n fired passed store lent out allowance
+      ≡ calls L write size n fired passed store lent out allowance
   pub had : r .clocks ≤ length lent
   pub allowed : r .clocks ≤ allowance
   pub fewer : r .firings ≤ r .clocks

@@ -7,7 +7,7 @@ ghost use mathlib.Core.Bool.{true, false};
 ghost use Prim.Native.Nat.{ℕ, suc, _+_, _-_, _*_, _%_, _<_, _≤_};
 ghost use lib.ListN.{length, getD};
 ghost use Rattle.model.specs.Kernels.{width as widthFor, terms as termsOf};
-ghost use Rattle.model.specs.Values.{Trimmed};
+ghost use Rattle.model.specs.Clock.{Layout};
 ghost use Rattle.kernel.specs.Tables.{filtersFor};
 ghost use Rattle.loop_laws.specs.Passes.{step, lentOf, passOf, heads, FullFifos, InStore};
 ghost use Rattle.loop_laws.specs.Tables.{walked};
@@ -396,9 +396,9 @@ fn slide(
     requires { ⌜ width ≡ widthFor kernel n ⌝ }
     requires { ⌜ (length (now puts) ≡ 32) × (length (now gets) ≡ 32) × InRings n (length (now store)) (now bases) (now tops) (now puts) (now gets) ⌝ }
     requires { ⌜ InRows dims row iterations first (position + wait0) position (now spans) (now strides) × (0 < left0) ⌝ }
-    ensures { λ r. ⌜ ((t : Trimmed) (size : ℕ) (at wants caps passed : List ℕ) → Starts full n row fired0 first position wait0 left0 at wants caps passed
-        → Glides t kernel (now (terms .entry)) n row iterations size centre width fired0 dims at wants caps (now (bases .entry)) (now (tops .entry)) (now (spans .entry)) (now (strides .entry)) passed (now (puts .entry)) (now (gets .entry)) (now (store .entry))
-        → GlidesTo r t n iterations size fired0 passed (now (store .entry)) (now (store .exit)) (now (out .entry)) (now (out .exit)) (now (cells .entry)) allowance) ⌝ }
+    ensures { λ r. ⌜ ((L : Layout) (write : List ℕ → List ℕ) (size : ℕ) (at wants caps passed : List ℕ) → Starts full n row fired0 first position wait0 left0 at wants caps passed
+        → Glides L write kernel (now (terms .entry)) n row iterations size centre width fired0 dims at wants caps (now (bases .entry)) (now (tops .entry)) (now (spans .entry)) (now (strides .entry)) passed (now (puts .entry)) (now (gets .entry)) (now (store .entry))
+        → GlidesTo r L write width n iterations size fired0 passed (now (store .entry)) (now (store .exit)) (now (out .entry)) (now (out .exit)) (now (cells .entry)) allowance) ⌝ }
 {
     let mut spare = [0u32; 256];
     let mut fired = fired0;
@@ -519,9 +519,9 @@ pub fn glide(
     allowance: usize,
     order: Order,
 ) -> Slid
-    ensures { λ r. ⌜ ((t : Trimmed) (size : ℕ) (caps : List ℕ) → (full ≡ true → FullFifos n caps (now (passed .entry)))
-        → Glides t kernel (termsOf kernel centre (filtersFor n order)) n row iterations size centre (widthFor kernel n) fired0 dims (now (at .entry)) (now (wants .entry)) caps (now (bases .entry)) (now (tops .entry)) (now (spans .entry)) (now (strides .entry)) (now (passed .entry)) puts0 gets0 (now (store .entry))
-        → GlidesTo r t n iterations size fired0 (now (passed .entry)) (now (store .entry)) (now (store .exit)) (now (out .entry)) (now (out .exit)) (now (cells .entry)) allowance)
+    ensures { λ r. ⌜ ((L : Layout) (write : List ℕ → List ℕ) (size : ℕ) (caps : List ℕ) → (full ≡ true → FullFifos n caps (now (passed .entry)))
+        → Glides L write kernel (termsOf kernel centre (filtersFor n order)) n row iterations size centre (widthFor kernel n) fired0 dims (now (at .entry)) (now (wants .entry)) caps (now (bases .entry)) (now (tops .entry)) (now (spans .entry)) (now (strides .entry)) (now (passed .entry)) puts0 gets0 (now (store .entry))
+        → GlidesTo r L write (widthFor kernel n) n iterations size fired0 (now (passed .entry)) (now (store .entry)) (now (store .exit)) (now (out .entry)) (now (out .exit)) (now (cells .entry)) allowance)
         × ((Sound n dims row iterations (length (now (store .entry))) (now (at .entry)) (now (wants .entry)) (now (bases .entry)) (now (tops .entry)) (now (spans .entry)) (now (strides .entry)) (now (passed .entry)) puts0 gets0 → ⊥)
         → Left r (now (store .entry)) (now (store .exit)) (now (out .entry)) (now (out .exit))) ⌝ }
 {

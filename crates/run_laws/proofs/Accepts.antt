@@ -4,14 +4,13 @@ use mathlib.Core.List.{List, _++_}
 use mathlib.Core.Path.{_≡_}
 use borrow.Author.Tests.{ltb-false}
 use Rattle.model.specs.Lists.{sum}
-use Rattle.model.specs.Values.{Trimmed, trimmed, capacitiesOf}
+use Rattle.model.specs.Values.{Trimmed, trimmed, sizesOf, capacitiesOf}
 use Rattle.model.specs.Answers.{Check, firstOf}
-use Rattle.model.specs.Judging.{badDims, badSizes, badGrid, tooLarge, judged, judgeChain}
+use Rattle.model.specs.Judging.{tooLarge, judged, judgeChain}
 use Rattle.model.specs.declared.Chain.{Chain}
 use Rattle.model.specs.declared.Verdict.the-variants as verdict
 use Rattle.model.proofs.ListLaws.{length-tabulate}
 use Rattle.model.proofs.ChainLaws.{length-order, offsets-count, offsets-sized, part-bounded}
-use Rattle.model.proofs.Tests.{neither}
 use Rattle.model.proofs.Iterations.{few-cells, some-covered, fitting}
 use Rattle.model.proofs.CheckLaws.{then-checks, value-passes, some-references, few-references}
 use Rattle.model.specs.Sized.{Proper, Fitting}
@@ -23,24 +22,33 @@ first-append cs ds e = rw e at (then-checks cs ds)
 
 -- A chain, trimmed, has them.
 pub trimmed-proper : (c : Chain) → Proper (trimmed c)
-unfolding trimmed capacitiesOf
+unfolding trimmed capacitiesOf sizesOf
 trimmed-proper c = record {
   references = offsets-count (c .grid .dims) (c .window);
+  dimensions = length-tabulate (c .grid .dims) _;
   entries = offsets-sized (c .grid) (c .window);
   bounded = part-bounded (c .grid) (c .bounds);
   fifos = length-tabulate (c .window .count - 1) _;
   terms = length-order (c .window .count) (c .order);
 }
 
-pub accepted : (t : Trimmed) → judged t ≡ verdict.Accepted → Accepted t
-unfolding judged badGrid tooLarge
-accepted t e =
+pub accepted : (t : Trimmed) → Proper t → judged t ≡ verdict.Accepted → Accepted t
+unfolding judged tooLarge
+accepted t proper e =
     let p = value-passes t e in
-    record { checks = e; cells = few-cells t (neither (badDims (t .dims)) (badSizes (t .sizes)) (p .window .grid) .1); some = some-references (t .count) (p .window .count); few = few-references (t .count) (p .window .count); iterates = some-covered t (p .window .fits) (p .window .iterates); fits = p .window .fits; places = ltb-false 16384 (sum (t .capacities)) (p .chain .places) }
+    record {
+      checks = e;
+      cells = few-cells t (p .window .grid);
+      some = some-references (t .count) (p .window .count);
+      few = few-references (t .count) (p .window .count);
+      iterates = some-covered t (proper .bounded) (p .window .fits) (p .window .iterates);
+      fits = p .window .fits;
+      places = ltb-false 16384 (sum (t .capacities)) (p .chain .places);
+    }
 
 pub accepted-chain : (c : Chain) → judgeChain c ≡ verdict.Accepted → Accepted (trimmed c)
 unfolding judgeChain
-accepted-chain c e = accepted (trimmed c) e
+accepted-chain c e = accepted (trimmed c) (trimmed-proper c) e
 
 -- What the laws of iterations ask of it.
 pub fitting-of : (t : Trimmed) → Proper t → Accepted t → Fitting t

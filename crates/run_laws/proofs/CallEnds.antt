@@ -8,7 +8,7 @@ use native.Mathlib.Nat.{add-zero, suc-mul, mul-le-mul-right}
 use native.Mathlib.Omega.{arith}
 use lib.ListN.{length, take, length-append}
 use Rattle.model.specs.Answers.{outcomeCounts, answerCounts}
-use Rattle.model.specs.Clock.{Counters, moves}
+use Rattle.model.specs.Clock.{moves}
 use Rattle.model.specs.Running.{layout, Ending, Done, Spent, Starved, Stalled, Full, ends, outcomeOf, shortStore, begun, writtenBy, widthOf}
 use Rattle.model.specs.CallLists.{Lending, Between, LentEnough, lentCells, callRun, callEvents, firingsAmong}
 use Rattle.model.specs.declared.Counts.{Counts}
@@ -16,7 +16,6 @@ use Rattle.model.specs.declared.Outcome.{Outcome}
 use Rattle.model.specs.declared.Outcome.the-variants as outcome
 use Rattle.model.specs.declared.Answer.{Answer}
 use Rattle.model.specs.declared.Answer.the-variants as answer
-use Rattle.flow.specs.Machine.{Invariant}
 use Rattle.flow.proofs.Laws.{fewer-clocks, room-left}
 use Rattle.model.specs.Reports.{Reports, firingsOf, clocksOf}
 use Rattle.run_laws.proofs.Layouts.{lawful}
@@ -100,16 +99,6 @@ module _ (S : Setting) (l : Lending) (b : Between) {es : List Bool} (r : Reached
         at-end = subst (λ (f : Ending). Looked (layout t) (writtenBy t) (widthOf t) (lentCells t stream l b) (w .rest) (ending S l b .standing) (ends f))
             (same-ending (ending S l b .ending) e (ending S l b .standing .done) (q .counts) (q .answer)) (w .why);
       })
-
-  -- A call that reports Stalled has firings left and nothing that would move.
-  pub stalled-why : Reports outcome.Stalled (callRun t stream l b) → (s : Counters) × Invariant (layout t) s × (s .fired < layout t .iterations) × (moves (layout t) s ≡ false)
-  unfolding outcomeOf
-  stalled-why q = let w = reported Stalled q in go (w .not-refused) (w .at-end)
-    where
-      go : {n : ℕ} → shortStore t (take (l .front) (b .store)) ≡ false
-          → Looked (layout t) (writtenBy t) (widthOf t) (lentCells t stream l b) n (ending S l b .standing) (ends Stalled)
-          → (s : Counters) × Invariant (layout t) s × (s .fired < layout t .iterations) × (moves (layout t) s ≡ false)
-      go e (is-stalled f _ _ m) = (ending S l b .standing .counters, sound-end S l b r e .invariant, f, m)
 
   -- The call ended Done with all firings made, or Stalled.
   abbrev pub Over : Type 0

@@ -1,20 +1,22 @@
--- The layout of an accepted chain: it is lawful, and its order and capacities are right exactly if every iteration flows.
+-- The layout of an accepted chain: it is lawful, its order and capacities are right exactly if every iteration flows, and its first blocked iteration is the first that needs more.
 use Prim.Native.Nat.{ℕ, suc, _+_, _-_, _≤_, _<_}
+use mathlib.Core.List.{List}
 use mathlib.Core.Path.{_≡_, refl, sym, _∙_, ap}
 use native.Mathlib.Omega.{arith}
 use native.Mathlib.Decide.{decLt}
 use lib.ListN.{length, getD}
 use borrow.Author.Tests.{lt-ltb, le-ltb}
 use Rattle.model.specs.Lists.{sum, tabulate}
+use Rattle.model.specs.Grounds.Ground.{rectangle}
 use Rattle.model.specs.Values.{Trimmed}
-use Rattle.model.specs.Iterations.{cellsOf, iterationsOf, readsOf}
+use Rattle.model.specs.Iterations.{cellsOf, iterationsOf, readsOf, distanceIn}
 use Rattle.model.specs.Store.{firstPlace}
 use Rattle.model.specs.Running.{layout}
 use Rattle.model.proofs.ListLaws.{tabulate-back}
-use Rattle.model.proofs.Iterations.{rises, below-cells, same-distance, right-reads, reads-right}
+use Rattle.model.proofs.Iterations.{rises, below-cells, falls, same-distance, right-reads, reads-right}
 use Rattle.flow.specs.Machine.{Lawful, Spans, Flows, FlowsUpTo}
 use Rattle.flow.specs.Machine as flow
-use Rattle.model.specs.Right.{RightPair, Right, Planned}
+use Rattle.model.specs.Right.{Falls, RightPair, Right, Planned, HeldIn, FirstBlocked}
 use Rattle.model.specs.Sized.{Proper, Fitting}
 use Rattle.run_laws.specs.Accepted.{Accepted}
 use Rattle.run_laws.proofs.Accepts.{fitting-of}
@@ -54,45 +56,96 @@ module _ (t : Trimmed) (proper : Proper t) (ok : Accepted t) where
       let b = wants-read f (suc k) h in
       record { falls = omega (arith, a, b); fits = omega (arith, a, b) }
 
-  pub spans-right : (f k : ℕ) → f < iterationsOf t → suc k < t .count → Spans (layout t) f k → RightPair t k
+  spans-falls : (f k : ℕ) → f < iterationsOf t → suc k < t .count → Spans (layout t) f k → readsOf t f (suc k) < readsOf t f k
   unfolding layout
-  spans-right f k h g s =
+  spans-falls f k h g s = omega (arith, s .falls, wants-read f k h, wants-read f (suc k) h)
+
+  spans-fits : (f k : ℕ) → f < iterationsOf t → suc k < t .count → Spans (layout t) f k → readsOf t f k ≤ readsOf t f (suc k) + getD (t .capacities) k 0
+  unfolding layout
+  spans-fits f k h g s = omega (arith, s .fits, wants-read f k h, wants-read f (suc k) h)
+
+  -- An iteration that flows shows that the offsets fall; where they do, it flows exactly if it needs no more than the chain has.
+  pub flows-falls : (f : ℕ) → f < iterationsOf t → Flows (layout t) f → Falls t
+  unfolding layout
+  flows-falls f h fl k g = falls t fit f k (suc k) h (omega arith) g .1 (spans-falls f k h g (fl k g))
+
+  flows-held : (f : ℕ) → f < iterationsOf t → Flows (layout t) f → HeldIn t f
+  unfolding layout distanceIn
+  flows-held f h fl k g = omega (arith, spans-fits f k h g (fl k g))
+
+  held-flows : Falls t → (f : ℕ) → f < iterationsOf t → HeldIn t f → Flows (layout t) f
+  unfolding layout distanceIn
+  held-flows order f h held k g =
+      let below = falls t fit f k (suc k) h (omega arith) g .0 (order k g) in
       let a = wants-read f k h in
       let b = wants-read f (suc k) h in
-      reads-right t fit f k h g (omega (arith, s .falls, a, b)) (omega (arith, s .fits, a, b))
+      record { falls = omega (arith, a, b); fits = omega (arith, held k g, a, b) }
 
-  -- So a chain that is right flows to its end, and one that is not does not flow at all.
+  -- So a chain that is right flows to its end, and one that flows to its end is right.
   pub right-flows : Right t → FlowsUpTo (layout t) (iterationsOf t)
   unfolding layout
   right-flows r = record { most = omega arith; before = λ f h k g. right-spans f k h g (r k g); ends = λ h. absurd (omega arith) }
 
-  pub flows-right : (f : ℕ) → f < iterationsOf t → Flows (layout t) f → Right t
+  pub flows-right : FlowsUpTo (layout t) (iterationsOf t) → Right t
   unfolding layout
-  flows-right f h fl k g = spans-right f k h g (fl k g)
+  flows-right fl k g = reads-right t fit k (ok .iterates) g (λ j h. (spans-falls j k h g (fl .before j h k g), spans-fits j k h g (fl .before j h k g)))
 
-  pub wrong-blocks : (Right t → ⊥) → FlowsUpTo (layout t) 0
+  -- Where the offsets fall, the first blocked iteration is the first that needs more;
+  pub blocked-flows : Falls t → {B : ℕ} → FirstBlocked t B → FlowsUpTo (layout t) B
   unfolding layout
-  wrong-blocks n = record { most = omega arith; before = λ f h. absurd (omega arith); ends = λ h fl. n (flows-right 0 h fl) }
+  blocked-flows order b = record {
+    most = b .most;
+    before = λ f h. held-flows order f (omega (arith, b .most)) (b .before f h);
+    ends = λ h fl. b .needs h (flows-held _ h fl);
+  }
 
-  -- A planned chain is right, and its layout is a planned one.
+  pub flows-blocked : Falls t → {B : ℕ} → FlowsUpTo (layout t) B → FirstBlocked t B
+  unfolding layout
+  flows-blocked order b = record {
+    most = b .most;
+    before = λ j h. flows-held j (omega (arith, b .most)) (b .before j h);
+    needs = λ h held. b .ends h (held-flows order _ h held);
+  }
+
+  -- where they do not, the first iteration is.
+  pub disorder-blocks : (Falls t → ⊥) → FlowsUpTo (layout t) 0
+  unfolding layout
+  disorder-blocks n = record { most = omega arith; before = λ f h. absurd (omega arith); ends = λ h fl. n (flows-falls 0 h fl) }
+
+  -- A planned chain is right.
   pub planned-right : Planned t → Right t
   planned-right p k g = record { falls = p k g .falls; holds = omega (arith, p k g .exact) }
 
-  pub planned-layout : Planned t → flow.Planned (layout t)
-  unfolding layout
-  planned-layout p = record {
-    room = λ k g. let s = spans 0 k (ok .iterates) g in let e = exact 0 k (ok .iterates) g in omega (arith, s .falls);
-    exact = λ j k h g. exact j k h g;
-  }
-    where
-      spans : (j k : ℕ) → j < iterationsOf t → suc k < t .count → Spans (layout t) j k
-      spans j k h g = right-spans j k h g (planned-right p k g)
+  -- On a rectangle:
+  module _ (sizes : List ℕ) (e : t .ground ≡ rectangle sizes) where
+    -- One iteration that flows shows that the chain is right, so one that is not does not flow at all.
+    pub flow-right : (f : ℕ) → f < iterationsOf t → Flows (layout t) f → Right t
+    unfolding layout
+    flow-right f h fl k g = record {
+      falls = flows-falls f h fl k g;
+      holds = omega (arith, same-distance t fit sizes e f k h g, spans-fits f k h g (fl k g));
+    }
 
-      exact : (j k : ℕ) → j < iterationsOf t → suc k < t .count → layout t .wants j k ≡ layout t .wants j (suc k) + getD (t .capacities) k 0
-      exact j k h g =
-          let s = spans j k h g in
-          let same = same-distance t fit j k h g in
-          omega (arith, p k g .exact, s .falls, wants-read j k h, wants-read j (suc k) h)
+    pub wrong-blocks : (Right t → ⊥) → FlowsUpTo (layout t) 0
+    unfolding layout
+    wrong-blocks n = record { most = omega arith; before = λ f h. absurd (omega arith); ends = λ h fl. n (flow-right 0 h fl) }
+
+    -- The layout of a planned chain is a planned one.
+    pub planned-layout : Planned t → flow.Planned (layout t)
+    unfolding layout
+    planned-layout p = record {
+      room = λ k g. let s = spans 0 k (ok .iterates) g in let x = exact 0 k (ok .iterates) g in omega (arith, s .falls);
+      exact = λ j k h g. exact j k h g;
+    }
+      where
+        spans : (j k : ℕ) → j < iterationsOf t → suc k < t .count → Spans (layout t) j k
+        spans j k h g = right-spans j k h g (planned-right p k g)
+
+        exact : (j k : ℕ) → j < iterationsOf t → suc k < t .count → layout t .wants j k ≡ layout t .wants j (suc k) + getD (t .capacities) k 0
+        exact j k h g =
+            let s = spans j k h g in
+            let same = same-distance t fit sizes e j k h g in
+            omega (arith, p k g .exact, s .falls, wants-read j k h, wants-read j (suc k) h)
 
   -- The FIFOs' places are as many as the capacities' sum.
   pub all-places : firstPlace (layout t .capacity) (t .count - 1) ≡ sum (t .capacities)

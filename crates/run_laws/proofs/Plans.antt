@@ -3,7 +3,10 @@ use mathlib.Core.Bool.{false}
 use mathlib.Core.List.{[]}
 use mathlib.Core.Path.{_≡_, refl, _∙_, ap}
 use Rattle.model.specs.Vectors.{isZero}
-use Rattle.model.specs.Boxes.{badBox}
+use Rattle.model.specs.Grounds.{dims}
+use Rattle.model.specs.Courses.{count}
+use Rattle.model.specs.Boxes.{course, badBox}
+use Rattle.model.specs.Boxes.Part.{whole}
 use Rattle.model.specs.Values.{Trimmed, trimmed, noOrder, sizesOf}
 use Rattle.model.specs.Answers.{firstOf}
 use Rattle.model.specs.Judging.{repeats, noIteration, badOrder, windowChecks, chainChecks, valueChecks, judged, judgeChain}
@@ -12,7 +15,7 @@ use Rattle.model.specs.Planning.{trimmedRequest, judgeRequest, plannedChain, pl
 use Rattle.model.specs.declared.Request.{Request}
 use Rattle.model.specs.declared.Verdict.the-variants as verdict
 use Rattle.model.proofs.ListLaws.{length-tabulate}
-use Rattle.model.proofs.Distances.{same-count}
+use Rattle.model.proofs.SameCourses.{same-course}
 use Rattle.model.proofs.Iterations.{fitting}
 use Rattle.model.proofs.SameWindows.{fitting-too}
 use Rattle.model.proofs.SortLaws.{length-falling, falling-each, falling-no-other, sized-falling, any-falling, repeats-falling}
@@ -27,24 +30,25 @@ sorted-fits : (t : Trimmed) → Fitting t → Fitting (sorted t)
 unfolding sorted
 sorted-fits t f =
     fitting-too t (sorted t) refl (falling-each (t .offsets)) (falling-no-other (t .offsets)) refl f (length-falling (t .offsets) ∙ f .references)
-    (sized-falling (t .sizes) (t .offsets) (f .entries)) (f .bounded)
+    (sized-falling (dims (t .ground)) (t .offsets) (f .suits .entries)) (f .suits .bounded)
 
 -- A value that no number turns back is judged as before with its offsets sorted: the order that is recorded is each filter number once.
 same-checks : (t : Trimmed) → Proper t → judged t ≡ verdict.Accepted → valueChecks (sorted t) ≡ valueChecks t
-unfolding judged sorted valueChecks windowChecks chainChecks noIteration
+unfolding judged sorted valueChecks windowChecks chainChecks noIteration course
 same-checks t p e =
     let os = t .offsets in
     let q = value-passes t e in
     let recorded : badOrder (t .count) (authorsOrder os) ≡ false = rw (p .references) at (authors-good os (q .window .distinct)) in
     let good = fitting t p (some-references (t .count) (q .window .count)) (q .window .fits) in
-    let boxed : badBox (t .sizes) (falling os) (t .part) ≡ false = sorted-fits t good .fits in
-    rw (repeats-falling os, same-count (t .sizes) (falling os) os (falling-no-other os) (falling-each os), boxed, q .window .fits, any-falling isZero os, recorded, q .chain .once)
+    let boxed : badBox (t .ground) (falling os) (t .part) ≡ false = sorted-fits t good .suits .fits in
+    rw (repeats-falling os, ap count (same-course (falling os) os (falling-no-other os) (falling-each os) (t .ground) whole), boxed, q .window .fits, any-falling isZero os, recorded, q .chain .once)
 
 pub sorted-proper : (t : Trimmed) → Proper t → Proper (sorted t)
 unfolding sorted
 sorted-proper t p = record {
   references = length-falling (t .offsets) ∙ p .references;
-  entries = sized-falling (t .sizes) (t .offsets) (p .entries);
+  dimensions = p .dimensions;
+  entries = sized-falling (dims (t .ground)) (t .offsets) (p .entries);
   bounded = p .bounded;
   fifos = p .fifos;
   terms = length-authors (t .offsets) ∙ p .references;
@@ -61,6 +65,7 @@ request-proper r =
     let p = trimmed-proper (record { grid = r .grid; window = r .window; bounds = r .bounds; capacities = []; order = noOrder; kernel = r .kernel }) in
     record {
       references = p .references;
+      dimensions = p .dimensions;
       entries = p .entries;
       bounded = p .bounded;
       fifos = length-tabulate _ _;
@@ -73,8 +78,8 @@ module _ (r : Request) (ok : judgeRequest r ≡ verdict.Accepted) where
   unfolding judgeRequest judged plannedChain trimmedRequest sorted sizesOf
   planned-lists =
       let p = sorted-proper (trimmedRequest r) (request-proper r) in
-      trimmed-chain (sorted (trimmedRequest r)) (length-tabulate (r .grid .dims) _) (p .references) (p .entries) (p .bounded) (p .fifos) (p .terms)
-      (few-dims (r .grid .dims) (sizesOf (r .grid)) (value-passes (trimmedRequest r) ok .window .grid)) (accepted (trimmedRequest r) ok .few)
+      trimmed-chain (sorted (trimmedRequest r)) (sizesOf (r .grid)) refl (p .dimensions) (p .references) (p .entries) (p .bounded) (p .fifos) (p .terms)
+      (few-dims (r .grid .dims) (sizesOf (r .grid)) (value-passes (trimmedRequest r) ok .window .grid)) (accepted (trimmedRequest r) (request-proper r) ok .few)
 
   pub planned-judged : judged (sorted (trimmedRequest r)) ≡ verdict.Accepted
   unfolding judged judgeRequest

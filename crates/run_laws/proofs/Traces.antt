@@ -1,18 +1,15 @@
 -- Clocks with their events: what each event says of the counters at its clock.
-use Prim.Native.Nat.{ℕ, zero, suc, _+_, _≤_, _<_}
+use Prim.Native.Nat.{ℕ, zero, suc, _+_, _<_}
 use mathlib.Core.Bool.{Bool, true, false, cond, false≢true}
 use mathlib.Core.List.{List, [], _∷_, _++_}
 use mathlib.Core.Path.{_≡_, refl, sym, _∙_, ap}
-use native.Mathlib.Decide.{ℕ-discrete}
 use native.Mathlib.Omega.{arith}
 use lib.ListN.{length, getD, take}
 use Rattle.model.specs.Clock.{Layout, Counters, fires, next}
 use Rattle.model.specs.CallLists.{firingsAmong}
-use Rattle.flow.specs.Machine.{live, Ran, Lawful, Flows, Invariant}
-use Rattle.flow.proofs.Tests.{clock-live, live-yes, fired-once, turned-once}
+use Rattle.flow.specs.Machine.{live, Ran}
+use Rattle.flow.proofs.Tests.{clock-live, fired-once, turned-once}
 use Rattle.flow.proofs.Runs.{still, step}
-use Rattle.flow.proofs.Invariant.{next-invariant}
-use Rattle.flow.proofs.Laws.{block}
 
 module _ (L : Layout) where
   -- The clocks whose events are the list lead from s to s′.
@@ -62,18 +59,6 @@ module _ (L : Layout) where
   at {s} (clocked v r) (suc t) h =
       let a = at r t (omega arith) in
       record { now = a .now; ran = step L v (rw (clock-live L s v) (a .ran)); fired = count-on (fires L s) _ _ _ _ (a .fired) (fired-next s); live = a .live; event = a .event }
-
-  -- What fired met the condition on its iteration.
-  pub fired-flows : Lawful L → {s s′ : Counters} {es : List Bool} → Traced s es s′ → Invariant L s → (f : ℕ) → s .fired ≤ f → f < s′ .fired → Flows L f
-  fired-flows lawful ended i f h g = absurd (omega arith)
-  fired-flows lawful {s} {s′} (clocked v r) i f h g = go (fires L s) refl (ℕ-discrete (s .fired) f) (fired-next s)
-      (λ x y. fired-flows lawful r (next-invariant L lawful s (live-yes L s v .0) i) f x y)
-    where
-      go : (b : Bool) → fires L s ≡ b → Dec (s .fired ≡ f) → next L s .fired ≡ cond b (suc (s .fired)) (s .fired)
-          → (next L s .fired ≤ f → f < s′ .fired → Flows L f) → Flows L f
-      go true e (yes d) n ih = rw (← d) (block L lawful i e)
-      go true e (no d) n ih = ih (omega arith) g
-      go false e d n ih = ih (omega arith) g
 
   -- Counters with no clock to make stay.
   pub still-traced : {s s′ : Counters} {es : List Bool} → Traced s es s′ → live L s ≡ false → es ≡ []

@@ -1,4 +1,4 @@
--- A value that no number turns back: what the laws use of 3 to 9 and 15.
+-- A value that no number turns back: what the laws use of 3 to 9, 15 and 16.
 use Prim.Native.Nat.{_≤_, _<_}
 use mathlib.Core.Bool.{false}
 use mathlib.Core.Path.{_≡_}
@@ -16,5 +16,5 @@ pub record Accepted (t : Trimmed) : Type 0 where
   pub some : 0 < t .count
   pub few : t .count ≤ 32
   pub iterates : 0 < iterationsOf t
-  pub fits : badBox (t .sizes) (t .offsets) (t .part) ≡ false
+  pub fits : badBox (t .ground) (t .offsets) (t .part) ≡ false
   pub places : sum (t .capacities) ≤ mostPlaces

@@ -8,6 +8,7 @@ use lib.Dec.{eqb, ltb}
 use lib.ListN.{length, drop}
 use borrow.Author.Tests.{ltb-false}
 use Rattle.model.specs.Geometry.{cellCount}
+use Rattle.model.specs.Grounds as ground
 use Rattle.model.specs.Values.{sizesOf, capacitiesOf, capacityOf, trimmed}
 use Rattle.model.specs.Iterations.{cellsOf, iterationsOf, extentsOf, positionOf, iterationOf, readsOf}
 use Rattle.model.specs.Judging.{badDims, badSizes, badGrid}
@@ -56,7 +57,7 @@ module _ (c : Chain) (ok : Accepted (trimmed c)) where
   -- The arrays of the window's shape on the grid, widened.
   pub chain-shaped : (shape : Shape) (es ss at : List ℕ) → shape ≡ chainShape c → Widened 4 (shape .extents) 4 es → Widened 4 (shape .strides) 4 ss
       → Widened 32 (shape .at) 32 at → Shaped (trimmed c) (c .grid .dims) (c .window .count) (shape .cells) (shape .iterations) es ss at
-  unfolding trimmed cellsOf iterationsOf extentsOf readsOf positionOf iterationOf shapeFor chainShape
+  unfolding trimmed cellsOf ground.cellCount iterationsOf extentsOf readsOf positionOf iterationOf shapeFor chainShape
   chain-shaped shape es ss at is e s a =
       let all = dimensions in
       let few = few-dimensions in
@@ -67,6 +68,7 @@ module _ (c : Chain) (ok : Accepted (trimmed c)) where
         accepted = ok;
         spaced = record {
           fitting = fitting-of (trimmed c) (trimmed-proper c) ok;
+          rectangular = refl;
           dimensions = all;
           few = few;
           cells = ok .cells;

@@ -7,6 +7,7 @@ use native.Mathlib.Omega.{arith}
 use lib.ListN.{length, getD, drop}
 use Rattle.model.specs.Lists.{tabulate, product}
 use Rattle.model.specs.Geometry.{cellCount, place, indices}
+use Rattle.model.specs.Grounds.{groundSizes}
 use Rattle.model.specs.Values.{Trimmed}
 use Rattle.model.specs.Iterations.{iterationsOf, extentsOf}
 use Rattle.model.proofs.ListLaws.{tabulate-back}
@@ -113,19 +114,28 @@ some-extent (e ∷ es) h zero l = factors-above-0 e (product es) h .0
 some-extent (e ∷ es) h (suc d) l = some-extent es (factors-above-0 e (product es) h .1) d (omega arith)
 
 module _ {t : Trimmed} {dims : ℕ} {es ss : List ℕ} (spaced : Spaced t dims es ss) where
+  abbrev sizes : List ℕ
+  sizes = groundSizes (t .ground)
+
+  same-dimensions : length (extentsOf t) ≡ length sizes
+  same-dimensions = extents-count t (spaced .fitting) sizes (spaced .rectangular)
+
   dimensions : length (extentsOf t) ≡ dims
-  dimensions = extents-count t (spaced .fitting .bounded) ∙ spaced .dimensions
+  dimensions = same-dimensions ∙ spaced .dimensions
+
+  iterations : iterationsOf t ≡ product (extentsOf t)
+  iterations = iterations-product t (spaced .fitting) sizes (spaced .rectangular)
 
   -- The way to iteration j is the place of its indices.
-  pub walk-is : (j : ℕ) → j < iterationsOf t → walkBy (numberAt es) (numberAt ss) dims j ≡ place (t .sizes) (indices (extentsOf t) j)
+  pub walk-is : (j : ℕ) → j < iterationsOf t → walkBy (numberAt es) (numberAt ss) dims j ≡ place sizes (indices (extentsOf t) j)
   walk-is j h =
-      walk-same dims (numberAt es) (numberAt ss) (λ d. getD (extentsOf t) d 0) (λ d. cellCount (drop (suc d) (t .sizes))) j (spaced .extents-are) (spaced .strides-are)
-      ∙ ap (λ (n : ℕ). walkBy (λ d. getD (extentsOf t) d 0) (λ d. cellCount (drop (suc d) (t .sizes))) n j) (sym dimensions)
-      ∙ walk-place (t .sizes) (extentsOf t) j (sym (extents-count t (spaced .fitting .bounded))) (omega (arith, iterations-product t))
+      walk-same dims (numberAt es) (numberAt ss) (λ d. getD (extentsOf t) d 0) (λ d. cellCount (drop (suc d) sizes)) j (spaced .extents-are) (spaced .strides-are)
+      ∙ ap (λ (n : ℕ). walkBy (λ d. getD (extentsOf t) d 0) (λ d. cellCount (drop (suc d) sizes)) n j) (sym dimensions)
+      ∙ walk-place sizes (extentsOf t) j (sym same-dimensions) (omega (arith, iterations))
 
   pub walks : (j : ℕ) → j < iterationsOf t → Walks dims es ss j
   walks j h = record {
     few = spaced .few;
-    some = λ d l. rw (spaced .extents-are d l) (some-extent (extentsOf t) (omega (arith, iterations-product t)) d (rw dimensions l));
-    near = omega (arith, walk-is j h, way-below t (spaced .fitting) j h, spaced .cells);
+    some = λ d l. rw (spaced .extents-are d l) (some-extent (extentsOf t) (omega (arith, iterations)) d (rw dimensions l));
+    near = omega (arith, walk-is j h, way-below t (spaced .fitting) sizes (spaced .rectangular) j h, spaced .cells);
   }

@@ -4,6 +4,7 @@ use mathlib.Core.List.{List}
 use mathlib.Core.Path.{_≡_, sym, _∙_, ap₂}
 use native.Mathlib.Omega.{arith}
 use borrow.Author.Tests.{le-ltb}
+use Rattle.model.specs.Grounds.{groundSizes}
 use Rattle.model.specs.Values.{Trimmed}
 use Rattle.model.specs.Iterations.{iterationsOf, readsOf}
 use Rattle.model.specs.Running.{layout}
@@ -30,7 +31,7 @@ module _ {t : Trimmed} {dims n cells iterations : ℕ} {es ss at : List ℕ} (sh
     reads-at : (k : ℕ) → k < n → numberAt at k + way ≡ readsOf t j k
     reads-at k g =
         ap₂ _+_ (shaped .reads-are k g) (e ∙ walk-is (shaped .spaced) j below)
-        ∙ sym (reads-from-first t (shaped .spaced .fitting) j k below (reference k g))
+        ∙ sym (reads-from-first t (shaped .spaced .fitting) (groundSizes (t .ground)) (shaped .spaced .rectangular) j k below (reference k g))
 
     pub wants-at : (k : ℕ) → k < n → numberAt at k + way ≡ layout t .wants j k
     wants-at k g = reads-at k g ∙ sym (wants-read t (shaped .proper) (shaped .accepted) j k below)

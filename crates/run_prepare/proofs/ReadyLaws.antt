@@ -9,7 +9,7 @@ use lib.ListN.{length, take, drop}
 use borrow.Author.Tests.{ltb-false}
 use Rattle.model.specs.Lists.{sum, product}
 use Rattle.model.specs.Values.{sizesOf, trimmed}
-use Rattle.model.specs.Iterations.{extentsOf}
+use Rattle.model.specs.Iterations.{iterationsOf, extentsOf}
 use Rattle.model.specs.Answers.{Check, firstOf}
 use Rattle.model.specs.Judging.{badGrid, badCount, valueChecks, judged, judgeChain}
 use Rattle.model.specs.Store.{firstPlace}
@@ -128,7 +128,7 @@ module _ (c : Chain) {cells iterations : ℕ} {es ss at : List ℕ} (S : Shaped 
 
   pub some-dimensions : (0 < c .grid .dims) × (c .grid .dims ≤ 4)
   unfolding trimmed
-  some-dimensions = let g = good-grid (trimmed c) (S .accepted) in (g .some, g .few)
+  some-dimensions = let g = good-grid (trimmed c) (sizesOf (c .grid)) refl (S .accepted) in (g .some, g .few)
 
   pub few-references : c .window .count ≤ 32
   unfolding trimmed
@@ -136,7 +136,11 @@ module _ (c : Chain) {cells iterations : ℕ} {es ss at : List ℕ} (S : Shaped 
 
   dimensions : length whole ≡ c .grid .dims
   unfolding trimmed
-  dimensions = extents-count (trimmed c) (S .spaced .fitting .bounded) ∙ S .spaced .dimensions
+  dimensions = extents-count (trimmed c) (S .spaced .fitting) (sizesOf (c .grid)) refl ∙ S .spaced .dimensions
+
+  counted : iterationsOf (trimmed c) ≡ product whole
+  unfolding trimmed
+  counted = iterations-product (trimmed c) (S .spaced .fitting) (sizesOf (c .grid)) refl
 
   behind : (d : ℕ) → part (numberAt es) d (c .grid .dims) ≡ drop d whole
   unfolding trimmed
@@ -145,7 +149,7 @@ module _ (c : Chain) {cells iterations : ℕ} {es ss at : List ℕ} (S : Shaped 
       ∙ ap (part (numberAt whole) d) (sym dimensions) ∙ part-drop whole d
 
   iterates : 0 < product whole
-  iterates = omega (arith, iterations-product (trimmed c), S .accepted .iterates)
+  iterates = omega (arith, counted, S .accepted .iterates)
 
   pub extents-small : Small es (c .grid .dims)
   extents-small d =
@@ -153,7 +157,7 @@ module _ (c : Chain) {cells iterations : ℕ} {es ss at : List ℕ} (S : Shaped 
         arith,
         ap product (behind d),
         product-last whole d iterates,
-        iterations-product (trimmed c),
+        counted,
         at-most-cells (trimmed c) (S .spaced .fitting),
         S .spaced .cells,
       )
@@ -165,6 +169,7 @@ module _ {c : Chain} {s : State} {cells iterations : ℕ} {es ss at wants caps b
   unfolding trimmed
   prepared spans row centre b r m = record {
     accepted = T .stored .capable .accepted;
+    rectangular = T .shaped .spaced .rectangular;
     at-there = T .at-there;
     at-are = T .shaped .reads-are;
     caps-are = T .stored .capable .capped .capacities-are;

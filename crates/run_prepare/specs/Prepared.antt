@@ -5,6 +5,8 @@ use mathlib.Core.List.{List}
 use mathlib.Core.Path.{_≡_}
 use lib.ListN.{length, getD, drop, replicate}
 use Rattle.model.specs.Geometry.{cellCount}
+use Rattle.model.specs.Grounds.{groundSizes}
+use Rattle.model.specs.Grounds.Ground.{rectangle}
 use Rattle.model.specs.Values.{Trimmed}
 use Rattle.model.specs.Iterations.{cellsOf, iterationsOf, extentsOf, readsOf}
 use Rattle.model.specs.Judging.{mostCells}
@@ -46,14 +48,15 @@ pub record Walks (dims : ℕ) (es ss : List ℕ) (j : ℕ) : Type 0 where
   pub some : (d : ℕ) → d < dims → 0 < numberAt es d
   pub near : walkBy (numberAt es) (numberAt ss) dims j ≤ mostCells
 
--- The extents of the iterations, and the strides, which "are those of the whole grid": dimension d's is the number of cells of the dimensions behind it.
+-- On a rectangle: the extents of the iterations, and the strides, which "are those of the whole grid": dimension d's is the number of cells of the dimensions behind it.
 pub record Spaced (t : Trimmed) (dims : ℕ) (es ss : List ℕ) : Type 0 where
   pub fitting : Fitting t
-  pub dimensions : length (t .sizes) ≡ dims
+  pub rectangular : t .ground ≡ rectangle (groundSizes (t .ground))
+  pub dimensions : length (groundSizes (t .ground)) ≡ dims
   pub few : dims ≤ 4
   pub cells : cellsOf t ≤ mostCells
   pub extents-are : (d : ℕ) → d < dims → numberAt es d ≡ getD (extentsOf t) d 0
-  pub strides-are : (d : ℕ) → d < dims → numberAt ss d ≡ cellCount (drop (suc d) (t .sizes))
+  pub strides-are : (d : ℕ) → d < dims → numberAt ss d ≡ cellCount (drop (suc d) (groundSizes (t .ground)))
 
 -- Where the references of an accepted chain read: `at` has the positions of the first iteration.
 pub record Shaped (t : Trimmed) (dims n cells iterations : ℕ) (es ss at : List ℕ) : Type 0 where

@@ -6,6 +6,8 @@ use mathlib.Core.Path.{_≡_}
 use lib.ListN.{length, getD, take, drop}
 use Rattle.model.specs.Lists.{sum, product}
 use Rattle.model.specs.Geometry.{cellCount}
+use Rattle.model.specs.Grounds.{groundSizes}
+use Rattle.model.specs.Grounds.Ground.{rectangle}
 use Rattle.model.specs.Kernels.{centreOf}
 use Rattle.model.specs.Values.{Trimmed, trimmed}
 use Rattle.model.specs.Iterations.{cellsOf, iterationsOf, extentsOf, readsOf}
@@ -20,17 +22,18 @@ use Rattle.loop_laws.specs.Standings.{counting}
 use Rattle.run_prepare.specs.Prepared.{numberAt, Shaped, Capped}
 use Rattle.run_prepare.specs.declared.Ready.{Ready}
 
--- The tables of an accepted chain: reference k's cell in iteration 0, FIFO k's capacity, its first place and the place past its last; for each dimension how many
+-- The tables of an accepted chain, whose grid is a rectangle: reference k's cell in iteration 0, FIFO k's capacity, its first place and the place past its last; for each dimension how many
 -- iterations and how many cells one index there is; how many iterations a row has.
 pub record Prepared (t : Trimmed) (row iterations cells centre : ℕ) (at caps bases tops spans strides : List ℕ) : Type 0 where
   pub accepted : Accepted t
+  pub rectangular : t .ground ≡ rectangle (groundSizes (t .ground))
   pub at-there : length at ≡ 32
   pub at-are : (k : ℕ) → k < t .count → getD at k 0 ≡ readsOf t 0 k
   pub caps-are : (k : ℕ) → suc k < t .count → getD caps k 0 ≡ getD (t .capacities) k 0
   pub bases-are : (k : ℕ) → suc k < t .count → getD bases k 0 ≡ firstPlace (λ i. getD (t .capacities) i 0) k
   pub tops-are : (k : ℕ) → suc k < t .count → getD tops k 0 ≡ getD bases k 0 + getD caps k 0
   pub spans-are : (d : ℕ) → d < t .dims → getD spans d 0 ≡ product (drop (suc d) (extentsOf t))
-  pub strides-are : (d : ℕ) → d < t .dims → getD strides d 0 ≡ cellCount (drop (suc d) (t .sizes))
+  pub strides-are : (d : ℕ) → d < t .dims → getD strides d 0 ≡ cellCount (drop (suc d) (groundSizes (t .ground)))
   pub row-is : row ≡ getD (extentsOf t) (t .dims - 1) 0
   pub iterations-are : iterations ≡ iterationsOf t
   pub cells-are : cells ≡ cellsOf t

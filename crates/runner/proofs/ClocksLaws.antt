@@ -2,7 +2,7 @@
 use Prim.Native.Nat.{ℕ, zero, suc, _+_, _-_, _≤_, _<_, _^_}
 use mathlib.Core.List.{List, [], _∷_}
 use mathlib.Core.Path.{_≡_, refl, sym, _∙_, ap}
-use native.Mathlib.Nat.{zero-add, add-zero}
+use native.Mathlib.Nat.{zero-add, add-zero, zero-mul}
 use native.Mathlib.Numerals.{add-one}
 use native.Mathlib.Omega.{arith}
 use lib.ListN.{length, getD, take, drop}
@@ -25,22 +25,21 @@ use Rattle.run_laws.proofs.Accepts.{trimmed-proper, fitting-of}
 use Rattle.loop_laws.specs.Passes.{of, Aligned}
 use Rattle.loop_laws.specs.Standings.{counting, stand, endedAt}
 use Rattle.loop_laws.specs.Tables.{walked, Tables, Stands}
-use Rattle.loop_laws.proofs.StoredLaws.{holds-below, holds-apart}
+use Rattle.loop_laws.proofs.StoredLaws.{holds-below}
 use Rattle.loop_laws.proofs.CallLaws.{call-done, call-spent, endedLater, call-later}
 use Rattle.run_fill.specs.Fills.{Handed, FillsTo}
 use Rattle.run_fill.specs.declared.Stop.the-variants as stop
 use Rattle.run_fill.specs.declared.Filled.{Filled}
-use Rattle.run_glide.specs.Glides.{Glides, GlidesTo, calls, wayOf}
+use Rattle.run_glide.specs.Glides.{Glides, GlidesTo, wayOf}
 use Rattle.run_glide.specs.declared.Slid.{Slid}
 use Rattle.runner.specs.Loops.{Advanced}
 use Rattle.run_prepare.specs.Ready.{Prepared, Begins}
-use Rattle.run_prepare.proofs.GridLaws.{good-grid}
-use Rattle.runner.specs.Clocks.{Ends}
+use Rattle.runner.specs.Clocks.{callOf, Ends}
 use Rattle.runner.proofs.FitLaws.{small-fits, small-fits-32}
 use Rattle.run_glide.proofs.FireLaws.{part-all}
 use Rattle.run_glide.proofs.RingLaws.{caps-at, ringed-puts, ringed-gets}
 use Rattle.runner.proofs.TableLaws.{advanced-ahead, advanced-rest}
-use Rattle.runner.proofs.PreparedLaws.{sizes-count, walks, rows, tops-low, tables, stands, writes-are}
+use Rattle.runner.proofs.PreparedLaws.{walks, rows, tables, stands, writes-are}
 
 -- No filter is before filter 0.
 holds-first : (L : Layout) (f k source i : ℕ) (ps : List ℕ) → Holds L f k source ps → getD ps i 0 ≤ getD ps 0 0
@@ -86,18 +85,18 @@ module _ (c : Chain) (row iterations cells centre : ℕ) (at caps bases tops spa
 
   T : Tables (layout (trimmed c)) (walked spans strides (c .grid .dims) 0) n cells iterations at caps bases
   unfolding trimmed
-  T = tables (trimmed c) (sizes-count c) (trimmed-proper c) row iterations cells centre at caps bases tops spans strides P
+  T = tables (trimmed c) (trimmed-proper c) row iterations cells centre at caps bases tops spans strides P
 
   S : Stands (layout (trimmed c)) n fired caps bases passed store
   unfolding trimmed
-  S = stands (trimmed c) (sizes-count c) (trimmed-proper c) row iterations cells centre at caps bases tops spans strides P fired wants passed store B
+  S = stands (trimmed c) (trimmed-proper c) row iterations cells centre at caps bases tops spans strides P fired wants passed store B
 
   pub few : n ≤ 32
   few = T .few
 
   iterations-small : layout (trimmed c) .iterations ≤ 1048576
   unfolding layout
-  iterations-small = omega (arith, at-most-cells (trimmed c) (fitting-of (trimmed c) (trimmed-proper c) (P .accepted)), good-grid (trimmed c) (P .accepted) .cells)
+  iterations-small = omega (arith, at-most-cells (trimmed c) (fitting-of (trimmed c) (trimmed-proper c) (P .accepted)), P .accepted .cells)
 
   pub fired-fits : Fits w32 fired
   fired-fits = small-fits-32 fired (omega (arith, B .holds .most, iterations-small))
@@ -107,7 +106,7 @@ module _ (c : Chain) (row iterations cells centre : ℕ) (at caps bases tops spa
 
   -- Every firing is made already.
   pub ends-done : (lent out : List ℕ) (allowance : ℕ) (o : Outcome) (d : Counts) → iterations ≤ fired → d ≡ record { cells = 0; firings = 0; clocks = 0 } → o ≡ outcomeOf Done d
-      → Ends (record { outcome = o; fired = record { 0 = fired } }) (calls (trimmed c) n fired passed store lent out allowance) n passed passed store out
+      → Ends (record { outcome = o; fired = record { 0 = fired } }) (callOf (trimmed c) n fired passed store lent out allowance) n passed passed store out
   unfolding trimmed
   ends-done lent out allowance o d h ed eo =
       ends-there o fired _ Done n 0 0 0 passed passed store out
@@ -116,7 +115,7 @@ module _ (c : Chain) (row iterations cells centre : ℕ) (at caps bases tops spa
 
   -- No clock is allowed.
   pub ends-none : (lent out : List ℕ) (allowance : ℕ) (o : Outcome) (d : Counts) → fired < iterations → allowance ≡ 0 → d ≡ record { cells = 0; firings = 0; clocks = 0 }
-      → o ≡ outcomeOf Spent d → Ends (record { outcome = o; fired = record { 0 = fired } }) (calls (trimmed c) n fired passed store lent out allowance) n passed passed store out
+      → o ≡ outcomeOf Spent d → Ends (record { outcome = o; fired = record { 0 = fired } }) (callOf (trimmed c) n fired passed store lent out allowance) n passed passed store out
   unfolding trimmed
   ends-none lent out allowance o d h e ed eo =
       ends-there o fired _ Spent n 0 0 0 passed passed store out
@@ -138,17 +137,17 @@ module _ (c : Chain) (row iterations cells centre : ℕ) (at caps bases tops spa
       -- The three ways out before the filters are aligned.
       module _ (o : Outcome) (d : Counts) (ed : d ≡ record { cells = r .taken; firings = 0; clocks = r .clocks }) where
         pub ends-spent : r .how ≡ stop.Spent → o ≡ outcomeOf Spent d
-            → Ends (record { outcome = o; fired = record { 0 = fired } }) (calls (trimmed c) n fired passed store lent out allowance) n passed passed′ store′ out
+            → Ends (record { outcome = o; fired = record { 0 = fired } }) (callOf (trimmed c) n fired passed store lent out allowance) n passed passed′ store′ out
         ends-spent e eo =
             ends-there o fired _ Spent n (r .taken) (r .clocks) 0 passed passed′ store′ out (rw e at (F .resumes (writtenBy (trimmed c)) (widthOf (trimmed c)) out)) (rw ed at eo) (F .rest) (F .there) filled-small
 
         pub ends-starved : r .how ≡ stop.Starved → o ≡ outcomeOf Starved d
-            → Ends (record { outcome = o; fired = record { 0 = fired } }) (calls (trimmed c) n fired passed store lent out allowance) n passed passed′ store′ out
+            → Ends (record { outcome = o; fired = record { 0 = fired } }) (callOf (trimmed c) n fired passed store lent out allowance) n passed passed′ store′ out
         ends-starved e eo =
             ends-there o fired _ Starved n (r .taken) (r .clocks) 0 passed passed′ store′ out (rw e at (F .resumes (writtenBy (trimmed c)) (widthOf (trimmed c)) out)) (rw ed at eo) (F .rest) (F .there) filled-small
 
         pub ends-stalled : r .how ≡ stop.Stalled → o ≡ outcomeOf Stalled d
-            → Ends (record { outcome = o; fired = record { 0 = fired } }) (calls (trimmed c) n fired passed store lent out allowance) n passed passed′ store′ out
+            → Ends (record { outcome = o; fired = record { 0 = fired } }) (callOf (trimmed c) n fired passed store lent out allowance) n passed passed′ store′ out
         ends-stalled e eo =
             ends-there o fired _ Stalled n (r .taken) (r .clocks) 0 passed passed′ store′ out (rw e at (F .resumes (writtenBy (trimmed c)) (widthOf (trimmed c)) out)) (rw ed at eo) (F .rest) (F .there) filled-small
 
@@ -168,8 +167,8 @@ module _ (c : Chain) (row iterations cells centre : ℕ) (at caps bases tops spa
         caps-there k h = rw zero-add at (caps-at (of at) (of caps) 0 k (take n passed′) (omega (arith, long)) aligned-there)
 
         pub may-glide : length store′ ≡ length store
-            → Glides (trimmed c) (c .kernel) (terms (c .kernel) centre (filtersFor n (c .order))) n row iterations cells centre (width (c .kernel) n) fired (c .grid .dims) at wants caps bases tops spans strides passed′ us gs store′
-        unfolding trimmed widthOf filtersOf
+            → Glides (layout (trimmed c)) (writtenBy (trimmed c)) (c .kernel) (terms (c .kernel) centre (filtersFor n (c .order))) n row iterations cells centre (width (c .kernel) n) fired (c .grid .dims) at wants caps bases tops spans strides passed′ us gs store′
+        unfolding trimmed filtersOf
         may-glide l = record {
           tables = T;
           stands = record { there = F .there; within = λ k h. omega (arith, S .within k h); holds = F .holds };
@@ -184,15 +183,14 @@ module _ (c : Chain) (row iterations cells centre : ℕ) (at caps bases tops spa
             at-puts = ringed-puts n bases caps passed′ us gs (T .some) (T .few) (omega (arith, F .there, T .few)) (F .puts-there) caps-there (F .rings);
             at-gets = ringed-gets n bases caps passed′ us gs (T .some) (T .few) (omega (arith, F .there, T .few)) (F .gets-there) caps-there (F .rings);
           };
-          rows = rows (trimmed c) (sizes-count c) (trimmed-proper c) row iterations cells centre at caps bases tops spans strides P;
-          walks = walks (trimmed c) (sizes-count c) (trimmed-proper c) row iterations cells centre at caps bases tops spans strides P;
-          writes-are = λ ws. writes-are (trimmed c) (sizes-count c) (trimmed-proper c) row iterations cells centre at caps bases tops spans strides P ws
+          rows = rows (trimmed c) (trimmed-proper c) row iterations cells centre at caps bases tops spans strides P;
+          walks = walks (trimmed c) (trimmed-proper c) row iterations cells centre at caps bases tops spans strides P;
+          writes-are = λ ws. writes-are (trimmed c) (trimmed-proper c) row iterations cells centre at caps bases tops spans strides P ws
               ∙ ap (λ (ks : List ℕ). written (c .kernel) centre (terms (c .kernel) centre ks) (upTo n) ws) (sym (filters-are n (c .order)));
-          size-is = refl;
         }
 
         module _ (s : Slid) (store″ out″ : List ℕ)
-            (G : GlidesTo s (trimmed c) n iterations cells fired passed′ store′ store″ out out″ (take (length lent - r .taken) (drop (r .taken) lent)) (allowance - r .clocks)) where
+            (G : GlidesTo s (layout (trimmed c)) (writtenBy (trimmed c)) (width (c .kernel) n) n iterations cells fired passed′ store′ store″ out out″ (take (length lent - r .taken) (drop (r .taken) lent)) (allowance - r .clocks)) where
           slid-small : (k : ℕ) → k < n → getD passed′ k 0 + s .clocks ≤ 1048576
           slid-small k h =
               omega (
@@ -229,14 +227,15 @@ module _ (c : Chain) (row iterations cells centre : ℕ) (at caps bases tops spa
 
           pub ends-glided : (passed″ : List ℕ) (o : Outcome) (d : Counts) → d ≡ record { cells = r .taken + s .clocks; firings = s .firings; clocks = r .clocks + s .clocks }
               → o ≡ outcomeOf (wayOf (s .how)) d → Advanced n (s .clocks) passed′ passed″
-              → Ends (record { outcome = o; fired = record { 0 = fired + s .firings } }) (calls (trimmed c) n fired passed store lent out allowance) n passed passed″ store″ out″
+              → Ends (record { outcome = o; fired = record { 0 = fired + s .firings } }) (callOf (trimmed c) n fired passed store lent out allowance) n passed passed″ store″ out″
+          unfolding trimmed widthOf
           ends-glided passed″ o d ed eo a =
               let es = rw part-all at (G .ends) in
-              let cl = rw (add-zero, add-zero) at
-              (call-later (layout (trimmed c)) (writtenBy (trimmed c)) (widthOf (trimmed c)) lent (r .taken) (r .clocks) (F .had) (allowance - r .clocks)
+              let cl = rw (add-zero (r .taken), add-zero (r .clocks)) at
+              (call-later (layout (trimmed c)) (writtenBy (trimmed c)) (width (c .kernel) n) lent [] (r .taken) (r .clocks) 0 (F .had) (sym (zero-mul (width (c .kernel) n))) (allowance - r .clocks)
               (stand fired (take n passed′) store′ out 0 0 0)) in
-              let re = rw e at (F .resumes (writtenBy (trimmed c)) (widthOf (trimmed c)) out) in
-              let whole = ap (λ (x : Ended). endedLater (r .taken) (r .clocks) x) es ∙ sym cl ∙ re in
+              let re = rw e at (F .resumes (writtenBy (trimmed c)) (width (c .kernel) n) out) in
+              let slid = rw (zero-add (s .firings)) at (ap (λ (x : Ended). endedLater (r .taken) (r .clocks) 0 [] x) es) in
               ends-there o (fired + s .firings) _ (wayOf (s .how)) n (r .taken + s .clocks) (r .clocks + s .clocks) (s .firings) passed passed″ store″ out″
-              (rw (advanced-ahead n (s .clocks) passed′ passed″ (T .few) (F .there) a) whole) (rw ed at eo)
+              (rw (advanced-ahead n (s .clocks) passed′ passed″ (T .few) (F .there) a) (slid ∙ sym cl ∙ re)) (rw ed at eo)
               (advanced-rest n (s .clocks) passed′ passed″ (F .there) a ∙ F .rest) (a .there) (λ k h. omega (arith, a .on k h, slid-small k h))

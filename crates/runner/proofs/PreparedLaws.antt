@@ -8,16 +8,15 @@ use native.Mathlib.Decide.{ℕ-discrete}
 use lib.ListN.{length, getD, drop}
 use Rattle.model.specs.Lists.{upTo, sum, product}
 use Rattle.model.specs.Geometry.{cellCount, place, indices}
+use Rattle.model.specs.Grounds.{groundSizes, dims}
+use Rattle.model.specs.Grounds as ground
 use Rattle.model.specs.Kernels.{written, terms}
-use Rattle.model.specs.Values.{Trimmed, trimmed, sizesOf}
+use Rattle.model.specs.Values.{Trimmed}
 use Rattle.model.specs.Iterations.{cellsOf, extentsOf}
 use Rattle.model.specs.Store.{firstPlace}
 use Rattle.model.specs.Running.{layout, filtersOf, termsOf, writesOf, writtenBy}
-use Rattle.model.specs.declared.Chain.{Chain}
-use Rattle.model.proofs.ListLaws.{length-tabulate}
 use Rattle.model.proofs.Iterations.{iterations-product, extents-count, reads-from-first, at-most-cells}
-use Rattle.model.specs.Sized.{Proper}
-use Rattle.run_laws.specs.Accepted.{Accepted}
+use Rattle.model.specs.Sized.{Proper, Fitting}
 use Rattle.run_laws.proofs.Accepts.{fitting-of}
 use Rattle.run_laws.proofs.Held.{first-place-suc}
 use Rattle.run_laws.proofs.Layouts.{wants-read, lawful, all-places}
@@ -25,7 +24,7 @@ use Rattle.loop_laws.specs.Tables.{walked, Tables, Stands, Rows}
 use Rattle.loop_laws.proofs.RowLaws.{walked-place, lastOf, last-is, divides, product-drop, place-next}
 use Rattle.run_glide.specs.Glides.{Walks}
 use Rattle.run_prepare.specs.Ready.{Prepared, Begins}
-use Rattle.run_prepare.proofs.GridLaws.{good-grid}
+use Rattle.run_prepare.proofs.GridLaws.{GoodGrid, good-grid}
 
 first-place-up : (capacity : ℕ → ℕ) (k n : ℕ) → k ≤ n → firstPlace capacity k ≤ firstPlace capacity n
 first-place-up capacity k zero h = rw (let e : k ≡ 0 = omega arith in e) (omega arith)
@@ -47,47 +46,54 @@ product-below [] (suc k) h = omega arith
 product-below (s ∷ ss) (suc k) h =
     omega (arith, product-below ss k (product-drop (s ∷ ss) 1 h), factor-below s (product ss) h)
 
-pub sizes-count : (c : Chain) → length (trimmed c .sizes) ≡ trimmed c .dims
-unfolding trimmed sizesOf
-sizes-count c = length-tabulate (c .grid .dims) _
-
-module _ (t : Trimmed) (sized : length (t .sizes) ≡ t .dims) (proper : Proper t) (row iterations cells centre : ℕ) (at caps bases tops spans strides : List ℕ)
+module _ (t : Trimmed) (proper : Proper t) (row iterations cells centre : ℕ) (at caps bases tops spans strides : List ℕ)
     (P : Prepared t row iterations cells centre at caps bases tops spans strides) where
+  abbrev sizes : List ℕ
+  sizes = groundSizes (t .ground)
+
   abbrev es : List ℕ
   es = extentsOf t
 
+  fit : Fitting t
+  fit = fitting-of t proper (P .accepted)
+
+  good : GoodGrid t
+  good = good-grid t sizes (P .rectangular) (P .accepted)
+
+  sized : length sizes ≡ t .dims
+  sized = sym (ap dims (P .rectangular)) ∙ proper .dimensions
+
+  all-cells : cellsOf t ≡ product sizes
+  unfolding cellsOf ground.cellCount cellCount
+  all-cells = ap ground.cellCount (P .rectangular)
+
   dimensions : length es ≡ t .dims
-  dimensions = extents-count t (proper .bounded) ∙ sized
+  dimensions = extents-count t fit sizes (P .rectangular) ∙ sized
 
   iterates : 0 < product es
-  iterates = omega (arith, iterations-product t, P .accepted .iterates)
+  iterates = omega (arith, iterations-product t fit sizes (P .rectangular), P .accepted .iterates)
 
-  pub walk-is : (j : ℕ) → walked spans strides (t .dims) 0 j ≡ place (t .sizes) (indices es j)
+  pub walk-is : (j : ℕ) → walked spans strides (t .dims) 0 j ≡ place sizes (indices es j)
   walk-is j =
-      walked-place (t .sizes) es spans strides (t .dims) 0 j sized dimensions (λ i h. rw zero-add (P .spans-are i h)) (λ i h. rw zero-add (P .strides-are i h))
+      walked-place sizes es spans strides (t .dims) 0 j sized dimensions (λ i h. rw zero-add (P .spans-are i h)) (λ i h. rw zero-add (P .strides-are i h))
 
   pub walks : Walks (t .dims) spans strides
-  unfolding cellCount cellsOf
+  unfolding cellCount
   walks = record {
-    few = good-grid t (P .accepted) .few;
+    few = good .few;
     each = λ d g. (rw (P .spans-are d g) (product-drop es (suc d) iterates), strides-low d g);
   }
     where
       strides-low : (d : ℕ) → d < t .dims → getD strides d 0 ≤ 1048576
       strides-low d g =
-          omega (
-            arith,
-            P .strides-are d g,
-            product-below (t .sizes) (suc d) (omega (arith, P .accepted .iterates, at-most-cells t (fitting-of t proper (P .accepted)))),
-            good-grid t (P .accepted) .cells,
-          )
+          omega (arith, P .strides-are d g, product-below sizes (suc d) (omega (arith, P .accepted .iterates, at-most-cells t fit, all-cells)), good .cells, all-cells)
 
   pub rows : Rows (walked spans strides (t .dims) 0) row iterations
   rows = record {
-    some = rw row-last (last-some es (omega (arith, dimensions, good-grid t (P .accepted) .some)) iterates);
+    some = rw row-last (last-some es (omega (arith, dimensions, good .some)) iterates);
     on = λ f _ h.
         walk-is (suc f)
-        ∙ place-next (t .sizes) es f (sized ∙ sym dimensions) (omega (arith, dimensions, good-grid t (P .accepted) .some)) iterates (rw row-last at h)
+        ∙ place-next sizes es f (sized ∙ sym dimensions) (omega (arith, dimensions, good .some)) iterates (rw row-last at h)
         ∙ ap suc (sym (walk-is f));
   }
     where
@@ -104,10 +110,6 @@ module _ (t : Trimmed) (sized : length (t .sizes) ≡ t .dims) (proper : Proper 
   top k h =
       omega (arith, first-place-suc (layout t .capacity) k, first-place-up (layout t .capacity) (suc k) (t .count - 1) (omega arith), all-places t proper (P .accepted))
 
-  pub tops-low : (k : ℕ) → suc k < t .count → getD tops k 0 ≤ 16384
-  unfolding layout
-  tops-low k h = omega (arith, P .tops-are k h, P .bases-are k h, P .caps-are k h, top k h, P .accepted .places)
-
   pub tables : Tables (layout t) (walked spans strides (t .dims) 0) (t .count) cells iterations at caps bases
   unfolding layout
   tables = record {
@@ -116,7 +118,7 @@ module _ (t : Trimmed) (sized : length (t .sizes) ≡ t .dims) (proper : Proper 
     iterations-are = sym (P .iterations-are);
     some = P .accepted .some;
     few = P .accepted .few;
-    most = omega (arith, P .cells-are, good-grid t (P .accepted) .cells);
+    most = omega (arith, P .cells-are, good .cells);
     lawful = lawful t proper (P .accepted);
     reads = λ f k h g. reads f k h g;
     small = λ k h. omega (arith, P .caps-are k h, top k h, P .accepted .places);
@@ -126,7 +128,7 @@ module _ (t : Trimmed) (sized : length (t .sizes) ≡ t .dims) (proper : Proper 
       reads : (f k : ℕ) → f < iterations → k < t .count → layout t .wants f k ≡ getD at k 0 + walked spans strides (t .dims) 0 f
       reads f k h g =
           wants-read t proper (P .accepted) f k (omega (arith, P .iterations-are))
-          ∙ reads-from-first t (fitting-of t proper (P .accepted)) f k (omega (arith, P .iterations-are)) g
+          ∙ reads-from-first t fit sizes (P .rectangular) f k (omega (arith, P .iterations-are)) g
           ∙ omega (arith, P .at-are k g, walk-is f)
 
   pub stands : (fired : ℕ) (wants passed store : List ℕ) → Begins t fired wants passed store → Stands (layout t) (t .count) fired caps bases passed store

@@ -18,8 +18,7 @@ use Rattle.run_laws.specs.Accepted.{Accepted}
 use Rattle.loop_laws.specs.Standings.{counting}
 use Rattle.run_prepare.proofs.ReadyLaws.{judged-refused, judged-short, judged-bad, judged-fine}
 use Rattle.runner.specs.declared.Stopped.{Stopped}
-use Rattle.run_glide.specs.Glides.{calls}
-use Rattle.runner.specs.Clocks.{Ends}
+use Rattle.runner.specs.Clocks.{callOf, Ends}
 use Rattle.runner.specs.Runs.{ranOf}
 
 module _ (c : Chain) (s : State) (store lent output : List ℕ) (allowance : ℕ) where
@@ -70,7 +69,7 @@ module _ (c : Chain) (s : State) (store lent output : List ℕ) (allowance : ℕ
     counters-there = λ i. record { fired = e i; passed = p i }
 
     -- The clocks are those of the call's definition.
-    same-call : calls (trimmed c) (c .window .count) fired passed store lent output allowance ≡ ended (trimmed c) s store lent output allowance
+    same-call : callOf (trimmed c) (c .window .count) fired passed store lent output allowance ≡ ended (trimmed c) s store lent output allowance
     unfolding ended begun trimmed
     same-call =
         ap (λ (k : Counters). call (layout (trimmed c)) (writtenBy (trimmed c)) (widthOf (trimmed c)) lent allowance
@@ -78,13 +77,13 @@ module _ (c : Chain) (s : State) (store lent output : List ℕ) (allowance : ℕ
 
     -- What the clocks leave is what the call leaves.
     pub run-ended : judgeRun (trimmed c) s store ≡ verdict.Accepted → (r : Stopped) (passed′ store′ output′ : List ℕ) (after : State)
-        → Ends r (calls (trimmed c) (c .window .count) fired passed store lent output allowance) (c .window .count) passed passed′ store′ output′
+        → Ends r (callOf (trimmed c) (c .window .count) fired passed store lent output allowance) (c .window .count) passed passed′ store′ output′
         → after ≡ withCounters s (record { fired = r .fired .0; passed = take (c .window .count) passed′ })
         → ranOf (record { answer = answer.Ended (r .outcome); state = after }) store′ output′ ≡ runOf c s store lent output allowance
     run-ended j r passed′ store′ output′ after E a = left ∙ ap endedRun same-call ∙ by-end j
       where
         made : Ended
-        made = calls (trimmed c) (c .window .count) fired passed store lent output allowance
+        made = callOf (trimmed c) (c .window .count) fired passed store lent output allowance
 
         counted : _≡_ {A = Counters} (record { fired = r .fired .0; passed = take (c .window .count) passed′ }) (made .standing .counters)
         counted = λ i. record { fired = E .fired i; passed = E .counters i }

@@ -19,9 +19,9 @@ ghost use Rattle.model.specs.Running.{outcomeOf, withCounters, judgeRun, runOf}
 ghost use Rattle.model.specs.declared.Verdict.the-variants.{Accepted};
 ghost use Rattle.run_prepare.specs.Prepared.{numberAt};
 ghost use Rattle.run_prepare.specs.Ready.{Prepared, Begins, Begun};
-ghost use Rattle.run_glide.specs.Glides.{calls, wayOf};
+ghost use Rattle.run_glide.specs.Glides.{wayOf};
 ghost use Rattle.runner.specs.Loops.{Advanced};
-ghost use Rattle.runner.specs.Clocks.{Ends};
+ghost use Rattle.runner.specs.Clocks.{callOf, Ends};
 ghost use Rattle.runner.specs.Runs.{ranOf};
 
 // The first n numbers, m on.
@@ -90,7 +90,7 @@ fn clocks(
 ) -> Stopped
     requires { ⌜ Prepared (trimmed chain) row iterations size centre (now at) (now caps) (now bases) (now tops) (now spans) (now strides) ⌝ }
     requires { ⌜ Begins (trimmed chain) fired (now wants) (now passed) (now store) ⌝ }
-    ensures { λ r. ⌜ Ends r (calls (trimmed chain) (chain .window .count) fired (now (passed .entry)) (now (store .entry)) (now (cells .entry)) (now (out .entry)) allowance) (chain .window .count)
+    ensures { λ r. ⌜ Ends r (callOf (trimmed chain) (chain .window .count) fired (now (passed .entry)) (now (store .entry)) (now (cells .entry)) (now (out .entry)) allowance) (chain .window .count)
         (now (passed .entry)) (now (passed .exit)) (now (store .exit)) (now (out .exit)) ⌝ }
 {
     if iterations <= fired {

@@ -16,8 +16,12 @@ use mir.Facts.{toZ-ofZ}
 use borrow.Author.Tests.{ltb-true, leb-true, leb-false, eqb-false, lt-ltb, le-ltb}
 use Rattle.model.specs.Lists.{tabulate, sum, product}
 use Rattle.model.specs.Vectors.{above, plus}
-use Rattle.model.specs.Geometry.{place, position, least, lows, extent, extents, iterationCount, iteration, reads, Course, count, vector, allIterations}
-use Rattle.model.specs.Boxes.{indexCount, widths, boxCourse, course, crossed, badBox}
+use Rattle.model.specs.Geometry.{place, least, lows, extent, extents}
+use Rattle.model.specs.Geometry as rectangular
+use Rattle.model.specs.Grounds.{groundSizes, cellCount, cellPlace, position, cellAt}
+use Rattle.model.specs.Grounds.Ground.{rectangle}
+use Rattle.model.specs.Courses.{Course, count, vector, allIterations}
+use Rattle.model.specs.Boxes.{indexCount, widths, boxShape, boxCourse, course, crossed, badBox}
 use Rattle.model.specs.Boxes.Part.{box}
 use Rattle.model.specs.Windows.{relative}
 use Rattle.model.specs.Answers.{firstOf}
@@ -29,16 +33,18 @@ use Rattle.model.specs.declared.Grid.{Grid}
 use Rattle.model.specs.declared.Refusal.the-variants as refusal
 use Rattle.model.specs.declared.Verdict.the-variants as verdict
 use Rattle.model.specs.declared.Window.{Window}
-use Rattle.model.specs.Sized.{Bounded}
+use Rattle.model.specs.Sized.{Bounded, Suits}
+use Rattle.model.proofs.Rectangles as rectangle
 use Rattle.model.proofs.Tests.{neither}
 use Rattle.model.proofs.ListLaws.{length-tabulate, getD-tabulate}
 use Rattle.model.proofs.IntegerLaws.{sub-small, sub-large, above-back, sum-above, sum-at-least, leZ-trans, not-ltZ, leZ-ltZ, above-order, above-chain}
 use Rattle.model.proofs.PlaceLaws.{Below, AtLeast}
 use Rattle.model.proofs.PlaceLaws.AtLeast.{none, next}
 use Rattle.model.proofs.ChainLaws.{offsets-count, offsets-sized}
-use Rattle.model.proofs.BoxLaws.{index-count, within-fits, iteration-within, corners}
-use Rattle.model.proofs.CourseLaws.{course-some}
-use Rattle.model.proofs.CourseLaws as run
+use Rattle.model.proofs.BoxLaws.{index-count}
+use Rattle.model.proofs.RectangleBoxes.{within-fits, iteration-within, corners}
+use Rattle.model.proofs.RectangleCourses.{first-reads}
+use Rattle.model.proofs.Listed.{course-some, below-cells}
 use Rattle.geometry.specs.Parts.{part, numberAt, entryAt, entriesIn, Filled, Lows, Small}
 use Rattle.geometry.proofs.PartLaws.{tabulate-same, map-tabulate, part-all}
 use Rattle.geometry.proofs.FillLaws.{filled-all}
@@ -249,7 +255,7 @@ module _ (g : Grid) (w : Window) (x : Bounds) (a : badGrid (g .dims) (sizesOf g)
         width = omega (arith, first, last, index-count (lowestIn d) (highestIn d) up, above-chain (highestIn d) (lowestIn d) (negℤ (lowIn d)) p up);
       }
 
-  boundedBy : Bounded sizes (box lowest highest)
+  boundedBy : Bounded (length sizes) (box lowest highest)
   unfolding sizesOf
   boundedBy = (length-tabulate (g .dims) _ ∙ sym (length-tabulate (g .dims) _), length-tabulate (g .dims) _ ∙ sym (length-tabulate (g .dims) _))
 
@@ -257,14 +263,14 @@ module _ (g : Grid) (w : Window) (x : Bounds) (a : badGrid (g .dims) (sizesOf g)
   some = omega (arith, offsets-count (g .dims) w, some-references w b)
 
   -- 15 does not hold exactly if it does so in every dimension.
-  lies-fits : ((d : ℕ) → d < g .dims → LiesIn (x .lowest) (x .highest) ls xs d) → badBox sizes offsets (box lowest highest) ≡ false
+  lies-fits : ((d : ℕ) → d < g .dims → LiesIn (x .lowest) (x .highest) ls xs d) → badBox (rectangle sizes) offsets (box lowest highest) ≡ false
   lies-fits f =
       within-fits sizes offsets (offsets-sized g w) some lowest highest boundedBy
       (uncrossed-by (g .dims) lowestIn highestIn (λ d h. leZ-ltZ (lowestIn d) (highestIn d) (lies d h (f d h) .rises)))
       (rw negated-lows (at-least-by (g .dims) (λ d. negℤ (lowIn d)) lowestIn (λ d h. lies d h (f d h) .low)))
       (rw (counted-from highestIn, extents-are) (below-by (g .dims) extentIn (λ d. above (highestIn d) (negℤ (lowIn d))) (λ d h. lies d h (f d h) .high)))
 
-  fits-lies : badBox sizes offsets (box lowest highest) ≡ false → (d : ℕ) → d < g .dims → LiesIn (x .lowest) (x .highest) ls xs d
+  fits-lies : badBox (rectangle sizes) offsets (box lowest highest) ≡ false → (d : ℕ) → d < g .dims → LiesIn (x .lowest) (x .highest) ls xs d
   fits-lies f d h =
       let (p, q, r) = corners sizes offsets (offsets-sized g w) some lowest highest boundedBy .0 f in
       let at-low = iteration-within sizes offsets (offsets-sized g w) some lowest highest boundedBy lowest q .0 in
@@ -288,23 +294,26 @@ module _ (g : Grid) (w : Window) (x : Bounds) (a : badGrid (g .dims) (sizesOf g)
   -- 15.
   pub refused-box : (m : ℕ) (s : Shape) (p : Placed) → Whole g w m s → x .stood ≡ true → PlacedIn (x .lowest) (x .highest) ls xs (g .dims) p → p .fits ≡ false → unsurveyedOf refusal.BadBox ≡ surveyOf g w x
   unfolding surveyOf windowChecks firstOf
-  refused-box m s p k t r n = rw (k .grid, k .count, k .distinct, k .iterates, stands t, go (badBox sizes offsets (box lowest highest)) refl)
+  refused-box m s p k t r n = rw (k .grid, k .count, k .distinct, k .iterates, stands t, go (badBox (rectangle sizes) offsets (box lowest highest)) refl)
     where
-      go : (u : Bool) → badBox sizes offsets (box lowest highest) ≡ u → badBox sizes offsets (box lowest highest) ≡ true
+      go : (u : Bool) → badBox (rectangle sizes) offsets (box lowest highest) ≡ u → badBox (rectangle sizes) offsets (box lowest highest) ≡ true
       go true f = f
       go false f = let (d, h, out) = r .outside n in absurd (out (fits-lies f d h))
 
   -- A box that lies among the iterations.
   module _ (m : ℕ) (s : Shape) (p : Placed) (k : Whole g w m s) (t : x .stood ≡ true) (r : PlacedIn (x .lowest) (x .highest) ls xs (g .dims) p) (y : p .fits ≡ true) where
     abbrev c : Course
-    c = boxCourse lowest highest
+    c = boxCourse (rectangle sizes) lowest highest
 
-    fits : badBox sizes offsets (box lowest highest) ≡ false
+    fits : badBox (rectangle sizes) offsets (box lowest highest) ≡ false
     fits = lies-fits (r .inside y)
 
     listed : 0 < count c
     unfolding course noIteration
-    listed = course-some sizes offsets (box lowest highest) fits (omega (arith, eqb-false (iterationCount sizes offsets) 0 (k .iterates)))
+    listed = course-some (rectangle sizes) offsets (box lowest highest) boundedBy fits (omega (arith, eqb-false (count (allIterations (rectangle sizes) offsets)) 0 (k .iterates)))
+
+    suits : Suits (rectangle sizes) offsets (box lowest highest)
+    suits = record { some = some; entries = offsets-sized g w; bounded = boundedBy; fits = fits }
 
     -- Its widths in an array.
     width-is : (d : ℕ) → d < g .dims → numberAt (p .widths) d ≡ indexCount (lowestIn d) (highestIn d)
@@ -318,12 +327,12 @@ module _ (g : Grid) (w : Window) (x : Bounds) (a : badGrid (g .dims) (sizesOf g)
         (small-sizes g w a b d)
 
     count-is : product (part (numberAt (p .widths)) 0 (g .dims)) ≡ count c
-    unfolding count boxCourse
+    unfolding count cellCount rectangular.cellCount boxCourse boxShape
     count-is =
         ap product (part-all (numberAt (p .widths)) (g .dims) ∙ tabulate-same (g .dims) (numberAt (p .widths)) (λ d. indexCount (lowestIn d) (highestIn d)) width-is ∙ sym (widths-by (g .dims) lowestIn highestIn))
 
-    widths-are : p .widths ≡ tabulate 4 (λ d. getD (c .widths) d 0)
-    unfolding boxCourse
+    widths-are : p .widths ≡ tabulate 4 (λ d. getD (groundSizes (c .shape)) d 0)
+    unfolding boxCourse boxShape
     widths-are =
         filled-all 4 0 (λ d. lastAt (x .lowest) (x .highest) ls xs d - firstAt (x .lowest) (x .highest) ls xs d + 1) (λ d. getD (widths lowest highest) d 0) (g .dims) (p .widths)
         (λ d h. lies d h (r .inside y d h) .width ∙ sym (ap (λ (ws : List ℕ). getD ws d 0) by-dimension ∙ getD-tabulate (g .dims) wide d 0 h))
@@ -351,18 +360,18 @@ module _ (g : Grid) (w : Window) (x : Bounds) (a : badGrid (g .dims) (sizesOf g)
             ap (λ (z : Shape). numberAt (z .strides) d) (k .shape-is) ∙ getD-tabulate 4 (λ i. stride sizes i) d 0 (omega (arith, few-dimensions g a)) ∙ stride-behind (g .dims) (numberAt (g .sizes)) d h
 
     -- What each reference reads there.
-    reads-there : (i : ℕ) → i < w .count → numberAt (s .at) i + behind ≡ position sizes (plus (vector c 0) (getD offsets i []))
-    unfolding shapeFor reads iteration course boxCourse
+    reads-there : (i : ℕ) → i < w .count → numberAt (s .at) i + behind ≡ position (rectangle sizes) (plus (vector c 0) (getD offsets i []))
+    unfolding shapeFor rectangle.reads rectangle.iteration rectangle.position position cellPlace vector allIterations cellAt course boxCourse
     reads-there i h =
         let q : i < length offsets = omega (arith, offsets-count (g .dims) w) in
-        let whole = ap (λ (z : Shape). numberAt (z .at) i) (k .shape-is) ∙ getD-tabulate 32 (λ j. reads sizes offsets 0 j) i 0 (omega (arith, few-references w b)) in
-        omega (arith, whole, behind-is, run.first-reads sizes offsets (box lowest highest) (offsets-sized g w) some boundedBy fits i listed q)
+        let whole = ap (λ (z : Shape). numberAt (z .at) i) (k .shape-is) ∙ getD-tabulate 32 (λ j. rectangle.reads sizes offsets 0 j) i 0 (omega (arith, few-references w b)) in
+        omega (arith, whole, behind-is, first-reads sizes offsets (box lowest highest) suits i listed q)
 
     pub reads-small : (i : ℕ) → i < w .count → numberAt (s .at) i + behind ≤ mostCells
-    unfolding course
+    unfolding course cellCount
     reads-small i h =
         let q : i < length offsets = omega (arith, offsets-count (g .dims) w) in
-        omega (arith, reads-there i h, few-cells g a, run.below-cells sizes offsets (box lowest highest) (offsets-sized g w) some boundedBy fits 0 i listed q)
+        omega (arith, reads-there i h, few-cells g a, below-cells (rectangle sizes) offsets (box lowest highest) suits 0 i listed q)
 
     pub behind-small : behind ≤ mostCells
     behind-small = omega (arith, reads-small 0 (some-references w b))
@@ -373,9 +382,9 @@ module _ (g : Grid) (w : Window) (x : Bounds) (a : badGrid (g .dims) (sizesOf g)
     accepted-box n at q f =
         rw (k .grid, k .count, k .distinct, k .iterates, stands t, fits, k .centre-is, k .shape-is, q ∙ count-is, widths-are, positions)
       where
-        positions : at ≡ tabulate 32 (λ i. position sizes (plus (vector c 0) (getD offsets i [])))
+        positions : at ≡ tabulate 32 (λ i. position (rectangle sizes) (plus (vector c 0) (getD offsets i [])))
         positions =
-            filled-all 32 0 (λ i. numberAt (s .at) i + behind) (λ i. position sizes (plus (vector c 0) (getD offsets i []))) (w .count) at reads-there
+            filled-all 32 0 (λ i. numberAt (s .at) i + behind) (λ i. position (rectangle sizes) (plus (vector c 0) (getD offsets i []))) (w .count) at reads-there
             (λ i h. nothing-read sizes offsets (vector c 0) i (rw (offsets-count (g .dims) w) h)) f
 
 -- The extents of all iterations.

@@ -10,16 +10,22 @@ use lib.ListN.{length, getD, List·getD-eq-default}
 use borrow.Author.Tests.{eq-eqb, ne-eqb}
 use Rattle.model.specs.Lists.{tabulate, sum, product}
 use Rattle.model.specs.Vectors.{above, plus}
-use Rattle.model.specs.Geometry.{cellCount, place, position, firstEntry, otherEntries, least, lows, extent, extents, iterationCount, iteration, reads, count, allIterations}
+use Rattle.model.specs.Geometry.{cellCount, place, firstEntry, otherEntries, least, lows, extent, extents}
+use Rattle.model.specs.Grounds.{cellPlace, position, cellAt}
+use Rattle.model.specs.Grounds.Ground.{rectangle}
+use Rattle.model.specs.Courses.{vector, allIterations}
 use Rattle.model.specs.Windows.{relative}
 use Rattle.model.specs.Values.{sizesOf, offsetOf, offsetsOf}
 use Rattle.model.specs.Judging.{mostCells, badGrid, badCount, noIteration}
 use Rattle.model.specs.declared.Grid.{Grid}
 use Rattle.model.specs.declared.Window.{Window}
+use Rattle.model.proofs.Rectangles.{iterationCount, iteration, reads}
+use Rattle.model.proofs.Rectangles as rectangle
 use Rattle.model.proofs.ListLaws.{length-tabulate, getD-tabulate}
 use Rattle.model.proofs.PlaceLaws.{first-indices}
 use Rattle.model.proofs.Distances.{reads-sum, below-cells}
 use Rattle.model.proofs.ChainLaws.{offsets-sized}
+use Rattle.model.proofs.WholeLaws.{rectangle-count}
 use Rattle.geometry.specs.Parts.{part, numberAt, entryAt, entriesIn, Filled, Lows, placeBy, Small}
 use Rattle.shape.specs.Shapes.{sound, stride, shapeFor, wholeShape, blankShape, shapeOf}
 use Rattle.shape.specs.declared.Shape.{Shape}
@@ -52,8 +58,8 @@ relative-by-dimension zero f g = refl
 relative-by-dimension (suc n) f g = ap (_∷_ (above (f 0) (g 0))) (relative-by-dimension n (λ i. f (suc i)) (λ i. g (suc i)))
 
 -- Past the last reference nothing is read, in whichever iteration.
-pub nothing-read : (sizes : List ℕ) (offsets : List (List ℤ)) (v : List ℤ) (k : ℕ) → length offsets ≤ k → position sizes (plus v (getD offsets k [])) ≡ 0
-unfolding position plus place
+pub nothing-read : (sizes : List ℕ) (offsets : List (List ℤ)) (v : List ℤ) (k : ℕ) → length offsets ≤ k → position (rectangle sizes) (plus v (getD offsets k [])) ≡ 0
+unfolding position cellPlace plus place
 nothing-read sizes offsets v k h = rw (List·getD-eq-default offsets [] h, nothing v) (nowhere sizes)
   where
     nothing : (v : List ℤ) → plus v [] ≡ []
@@ -81,7 +87,7 @@ module _ (g : Grid) (w : Window) (a : badGrid (g .dims) (sizesOf g) ≡ false) (
     small-extents d = le-trans (part-at-most (numberAt xs) (numberAt (g .sizes)) d (g .dims) (λ i h. rw (r .done i h) (omega arith))) (small-sizes d)
 
     pub iterations-are : product (part (numberAt xs) 0 (g .dims)) ≡ iterationCount (sizesOf g) (offsetsOf (g .dims) w)
-    unfolding iterationCount count allIterations sizesOf offsetsOf offsetOf
+    unfolding iterationCount sizesOf offsetsOf offsetOf
     iterations-are =
         ap product (
         part-all (numberAt xs) (g .dims)
@@ -145,7 +151,7 @@ module _ (g : Grid) (w : Window) (a : badGrid (g .dims) (sizesOf g) ≡ false) (
 
         pub places-are : (at : List ℕ) → Filled 32 0 (placeBy (g .dims) ls st (w .offsets)) (w .count) at
             → at ≡ tabulate 32 (λ k. reads (sizesOf g) (offsetsOf (g .dims) w) 0 k)
-        unfolding offsetsOf reads
+        unfolding offsetsOf reads rectangle.position position cellPlace
         places-are at f = filled-all 32 0 (placeBy (g .dims) ls st (w .offsets)) (λ k. reads (sizesOf g) (offsetsOf (g .dims) w) 0 k) (w .count) at place-is past f
           where
             past : (k : ℕ) → w .count ≤ k → reads (sizesOf g) (offsetsOf (g .dims) w) 0 k ≡ 0
@@ -160,16 +166,16 @@ module _ (g : Grid) (w : Window) where
 
     pub blank-iterations : iterationCount (sizesOf g) (offsetsOf (g .dims) w) ≡ 0 → blankShape ≡ shapeOf g w
     unfolding shapeOf noIteration
-    blank-iterations e = rw (is-sound, eq-eqb (iterationCount (sizesOf g) (offsetsOf (g .dims) w)) 0 e)
+    blank-iterations e = rw (is-sound, eq-eqb _ 0 (rectangle-count (sizesOf g) (offsetsOf (g .dims) w) ∙ e))
 
     pub whole-shape : (iterationCount (sizesOf g) (offsetsOf (g .dims) w) ≡ 0 → ⊥) → wholeShape (sizesOf g) (offsetsOf (g .dims) w) ≡ shapeOf g w
     unfolding shapeOf noIteration
-    whole-shape h = rw (is-sound, ne-eqb (iterationCount (sizesOf g) (offsetsOf (g .dims) w)) 0 h)
+    whole-shape h = rw (is-sound, ne-eqb _ 0 (λ z. h (sym (rectangle-count (sizesOf g) (offsetsOf (g .dims) w)) ∙ z)))
 
 -- A shape from its parts.
 pub shape-from : (sizes : List ℕ) (offsets : List (List ℤ)) (cells iterations : ℕ) (xs st at : List ℕ)
     → cells ≡ cellCount sizes → iterations ≡ iterationCount sizes offsets → xs ≡ tabulate 4 (λ d. getD (extents sizes offsets) d 0)
     → st ≡ tabulate 4 (λ d. stride sizes d) → at ≡ tabulate 32 (λ k. reads sizes offsets 0 k)
     → _≡_ {A = Shape} (record { cells = cells; iterations = iterations; extents = xs; strides = st; at = at }) (wholeShape sizes offsets)
-unfolding shapeFor iterationCount count allIterations reads iteration
-shape-from sizes offsets cells iterations xs st at p q r s t = λ i. record { cells = p i; iterations = q i; extents = r i; strides = s i; at = t i }
+unfolding shapeFor allIterations vector cellAt reads iteration rectangle.position position cellPlace
+shape-from sizes offsets cells iterations xs st at p q r s t = λ i. record { cells = p i; iterations = (q ∙ sym (rectangle-count sizes offsets)) i; extents = r i; strides = s i; at = t i }

@@ -6,10 +6,13 @@ use mathlib.Core.Path.{_≡_, refl, sym, _∙_, ap}
 use native.Mathlib.Decide.{ℕ-discrete, decLe, decLt}
 use native.Mathlib.Omega.{arith}
 use lib.IntN.{ℤ}
+use lib.ListN.{getD}
 use borrow.Author.Tests.{eq-eqb, ne-eqb}
 use Rattle.model.specs.Lists.{tabulate, any}
 use Rattle.model.specs.Vectors.{plus, equal}
-use Rattle.model.specs.Geometry.{position, iterationCount, iteration, reads}
+use Rattle.model.specs.Grounds.{position}
+use Rattle.model.specs.Grounds.Ground.{rectangle}
+use Rattle.model.specs.Courses.{vector, allIterations}
 use Rattle.model.specs.Boxes.{course, badBox}
 use Rattle.model.specs.Answers.{firstOf}
 use Rattle.model.specs.Values.{sizesOf, offsetOf, offsetsOf, partOf}
@@ -20,8 +23,10 @@ use Rattle.model.specs.declared.Grid.{Grid}
 use Rattle.model.specs.declared.Refusal.the-variants as refusal
 use Rattle.model.specs.declared.Verdict.the-variants as verdict
 use Rattle.model.specs.declared.Window.{Window}
+use Rattle.model.proofs.Rectangles.{iterationCount}
 use Rattle.model.proofs.ListLaws.{getD-tabulate}
 use Rattle.model.proofs.OrderLaws.{equal-is}
+use Rattle.model.proofs.WholeLaws.{rectangle-count}
 use Rattle.geometry.specs.Parts.{part, numberAt, offsetAt, Falls}
 use Rattle.shape.specs.Shapes.{shapeFor, wholeShape, blankShape, shapeOf, unsurveyedOf, surveyOf, Whole}
 use Rattle.shape.specs.declared.Shape.{Shape}
@@ -100,7 +105,7 @@ alone (suc (suc n)) o h = absurd (omega arith)
 module _ (g : Grid) (w : Window) (a : badGrid (g .dims) (sizesOf g) ≡ false) (b : badCount (w .count) ≡ false) where
   -- Offsets whose positions fall differ. Of a blank shape they fall for one reference only.
   pub fallen-differ : (s : Shape) → s ≡ shapeOf g w → Falls (numberAt (s .at)) (w .count) → repeatsIn (g .dims) w ≡ false
-  unfolding shapeFor blankShape reads iteration offsetsOf offsetOf
+  unfolding shapeFor blankShape offsetsOf offsetOf
   fallen-differ s e r =
       sym (repeats-held (g .dims) w (few-dimensions g a) (few-references w b)) ∙ at (ℕ-discrete (iterationCount (sizesOf g) (offsetsOf (g .dims) w)) 0)
     where
@@ -115,12 +120,12 @@ module _ (g : Grid) (w : Window) (a : badGrid (g .dims) (sizesOf g) ≡ false) (
           ))
 
       key : List ℤ → ℕ
-      key v = position (sizesOf g) (plus (iteration (sizesOf g) (offsetsOf (g .dims) w) 0) v)
+      key v = position (rectangle (sizesOf g)) (plus (vector (allIterations (rectangle (sizesOf g)) (offsetsOf (g .dims) w)) 0) v)
 
       is-key : s ≡ wholeShape (sizesOf g) (offsetsOf (g .dims) w) → (k : ℕ) → k < w .count → numberAt (s .at) k ≡ key (offsetAt (g .dims) (w .offsets) k)
       is-key d k h =
           ap (λ (t : Shape). numberAt (t .at) k) d
-          ∙ getD-tabulate 32 (λ i. reads (sizesOf g) (offsetsOf (g .dims) w) 0 i) k 0 (omega (arith, few-references w b))
+          ∙ getD-tabulate 32 (λ i. key (getD (offsetsOf (g .dims) w) i [])) k 0 (omega (arith, few-references w b))
           ∙ ap key (getD-tabulate (w .count) (offsetAt (g .dims) (w .offsets)) k [] h)
 
       at : Dec (iterationCount (sizesOf g) (offsetsOf (g .dims) w) ≡ 0) → repeats (tabulate (w .count) (offsetAt (g .dims) (w .offsets))) ≡ false
@@ -148,12 +153,12 @@ module _ (g : Grid) (w : Window) (x : Bounds) where
 
       module _ (s : Shape) (d : s ≡ shapeOf g w) where
         count-is : s .iterations ≡ iterationCount (sizesOf g) (offsetsOf (g .dims) w)
-        unfolding shapeFor blankShape iterationCount
+        unfolding shapeFor blankShape
         count-is = at (ℕ-discrete (iterationCount (sizesOf g) (offsetsOf (g .dims) w)) 0)
           where
             at : Dec (iterationCount (sizesOf g) (offsetsOf (g .dims) w) ≡ 0) → s .iterations ≡ iterationCount (sizesOf g) (offsetsOf (g .dims) w)
             at (yes z) = ap (λ (t : Shape). t .iterations) (d ∙ sym (blank-iterations g w a b z)) ∙ sym z
-            at (no z) = ap (λ (t : Shape). t .iterations) (d ∙ sym (whole-shape g w a b z))
+            at (no z) = ap (λ (t : Shape). t .iterations) (d ∙ sym (whole-shape g w a b z)) ∙ rectangle-count (sizesOf g) (offsetsOf (g .dims) w)
 
         module _ (c : repeatsIn (g .dims) w ≡ false) where
           distinct : repeats (offsetsOf (g .dims) w) ≡ false
@@ -161,14 +166,14 @@ module _ (g : Grid) (w : Window) (x : Bounds) where
 
           pub survey-iterations : s .iterations ≡ 0 → unsurveyedOf refusal.NoIteration ≡ surveyOf g w x
           unfolding surveyOf windowChecks firstOf noIteration
-          survey-iterations z = rw (a, b, distinct, eq-eqb _ 0 (sym count-is ∙ z))
+          survey-iterations z = rw (a, b, distinct, eq-eqb _ 0 (rectangle-count (sizesOf g) (offsetsOf (g .dims) w) ∙ sym count-is ∙ z))
 
           -- Past all of these 3 to 6 let pass.
           pub known : (m : ℕ) → (s .iterations ≡ 0 → ⊥) → m ≡ centreIn (g .dims) w → Whole g w m s
           unfolding noIteration
           known m some e =
               let z : iterationCount (sizesOf g) (offsetsOf (g .dims) w) ≡ 0 → ⊥ = λ q. some (count-is ∙ q) in
-              record { grid = a; count = b; distinct = distinct; iterates = ne-eqb _ 0 z; centre-is = e ∙ centre-is g w a b; shape-is = d ∙ sym (whole-shape g w a b z) }
+              record { grid = a; count = b; distinct = distinct; iterates = ne-eqb _ 0 (λ q. z (sym (rectangle-count (sizesOf g) (offsetsOf (g .dims) w)) ∙ q)); centre-is = e ∙ centre-is g w a b; shape-is = d ∙ sym (whole-shape g w a b z) }
 
 -- Where no box stood, that is the survey.
 pub surveyed : (g : Grid) (w : Window) (x : Bounds) (m : ℕ) (s : Shape) → Whole g w m s → x .stood ≡ false

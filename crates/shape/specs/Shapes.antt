@@ -7,7 +7,10 @@ use lib.IntN.{ℤ}
 use lib.ListN.{getD}
 use Rattle.model.specs.Lists.{tabulate}
 use Rattle.model.specs.Vectors.{plus}
-use Rattle.model.specs.Geometry.{cellCount, position, Course, count, vector, allIterations}
+use Rattle.model.specs.Geometry.{cellCount}
+use Rattle.model.specs.Grounds.{groundSizes, position}
+use Rattle.model.specs.Grounds.Ground.{rectangle}
+use Rattle.model.specs.Courses.{Course, count, vector, allIterations}
 use Rattle.model.specs.Answers.{byVerdict}
 use Rattle.model.specs.Values.{sizesOf, offsetsOf, trimmed, onGrid}
 use Rattle.model.specs.Iterations.{courseOf}
@@ -37,14 +40,14 @@ unfoldable pub shapeFor : List ℕ → List (List ℤ) → Course → Shape
 shapeFor sizes offsets c = record {
   cells = cellCount sizes;
   iterations = count c;
-  extents = tabulate 4 (λ d. getD (c .widths) d 0);
+  extents = tabulate 4 (λ d. getD (groundSizes (c .shape)) d 0);
   strides = tabulate 4 (λ d. stride sizes d);
-  at = tabulate 32 (λ k. position sizes (plus (vector c 0) (getD offsets k [])));
+  at = tabulate 32 (λ k. position (rectangle sizes) (plus (vector c 0) (getD offsets k [])));
 }
 
 -- Where it covers all iterations.
 abbrev pub wholeShape : List ℕ → List (List ℤ) → Shape
-wholeShape sizes offsets = shapeFor sizes offsets (allIterations sizes offsets)
+wholeShape sizes offsets = shapeFor sizes offsets (allIterations (rectangle sizes) offsets)
 
 unfoldable pub blankShape : Shape
 blankShape = record { cells = 0; iterations = 0; extents = tabulate 4 (λ d. 0); strides = tabulate 4 (λ d. 0); at = tabulate 32 (λ k. 0) }
@@ -55,7 +58,7 @@ shapeOf g w =
     let sizes = sizesOf g in
     let offsets = offsetsOf (g .dims) w in
     let whole = wholeShape sizes offsets in
-    cond (sound g w && not (noIteration sizes offsets)) whole blankShape
+    cond (sound g w && not (noIteration (rectangle sizes) offsets)) whole blankShape
 
 abbrev pub unsurveyedOf : Refusal → Survey
 unsurveyedOf x = record { verdict = verdict.Refused x; centre = 0; shape = blankShape }
@@ -77,6 +80,6 @@ pub record Whole (g : Grid) (w : Window) (centre : ℕ) (s : Shape) : Type 0 whe
   pub grid : badGrid (g .dims) (sizesOf g) ≡ false
   pub count : badCount (w .count) ≡ false
   pub distinct : repeats (offsetsOf (g .dims) w) ≡ false
-  pub iterates : noIteration (sizesOf g) (offsetsOf (g .dims) w) ≡ false
+  pub iterates : noIteration (rectangle (sizesOf g)) (offsetsOf (g .dims) w) ≡ false
   pub centre-is : centre ≡ centreOf (offsetsOf (g .dims) w)
   pub shape-is : s ≡ wholeShape (sizesOf g) (offsetsOf (g .dims) w)

@@ -186,6 +186,7 @@ pub fn number_of(n: Refusal) -> u8
         Refusal::BadName => 13,
         Refusal::BadOrder => 14,
         Refusal::BadBox => 15,
+        Refusal::BadRows => 16,
     }
 }
 

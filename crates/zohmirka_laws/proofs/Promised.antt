@@ -51,6 +51,7 @@ numbered refusal.ShortOutput e = omega arith
 numbered refusal.BadName e = omega arith
 numbered refusal.BadOrder e = omega arith
 numbered refusal.BadBox e = omega arith
+numbered refusal.BadRows e = omega arith
 
 pub unnumbered : (v : Verdict) → verdictNumber v ≡ 0 → v ≡ verdict.Accepted
 unfolding verdictNumber

@@ -2,7 +2,7 @@
 use Prim.Native.Nat.{ℕ, zero, suc, _+_, _*_, _/_, _%_, _≤_, _<_}
 use mathlib.Core.Bool.{false}
 use mathlib.Core.List.{List, [], _∷_}
-use mathlib.Core.Path.{_≡_, subst}
+use mathlib.Core.Path.{_≡_, refl, sym, _∙_, ap, subst}
 use native.Mathlib.Nat.{mul-le-mul-left, mul-le-mul-right, mul-one, one-mul}
 use native.Mathlib.Omega.{arith}
 use lib.Dec.{eqb, ltb}
@@ -15,8 +15,9 @@ use borrow.Author.Tests.{le-ltb, eqb-false, ltb-false}
 use Rattle.model.specs.Lists.{tabulate, sum, product, any}
 use Rattle.model.specs.Numbers.{signed, signedWord}
 use Rattle.model.specs.Geometry.{cellCount}
-use Rattle.model.specs.Values.{Trimmed, offsetOf, offsetsOf, partOf, indexArray, boundsOf, chainOf, blankChain, requestOf}
-use Rattle.model.specs.Judging.{mostCells, badDims, badSizes, badGrid, judged}
+use Rattle.model.specs.Grounds.Ground.{rectangle}
+use Rattle.model.specs.Values.{Trimmed, sizesOf, offsetOf, offsetsOf, partOf, indexArray, boundsOf, chainOf, blankChain, requestOf}
+use Rattle.model.specs.Judging.{mostCells, mostPlaces, badDims, badSizes, badGrid, badGround, tooLarge, judged}
 use Rattle.model.specs.Steps.{falling, sorted}
 use Rattle.model.specs.Planning.{trimmedRequest, judgeRequest, plannedChain, planOf}
 use Rattle.model.specs.declared.Bounds.{Bounds}
@@ -25,7 +26,6 @@ use Rattle.model.specs.declared.Verdict.the-variants as verdict
 use Rattle.model.proofs.CheckLaws.{value-passes}
 use Rattle.model.proofs.SortLaws.{falling-no-other}
 use Rattle.geometry.proofs.GridLaws.{product-above}
-use Rattle.run_laws.proofs.Accepts as accepts
 use Rattle.sheet_laws.proofs.Cases.{by-bool, by-lt, or-false}
 use Rattle.sheet_trips.specs.RoundTrips.{FactorsFit, InRange}
 use Rattle.sheet_trips.proofs.Bytes.{blank-at}
@@ -109,15 +109,16 @@ below-product (s ∷ ss) e (suc d) =
     omega (arith, below-product ss (h .1) d, mul-le-mul-right (product ss) l, one-mul (product ss))
 
 module _ (t : Trimmed) (ok : judged t ≡ verdict.Accepted) where
-  size-small : (d : ℕ) → Word (getD (t .sizes) d 0)
+  size-small : (sizes : List ℕ) → t .ground ≡ rectangle sizes → (d : ℕ) → Word (getD sizes d 0)
   unfolding judged badGrid badSizes cellCount
-  size-small d =
-      let g = or-false (badDims (t .dims)) (badSizes (t .sizes)) (value-passes t ok .window .grid) in
-      let h = or-false (any (λ s. eqb s 0) (t .sizes)) (ltb mostCells (cellCount (t .sizes))) (g .1) in
-      omega (arith, below-product (t .sizes) (h .0) d, ltb-false mostCells (product (t .sizes)) (h .1))
+  size-small sizes e d =
+      let g = or-false (badDims (t .dims)) (badSizes sizes) (sym (ap (badGround (t .dims)) e) ∙ value-passes t ok .window .grid) in
+      let h = or-false (any (λ s. eqb s 0) sizes) (ltb mostCells (cellCount sizes)) (g .1) in
+      omega (arith, below-product sizes (h .0) d, ltb-false mostCells (product sizes) (h .1))
 
   capacity-small : (k : ℕ) → Word (getD (t .capacities) k 0)
-  capacity-small k = omega (arith, below-sum (t .capacities) k, accepts.accepted t ok .places)
+  unfolding judged tooLarge
+  capacity-small k = omega (arith, below-sum (t .capacities) k, ltb-false mostPlaces (sum (t .capacities)) (value-passes t ok .chain .places))
 
 abbrev Small : List ℤ → Type 0
 Small v = (j : ℕ) → Entry (getD v j (pos 0))
@@ -159,10 +160,10 @@ module _ (c : Chain) (held : Held c) where
   request-fits = held .factors
 
 pub planned-range : (c : Chain) → Held c → judgeRequest (requestOf c) ≡ verdict.Accepted → InRange (planOf (requestOf c) .chain)
-unfolding planOf plannedChain chainOf judgeRequest sorted
+unfolding planOf plannedChain chainOf judgeRequest trimmedRequest sorted
 planned-range c held ok = rw ok
     (record {
-      sizes = each-tabulate Word 4 (λ d. getD (t .sizes) d 0) 0 (size-small t ok) (omega arith);
+      sizes = each-tabulate Word 4 (λ d. getD (sizesOf (c .grid)) d 0) 0 (size-small t ok (sizesOf (c .grid)) refl) (omega arith);
       entries = each-tabulate Entry 128 (λ i. getD (getD (falling (t .offsets)) (i / 4) []) (i % 4) (pos 0)) (pos 0) (λ i. sorted-small (t .offsets) (request-small c held) (i / 4) (i % 4)) (omega arith);
       lowest = request-bounds c held .0;
       highest = request-bounds c held .1;

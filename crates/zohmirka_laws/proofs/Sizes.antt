@@ -77,7 +77,7 @@ first-other (c ∷ cs) b = go (c .holds) (first-other cs (b .1))
 
 -- A chain is not judged by it,
 judged-other : (c : Chain) → Other (verdictNumber (judgeChain c))
-unfolding judgeChain judged windowChecks kernelChecks chainChecks valueChecks numberOf
+unfolding judgeChain judged trimmed windowChecks kernelChecks chainChecks valueChecks numberOf
 judged-other c =
     first-other (valueChecks (trimmed c))
     (λ e. omega arith, (λ e. omega arith, (λ e. omega arith, (λ e. omega arith, (λ e. omega arith, (λ e. omega arith, (λ e. omega arith, (λ e. omega arith, (λ e. omega arith, tt)))))))))

@@ -38,7 +38,7 @@ bad-rows-requires c κs = search needs
 
 returns : tie.Need-returns
 returns c = (
-  λ t size caps F G. absurd (c .before .bad-rows .ensures .1 (c .if1 .taken) (sound _ _ _ _ _ _ _ _ _ _ _ _ _ _ _ _ _ _ _ _ _ _ [] [] 0 G .in-rows)),
+  λ L write size caps F G. absurd (c .before .bad-rows .ensures .1 (c .if1 .taken) (sound _ _ _ _ _ _ _ _ _ _ _ _ _ _ _ _ _ _ _ _ _ _ _ [] [] 0 G .in-rows)),
   λ _. record { no-clocks = refl; no-firings = refl; store-kept = refl; out-kept = refl },
 )
 
@@ -47,7 +47,7 @@ bad-places-requires c κs = search needs
 
 returns-2 : tie.Need-returns-2
 returns-2 c = (
-  λ t size caps F G. absurd (c .before .bad-places .ensures .1 (c .if2 .taken) (sound _ _ _ _ _ _ _ _ _ _ _ _ _ _ _ _ _ _ _ _ _ _ [] [] 0 G .in-rings)),
+  λ L write size caps F G. absurd (c .before .bad-places .ensures .1 (c .if2 .taken) (sound _ _ _ _ _ _ _ _ _ _ _ _ _ _ _ _ _ _ _ _ _ _ _ [] [] 0 G .in-rings)),
   λ _. record { no-clocks = refl; no-firings = refl; store-kept = refl; out-kept = refl },
 )
 
@@ -101,9 +101,10 @@ returns-3 c =
     let w = f .before in
     let n = w .before .before .before .before .before .before .before in
     let e = n .before in (
-      λ t size caps F G.
-          f .slide .ensures t size _ _ caps _ (record { full-is = F; first-is = refl; position-is = refl; wait-is = refl; left-is = refl })
-          (named _ _ _ _ _ _ _ _ _ _ _ _ _ _ _ _ _ _ _ _ _ _ _ _ (table-terms _ _ _ _ (passes e .in-rings .few) _ (n .terms-of .ensures)) (w .width .ensures) G),
+      λ L write size caps F G.
+          rw (w .width .ensures) at
+          (f .slide .ensures L write size _ _ caps _ (record { full-is = F; first-is = refl; position-is = refl; wait-is = refl; left-is = refl })
+          (named _ _ _ _ _ _ _ _ _ _ _ _ _ _ _ _ _ _ _ _ _ _ _ _ _ (table-terms _ _ _ _ (passes e .in-rings .few) _ (n .terms-of .ensures)) (w .width .ensures) G)),
       λ no. absurd (no (passes e)),
     )
 

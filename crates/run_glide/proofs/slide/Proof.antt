@@ -5,7 +5,7 @@ use mathlib.Core.Path.{_≡_, refl, sym, _∙_}
 use lib.ListN.{length}
 use native.Mathlib.Omega.{arith}
 use borrow.Author.Needs.{needs}
-use Rattle.model.specs.Values.{Trimmed}
+use Rattle.model.specs.Clock.{Layout}
 use Rattle.loop_laws.specs.Passes.{heads}
 use Rattle.run_glide.specs.Glides.{Blank, Starts, Glides}
 use Rattle.run_glide.proofs.FitLaws.{up-to-fits}
@@ -30,9 +30,9 @@ abbrev Inv-loop : tie.InvT-loop
 Inv-loop full kernel centre n bases tops dims spans strides row iterations first position wait0 left0 fired0 puts₀ gets₀ store₀ cells out₀ allowance terms width spare₀ fired₀ wait₀ left₀ taken₀ o₀ puts gets store out spare fired wait left taken o =
     Slides n fired0 allowance bases tops store₀ out₀ puts (heads full puts gets) store out fired left taken o
     × Blank n spare
-    × ((t : Trimmed) (size : ℕ) (at wants caps passed : List ℕ) → Starts full n row fired0 first position wait0 left0 at wants caps passed
-    → Glides t kernel terms n row iterations size centre width fired0 dims at wants caps bases tops spans strides passed puts₀ gets₀ store₀
-    → Glide t kernel terms n row iterations size centre width fired0 dims at wants caps bases tops spans strides passed puts₀ gets₀ store₀ cells out₀ allowance puts
+    × ((L : Layout) (write : List ℕ → List ℕ) (size : ℕ) (at wants caps passed : List ℕ) → Starts full n row fired0 first position wait0 left0 at wants caps passed
+    → Glides L write kernel terms n row iterations size centre width fired0 dims at wants caps bases tops spans strides passed puts₀ gets₀ store₀
+    → Glide L write kernel terms n row iterations size centre width fired0 dims at wants caps bases tops spans strides passed puts₀ gets₀ store₀ cells out₀ allowance puts
     (heads full puts gets) store out fired wait left taken o)
 
 abbrev μ-loop : tie.MeasureT-loop
@@ -47,7 +47,7 @@ loop-holds c =
     let p = start c .pre .1 in (
       slides-start _ _ _ _ _ _ _ _ _ _ (start c .args .full) (p .1 .1) (p .0 .2) (p .0 .0) (p .0 .1),
       blank-start _ _ refl,
-      λ t size at wants caps passed S G. glide-start _ _ _ _ _ _ _ _ _ _ _ _ _ _ _ _ _ _ _ _ _ _ _ _ _ G _ _ _ _ _ S,
+      λ L write size at wants caps passed S G. glide-start _ _ _ _ _ _ _ _ _ _ _ _ _ _ _ _ _ _ _ _ _ _ _ _ _ _ G _ _ _ _ _ S,
     )
 
 sub-t37 : tie.Need-sub-t37 Inv-loop μ-loop
@@ -62,9 +62,9 @@ same-length-2 c = c .before .before .loop .inv .0 .out-length
 returns : tie.Need-returns Inv-loop μ-loop
 returns c =
     let a = c .before .before in
-    λ t size at wants caps passed S G.
-    let s = a .loop .inv .2 t size at wants caps passed S G in
-    record { ends = glide-spent _ _ _ _ _ _ _ _ _ _ _ _ _ _ _ _ _ _ _ _ _ _ _ _ _ G _ _ _ _ _ _ _ _ _ s (c .before .loop-test .taken) (c .if1 .taken); had = s .had; allowed = s .allowed; fewer = s .fewer; inside = s .inside; most = fired-most _ _ _ _ _ _ _ _ _ _ _ _ _ _ _ _ _ _ _ _ _ _ _ _ _ G _ _ _ _ _ _ _ _ _ s }
+    λ L write size at wants caps passed S G.
+    let s = a .loop .inv .2 L write size at wants caps passed S G in
+    record { ends = glide-spent _ _ _ _ _ _ _ _ _ _ _ _ _ _ _ _ _ _ _ _ _ _ _ _ _ _ G _ _ _ _ _ _ _ _ _ s (c .before .loop-test .taken) (c .if1 .taken); had = s .had; allowed = s .allowed; fewer = s .fewer; inside = s .inside; most = fired-most _ _ _ _ _ _ _ _ _ _ _ _ _ _ _ _ _ _ _ _ _ _ _ _ _ _ G _ _ _ _ _ _ _ _ _ s }
 
 sub-t40 : tie.Need-sub-t40 Inv-loop μ-loop
 sub-t40 c = c .before .before .before .loop .inv .0 .begun
@@ -78,9 +78,9 @@ same-length-4 c = c .before .before .before .loop .inv .0 .out-length
 returns-2 : tie.Need-returns-2 Inv-loop μ-loop
 returns-2 c =
     let a = c .before .before .before in
-    λ t size at wants caps passed S G.
-    let s = a .loop .inv .2 t size at wants caps passed S G in
-    record { ends = glide-starved _ _ _ _ _ _ _ _ _ _ _ _ _ _ _ _ _ _ _ _ _ _ _ _ _ G _ _ _ _ _ _ _ _ _ s (c .before .before .loop-test .taken) (c .before .if1 .left) (c .if2 .taken); had = s .had; allowed = s .allowed; fewer = s .fewer; inside = s .inside; most = fired-most _ _ _ _ _ _ _ _ _ _ _ _ _ _ _ _ _ _ _ _ _ _ _ _ _ G _ _ _ _ _ _ _ _ _ s }
+    λ L write size at wants caps passed S G.
+    let s = a .loop .inv .2 L write size at wants caps passed S G in
+    record { ends = glide-starved _ _ _ _ _ _ _ _ _ _ _ _ _ _ _ _ _ _ _ _ _ _ _ _ _ _ G _ _ _ _ _ _ _ _ _ s (c .before .before .loop-test .taken) (c .before .if1 .left) (c .if2 .taken); had = s .had; allowed = s .allowed; fewer = s .fewer; inside = s .inside; most = fired-most _ _ _ _ _ _ _ _ _ _ _ _ _ _ _ _ _ _ _ _ _ _ _ _ _ _ G _ _ _ _ _ _ _ _ _ s }
 
 lesser-requires : tie.Need-lesser-requires Inv-loop μ-loop
 lesser-requires c κs = search needs
@@ -149,8 +149,8 @@ loop-again c =
     let a = waits-at k in (
       slides-waits _ _ _ _ _ _ _ _ _ _ _ _ _ _ _ (a .loop .inv .0) _ _ _ _ (p .pass-all .ensures .1) (waits-lent k .0),
       p .pass-all .ensures .2,
-      λ t size at wants caps passed S G.
-          glide-waited _ _ _ _ _ _ _ _ _ _ _ _ _ _ _ _ _ _ _ _ _ _ _ _ _ G _ _ _ _ _ _ _ _ _ (a .loop .inv .2 t size at wants caps passed S G) _ _ _ _ _ _ (p .pass-all .ensures .0)
+      λ L write size at wants caps passed S G.
+          glide-waited _ _ _ _ _ _ _ _ _ _ _ _ _ _ _ _ _ _ _ _ _ _ _ _ _ _ G _ _ _ _ _ _ _ _ _ (a .loop .inv .2 L write size at wants caps passed S G) _ _ _ _ _ _ (p .pass-all .ensures .0)
           (k .before .before .before .before .before .loop-test .taken) (omega (arith, k .lesser2 .ensures)) (waits-lent k .0) (waits-lent k .1),
     )
 
@@ -171,9 +171,9 @@ same-length-6 c = c .before .before .before .before .before .before .loop .inv .
 returns-3 : tie.Need-returns-3 Inv-loop μ-loop
 returns-3 c =
     let a = c .before .before .before .before .before .before in
-    λ t size at wants caps passed S G.
-    let s = a .loop .inv .2 t size at wants caps passed S G in
-    record { ends = glide-full _ _ _ _ _ _ _ _ _ _ _ _ _ _ _ _ _ _ _ _ _ _ _ _ _ G _ _ _ _ _ _ _ _ _ s (c .before .before .before .before .before .loop-test .taken) (c .before .before .before .before .if1 .left) (c .before .before .before .if2 .left) (c .before .if3 .left) (c .if4 .taken); had = s .had; allowed = s .allowed; fewer = s .fewer; inside = s .inside; most = fired-most _ _ _ _ _ _ _ _ _ _ _ _ _ _ _ _ _ _ _ _ _ _ _ _ _ G _ _ _ _ _ _ _ _ _ s }
+    λ L write size at wants caps passed S G.
+    let s = a .loop .inv .2 L write size at wants caps passed S G in
+    record { ends = glide-full _ _ _ _ _ _ _ _ _ _ _ _ _ _ _ _ _ _ _ _ _ _ _ _ _ _ G _ _ _ _ _ _ _ _ _ s (c .before .before .before .before .before .loop-test .taken) (c .before .before .before .before .if1 .left) (c .before .before .before .if2 .left) (c .before .if3 .left) (c .if4 .taken); had = s .had; allowed = s .allowed; fewer = s .fewer; inside = s .inside; most = fired-most _ _ _ _ _ _ _ _ _ _ _ _ _ _ _ _ _ _ _ _ _ _ _ _ _ _ G _ _ _ _ _ _ _ _ _ s }
 
 sub-firings-in : tie.Need-sub-firings-in Inv-loop μ-loop
 sub-firings-in c = omega (arith, c .before .before .before .before .before .loop-test .taken)
@@ -260,8 +260,8 @@ loop-again-2 c =
     let a = fires-at g in (
       slides-fires _ _ _ _ _ _ _ _ _ _ _ _ _ _ _ (a .loop .inv .0) _ _ _ _ _ _ _ (f .fire-all .ensures .1) (f .fire-all .ensures .3) (fires-lent g .0) (g .firings-in .ensures .3) (c .if5 .taken),
       f .fire-all .ensures .2,
-      λ t size at wants caps passed S G.
-          glide-fired _ _ _ _ _ _ _ _ _ _ _ _ _ _ _ _ _ _ _ _ _ _ _ _ _ G _ _ _ _ _ _ _ _ _ (a .loop .inv .2 t size at wants caps passed S G) (g .before .before .before .before .before .before .loop-test .taken) (g .before .before .if3 .left)
+      λ L write size at wants caps passed S G.
+          glide-fired _ _ _ _ _ _ _ _ _ _ _ _ _ _ _ _ _ _ _ _ _ _ _ _ _ _ G _ _ _ _ _ _ _ _ _ (a .loop .inv .2 L write size at wants caps passed S G) (g .before .before .before .before .before .before .loop-test .taken) (g .before .before .if3 .left)
           _ _ _ _ _ (f .fire-all .ensures .0) (fires-left g) (fires-lent g .0) (fires-lent g .1) (g .firings-in .ensures .3) (c .if5 .taken),
     )
 
@@ -288,8 +288,8 @@ loop-again-3 c =
       slides-fires _ _ _ _ _ _ _ _ _ _ _ _ _ _ _ (a .loop .inv .0) _ _ _ _ _ _ _ (f .fire-all .ensures .1) (f .fire-all .ensures .3) (fires-lent g .0) (g .firings-in .ensures .3)
           (start (a .before) .pre .1 .1 .0 .some),
       f .fire-all .ensures .2,
-      λ t size at wants caps passed S G.
-          glide-turned _ _ _ _ _ _ _ _ _ _ _ _ _ _ _ _ _ _ _ _ _ _ _ _ _ G _ _ _ _ _ _ _ _ _ (a .loop .inv .2 t size at wants caps passed S G) (g .before .before .before .before .before .before .loop-test .taken) (g .before .before .if3 .left)
+      λ L write size at wants caps passed S G.
+          glide-turned _ _ _ _ _ _ _ _ _ _ _ _ _ _ _ _ _ _ _ _ _ _ _ _ _ _ G _ _ _ _ _ _ _ _ _ (a .loop .inv .2 L write size at wants caps passed S G) (g .before .before .before .before .before .before .loop-test .taken) (g .before .before .if3 .left)
           _ _ _ _ _ (f .fire-all .ensures .0) (fires-left g) (fires-lent g .0) (fires-lent g .1) (g .firings-in .ensures .3)
           _ _ _ _ _ S (fires-some g) (g .firings-in .ensures .0) (c .before .if5 .left) _ (c .wait-for .ensures),
     )
@@ -306,9 +306,9 @@ same-length-8 c = c .before .loop .inv .0 .out-length
 returns-4 : tie.Need-returns-4 Inv-loop μ-loop
 returns-4 c =
     let a = c .before in
-    λ t size at wants caps passed S G.
-    let s = a .loop .inv .2 t size at wants caps passed S G in
-    record { ends = glide-done _ _ _ _ _ _ _ _ _ _ _ _ _ _ _ _ _ _ _ _ _ _ _ _ _ G _ _ _ _ _ _ _ _ _ s (c .loop-test .left); had = s .had; allowed = s .allowed; fewer = s .fewer; inside = s .inside; most = fired-most _ _ _ _ _ _ _ _ _ _ _ _ _ _ _ _ _ _ _ _ _ _ _ _ _ G _ _ _ _ _ _ _ _ _ s }
+    λ L write size at wants caps passed S G.
+    let s = a .loop .inv .2 L write size at wants caps passed S G in
+    record { ends = glide-done _ _ _ _ _ _ _ _ _ _ _ _ _ _ _ _ _ _ _ _ _ _ _ _ _ _ G _ _ _ _ _ _ _ _ _ s (c .loop-test .left); had = s .had; allowed = s .allowed; fewer = s .fewer; inside = s .inside; most = fired-most _ _ _ _ _ _ _ _ _ _ _ _ _ _ _ _ _ _ _ _ _ _ _ _ _ _ G _ _ _ _ _ _ _ _ _ s }
 
 pub slide-spec : {M : Type 1} → statement M
 slide-spec =

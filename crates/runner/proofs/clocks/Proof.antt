@@ -187,7 +187,7 @@ advance-requires c κs =
     let g = c .before .before .before .before .before in
     let f = filled (aligned g) in
     let st = start f in
-    let G = g .glide .ensures .0 _ _ _ (f .fill .ensures .2) (may-glide _ _ _ _ _ _ _ _ _ _ _ (st .pre .0) _ _ _ _ (st .pre .1) (going f .if1 .left) _ (st .args .out .now) _ (f .fill .result) _ _ _ _ (f .fill .ensures .0 _ _ _ _ (may-fill _ _ _ _ _ _ _ _ _ _ _ (st .pre .0) _ _ _ _ (st .pre .1) (going f .if1 .left))) (aligned g .enum-told4 .given .1) (f .fill .kept .1 .1 .1 .1 .1 .1 .1 .1 .1 .1 .0)) in
+    let G = g .glide .ensures .0 _ _ _ _ (f .fill .ensures .2) (may-glide _ _ _ _ _ _ _ _ _ _ _ (st .pre .0) _ _ _ _ (st .pre .1) (going f .if1 .left) _ (st .args .out .now) _ (f .fill .result) _ _ _ _ (f .fill .ensures .0 _ _ _ _ (may-fill _ _ _ _ _ _ _ _ _ _ _ (st .pre .0) _ _ _ _ (st .pre .1) (going f .if1 .left))) (aligned g .enum-told4 .given .1) (f .fill .kept .1 .1 .1 .1 .1 .1 .1 .1 .1 .1 .0)) in
     ((few _ _ _ _ _ _ _ _ _ _ _ (st .pre .0) _ _ _ _ (st .pre .1), (f .fill .ensures .0 _ _ _ _ (may-fill _ _ _ _ _ _ _ _ _ _ _ (st .pre .0) _ _ _ _ (st .pre .1) (going f .if1 .left))) .there), slid-fits _ _ _ _ _ _ _ _ _ _ _ (st .pre .0) _ _ _ _ (st .pre .1) (going f .if1 .left) _ (st .args .out .now) _ (f .fill .result) _ _ _ _ (f .fill .ensures .0 _ _ _ _ (may-fill _ _ _ _ _ _ _ _ _ _ _ (st .pre .0) _ _ _ _ (st .pre .1) (going f .if1 .left))) (aligned g .enum-told4 .given .1) _ _ _ G)
 
 add-counts : tie.Need-add-counts
@@ -195,7 +195,7 @@ add-counts c =
     let g = c .before .before .before .before .before .before in
     let f = filled (aligned g) in
     let st = start f in
-    let G = g .glide .ensures .0 _ _ _ (f .fill .ensures .2) (may-glide _ _ _ _ _ _ _ _ _ _ _ (st .pre .0) _ _ _ _ (st .pre .1) (going f .if1 .left) _ (st .args .out .now) _ (f .fill .result) _ _ _ _ (f .fill .ensures .0 _ _ _ _ (may-fill _ _ _ _ _ _ _ _ _ _ _ (st .pre .0) _ _ _ _ (st .pre .1) (going f .if1 .left))) (aligned g .enum-told4 .given .1) (f .fill .kept .1 .1 .1 .1 .1 .1 .1 .1 .1 .1 .0)) in
+    let G = g .glide .ensures .0 _ _ _ _ (f .fill .ensures .2) (may-glide _ _ _ _ _ _ _ _ _ _ _ (st .pre .0) _ _ _ _ (st .pre .1) (going f .if1 .left) _ (st .args .out .now) _ (f .fill .result) _ _ _ _ (f .fill .ensures .0 _ _ _ _ (may-fill _ _ _ _ _ _ _ _ _ _ _ (st .pre .0) _ _ _ _ (st .pre .1) (going f .if1 .left))) (aligned g .enum-told4 .given .1) (f .fill .kept .1 .1 .1 .1 .1 .1 .1 .1 .1 .1 .0)) in
     taken-fits _ _ _ _ _ _ _ _ _ _ _ (st .pre .0) _ _ _ _ (st .pre .1) (going f .if1 .left) _ (st .args .out .now) _ (f .fill .result) _ _ _ _ (f .fill .ensures .0 _ _ _ _ (may-fill _ _ _ _ _ _ _ _ _ _ _ (st .pre .0) _ _ _ _ (st .pre .1) (going f .if1 .left))) (aligned g .enum-told4 .given .1) _ _ _ G (st .fits .allowance .fits)
 
 add-counts-2 : tie.Need-add-counts-2
@@ -203,7 +203,7 @@ add-counts-2 c =
     let g = c .before .before .before .before .before .before in
     let f = filled (aligned g) in
     let st = start f in
-    let G = g .glide .ensures .0 _ _ _ (f .fill .ensures .2) (may-glide _ _ _ _ _ _ _ _ _ _ _ (st .pre .0) _ _ _ _ (st .pre .1) (going f .if1 .left) _ (st .args .out .now) _ (f .fill .result) _ _ _ _ (f .fill .ensures .0 _ _ _ _ (may-fill _ _ _ _ _ _ _ _ _ _ _ (st .pre .0) _ _ _ _ (st .pre .1) (going f .if1 .left))) (aligned g .enum-told4 .given .1) (f .fill .kept .1 .1 .1 .1 .1 .1 .1 .1 .1 .1 .0)) in
+    let G = g .glide .ensures .0 _ _ _ _ (f .fill .ensures .2) (may-glide _ _ _ _ _ _ _ _ _ _ _ (st .pre .0) _ _ _ _ (st .pre .1) (going f .if1 .left) _ (st .args .out .now) _ (f .fill .result) _ _ _ _ (f .fill .ensures .0 _ _ _ _ (may-fill _ _ _ _ _ _ _ _ _ _ _ (st .pre .0) _ _ _ _ (st .pre .1) (going f .if1 .left))) (aligned g .enum-told4 .given .1) (f .fill .kept .1 .1 .1 .1 .1 .1 .1 .1 .1 .1 .0)) in
     clocks-fit _ _ _ _ _ _ _ _ _ _ _ (st .pre .0) _ _ _ _ (st .pre .1) (going f .if1 .left) _ (st .args .out .now) _ (f .fill .result) _ _ _ _ (f .fill .ensures .0 _ _ _ _ (may-fill _ _ _ _ _ _ _ _ _ _ _ (st .pre .0) _ _ _ _ (st .pre .1) (going f .if1 .left))) (aligned g .enum-told4 .given .1) _ _ _ G (st .fits .allowance .fits)
 
 counts-requires-6 : tie.Need-counts-requires-6
@@ -211,7 +211,7 @@ counts-requires-6 c κs =
     let g = c .before .before .before .before .before .before in
     let f = filled (aligned g) in
     let st = start f in
-    let G = g .glide .ensures .0 _ _ _ (f .fill .ensures .2) (may-glide _ _ _ _ _ _ _ _ _ _ _ (st .pre .0) _ _ _ _ (st .pre .1) (going f .if1 .left) _ (st .args .out .now) _ (f .fill .result) _ _ _ _ (f .fill .ensures .0 _ _ _ _ (may-fill _ _ _ _ _ _ _ _ _ _ _ (st .pre .0) _ _ _ _ (st .pre .1) (going f .if1 .left))) (aligned g .enum-told4 .given .1) (f .fill .kept .1 .1 .1 .1 .1 .1 .1 .1 .1 .1 .0)) in
+    let G = g .glide .ensures .0 _ _ _ _ (f .fill .ensures .2) (may-glide _ _ _ _ _ _ _ _ _ _ _ (st .pre .0) _ _ _ _ (st .pre .1) (going f .if1 .left) _ (st .args .out .now) _ (f .fill .result) _ _ _ _ (f .fill .ensures .0 _ _ _ _ (may-fill _ _ _ _ _ _ _ _ _ _ _ (st .pre .0) _ _ _ _ (st .pre .1) (going f .if1 .left))) (aligned g .enum-told4 .given .1) (f .fill .kept .1 .1 .1 .1 .1 .1 .1 .1 .1 .1 .0)) in
     counts-small _ _ _ _ _ _ _ _ _ _ _ (st .pre .0) _ _ _ _ (st .pre .1) (going f .if1 .left) _ (st .args .out .now) _ (f .fill .result) _ _ _ _ (f .fill .ensures .0 _ _ _ _ (may-fill _ _ _ _ _ _ _ _ _ _ _ (st .pre .0) _ _ _ _ (st .pre .1) (going f .if1 .left))) (aligned g .enum-told4 .given .1) _ _ _ G (st .fits .allowance .fits)
 
 add-all : tie.Need-add-all
@@ -219,7 +219,7 @@ add-all c =
     let g = c .before .before .before .before .before .before .before in
     let f = filled (aligned g) in
     let st = start f in
-    let G = g .glide .ensures .0 _ _ _ (f .fill .ensures .2) (may-glide _ _ _ _ _ _ _ _ _ _ _ (st .pre .0) _ _ _ _ (st .pre .1) (going f .if1 .left) _ (st .args .out .now) _ (f .fill .result) _ _ _ _ (f .fill .ensures .0 _ _ _ _ (may-fill _ _ _ _ _ _ _ _ _ _ _ (st .pre .0) _ _ _ _ (st .pre .1) (going f .if1 .left))) (aligned g .enum-told4 .given .1) (f .fill .kept .1 .1 .1 .1 .1 .1 .1 .1 .1 .1 .0)) in
+    let G = g .glide .ensures .0 _ _ _ _ (f .fill .ensures .2) (may-glide _ _ _ _ _ _ _ _ _ _ _ (st .pre .0) _ _ _ _ (st .pre .1) (going f .if1 .left) _ (st .args .out .now) _ (f .fill .result) _ _ _ _ (f .fill .ensures .0 _ _ _ _ (may-fill _ _ _ _ _ _ _ _ _ _ _ (st .pre .0) _ _ _ _ (st .pre .1) (going f .if1 .left))) (aligned g .enum-told4 .given .1) (f .fill .kept .1 .1 .1 .1 .1 .1 .1 .1 .1 .1 .0)) in
     all-fits _ _ _ _ _ _ _ _ _ _ _ (st .pre .0) _ _ _ _ (st .pre .1) (going f .if1 .left) _ (st .args .out .now) _ (f .fill .result) _ _ _ _ (f .fill .ensures .0 _ _ _ _ (may-fill _ _ _ _ _ _ _ _ _ _ _ (st .pre .0) _ _ _ _ (st .pre .1) (going f .if1 .left))) (aligned g .enum-told4 .given .1) _ _ _ G
 
 outcome-of-requires : tie.Need-outcome-of-requires
@@ -230,7 +230,7 @@ cast-t80 c =
     let g = c .before .before .before .before .before .before .before .before in
     let f = filled (aligned g) in
     let st = start f in
-    let G = g .glide .ensures .0 _ _ _ (f .fill .ensures .2) (may-glide _ _ _ _ _ _ _ _ _ _ _ (st .pre .0) _ _ _ _ (st .pre .1) (going f .if1 .left) _ (st .args .out .now) _ (f .fill .result) _ _ _ _ (f .fill .ensures .0 _ _ _ _ (may-fill _ _ _ _ _ _ _ _ _ _ _ (st .pre .0) _ _ _ _ (st .pre .1) (going f .if1 .left))) (aligned g .enum-told4 .given .1) (f .fill .kept .1 .1 .1 .1 .1 .1 .1 .1 .1 .1 .0)) in
+    let G = g .glide .ensures .0 _ _ _ _ (f .fill .ensures .2) (may-glide _ _ _ _ _ _ _ _ _ _ _ (st .pre .0) _ _ _ _ (st .pre .1) (going f .if1 .left) _ (st .args .out .now) _ (f .fill .result) _ _ _ _ (f .fill .ensures .0 _ _ _ _ (may-fill _ _ _ _ _ _ _ _ _ _ _ (st .pre .0) _ _ _ _ (st .pre .1) (going f .if1 .left))) (aligned g .enum-told4 .given .1) (f .fill .kept .1 .1 .1 .1 .1 .1 .1 .1 .1 .1 .0)) in
     all-fits-32 _ _ _ _ _ _ _ _ _ _ _ (st .pre .0) _ _ _ _ (st .pre .1) (going f .if1 .left) _ (st .args .out .now) _ (f .fill .result) _ _ _ _ (f .fill .ensures .0 _ _ _ _ (may-fill _ _ _ _ _ _ _ _ _ _ _ (st .pre .0) _ _ _ _ (st .pre .1) (going f .if1 .left))) (aligned g .enum-told4 .given .1) _ _ _ G
 
 same-length-4 : tie.Need-same-length-4
@@ -246,7 +246,7 @@ returns-6 c =
     let g = c .before .before .before .before .before .before .before .before in
     let f = filled (aligned g) in
     let st = start f in
-    let G = g .glide .ensures .0 _ _ _ (f .fill .ensures .2) (may-glide _ _ _ _ _ _ _ _ _ _ _ (st .pre .0) _ _ _ _ (st .pre .1) (going f .if1 .left) _ (st .args .out .now) _ (f .fill .result) _ _ _ _ (f .fill .ensures .0 _ _ _ _ (may-fill _ _ _ _ _ _ _ _ _ _ _ (st .pre .0) _ _ _ _ (st .pre .1) (going f .if1 .left))) (aligned g .enum-told4 .given .1) (f .fill .kept .1 .1 .1 .1 .1 .1 .1 .1 .1 .1 .0)) in
+    let G = g .glide .ensures .0 _ _ _ _ (f .fill .ensures .2) (may-glide _ _ _ _ _ _ _ _ _ _ _ (st .pre .0) _ _ _ _ (st .pre .1) (going f .if1 .left) _ (st .args .out .now) _ (f .fill .result) _ _ _ _ (f .fill .ensures .0 _ _ _ _ (may-fill _ _ _ _ _ _ _ _ _ _ _ (st .pre .0) _ _ _ _ (st .pre .1) (going f .if1 .left))) (aligned g .enum-told4 .given .1) (f .fill .kept .1 .1 .1 .1 .1 .1 .1 .1 .1 .1 .0)) in
     ends-glided _ _ _ _ _ _ _ _ _ _ _ (st .pre .0) _ _ _ _ (st .pre .1) (going f .if1 .left) _ (st .args .out .now) _ (f .fill .result) _ _ _ _ (f .fill .ensures .0 _ _ _ _ (may-fill _ _ _ _ _ _ _ _ _ _ _ (st .pre .0) _ _ _ _ (st .pre .1) (going f .if1 .left))) (aligned g .enum-told4 .given .1) _ _ _ G _ _ _ (c .before .counts6 .ensures) (c .outcome-of .ensures) (c .before .before .advance .ensures)
 
 pub clocks-spec : {M : Type 1} → statement M

@@ -2,9 +2,9 @@ use Prim.Native.Nat.{_<_}
 use mathlib.Core.Path.{_≡_, sym, _∙_}
 use native.Mathlib.Omega.{arith}
 use borrow.Author.Needs.{needs}
-use Rattle.model.specs.Geometry.{iterationCount}
 use Rattle.model.specs.Values.{sizesOf, offsetsOf}
 use Rattle.model.specs.declared.Window.{Window}
+use Rattle.model.proofs.Rectangles.{iterationCount}
 use Rattle.geometry.proofs.GridLaws.{few-dimensions, some-references, few-references}
 use Rattle.shape.proofs.ShapeLaws.{
   small-sizes,
