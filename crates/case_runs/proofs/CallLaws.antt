@@ -52,7 +52,7 @@ share from count f n l e1 e2 =
 
 pub lent-part : (r : Ran) (after part : List ℕ) (c : Chain) (s : State) (h : Share) (cells store out : List ℕ) (f n end : ℕ)
     → f ≡ min (h .from) (length cells) → n ≡ min (h .count) (length cells - f) → end ≡ min (h .places) (length out)
-    → ranOf r after part ≡ runOf c s store (take ((f + n) - f) (drop f cells)) (take end out) (h .clocks)
+    → ranOf r after part ≡ runOf c [] s store (take ((f + n) - f) (drop f cells)) (take end out) (h .clocks)
     → ranOf r after (part ++ drop end out) ≡ lent c s h cells store out
 unfolding lent
 lent-part r after part c s h cells store out f n end e1 e2 e3 e =
@@ -60,8 +60,8 @@ lent-part r after part c s h cells store out f n end e1 e2 e3 e =
     let j : take end out ≡ take (h .places) out = take-least end (h .places) out e3 in
     let k : drop end out ≡ drop (h .places) out = drop-least end (h .places) out e3 in
     let whole : List ℕ → Left → Left = λ rest l. record { answer = l .answer; state = l .state; store = l .store; output = l .output ++ rest } in
-    ap (whole (drop end out)) (e ∙ ap (λ x. runOf c s store x (take end out) (h .clocks)) i ∙ ap (λ x. runOf c s store (take (h .count) (drop (h .from) cells)) x (h .clocks)) j)
-    ∙ ap (λ rest. whole rest (runOf c s store (take (h .count) (drop (h .from) cells)) (take (h .places) out) (h .clocks))) k
+    ap (whole (drop end out)) (e ∙ ap (λ x. runOf c [] s store x (take end out) (h .clocks)) i ∙ ap (λ x. runOf c [] s store (take (h .count) (drop (h .from) cells)) x (h .clocks)) j)
+    ∙ ap (λ rest. whole rest (runOf c [] s store (take (h .count) (drop (h .from) cells)) (take (h .places) out) (h .clocks))) k
 
 -- A turn of the calls: the last, or one before others.
 pub last-call : (n : ℕ) (c : Chain) (pieces : Bool) (width : ℕ) (cells : List ℕ) (k : Course) (r : Run) (store out : List ℕ)

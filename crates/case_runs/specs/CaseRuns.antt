@@ -1,7 +1,7 @@
 -- A run of a chain call by call.
 use Prim.Native.Nat.{ℕ, zero, suc, _+_, _*_, _%_, _^_}
 use mathlib.Core.Bool.{Bool, true, false, cond, _||_}
-use mathlib.Core.List.{List, _++_}
+use mathlib.Core.List.{List, [], _++_}
 use mathlib.Core.Path.{_≡_}
 use lib.Dec.{T, eqb, ltb}
 use lib.ListN.{take, drop, replicate}
@@ -38,10 +38,10 @@ startedFrom s = record {
 abbrev pub begun : Run
 begun = startedFrom fresh
 
--- All that a call with its share leaves; places past those that it is lent are as before.
+-- All that a call with its share, and no rows lent, leaves; places past those that it is lent are as before.
 unfoldable pub lent : Chain → State → Share → (cells store output : List ℕ) → Left
 lent c s h cells store output =
-    let l = runOf c s store (take (h .count) (drop (h .from) cells)) (take (h .places) output) (h .clocks) in
+    let l = runOf c [] s store (take (h .count) (drop (h .from) cells)) (take (h .places) output) (h .clocks) in
     record { answer = l .answer; state = l .state; store = l .store; output = l .output ++ drop (h .places) output }
 
 abbrev pub oneClock : (from : ℕ) → Share

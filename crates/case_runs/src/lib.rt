@@ -73,7 +73,7 @@ pub fn begin() -> Run
     }
 }
 
-// A call with its share of the cells and of the output.
+// A call with its share of the cells and of the output, and with no rows beside the chain.
 pub fn lend(
     chain: Chain,
     state: State,
@@ -89,6 +89,7 @@ pub fn lend(
     let end = lesser(share.places, out.len());
     runner::run(
         chain,
+        &[],
         state,
         store,
         &cells[from..from + count],

@@ -29,7 +29,7 @@ fn run(chain: Chain) {
     let cells = [1u32, 2, 3, 4, 5];
     let mut store = [0u32; 3];
     let mut out = [0u32; 4];
-    let r = runner::run(chain, fresh(), &mut store, &cells, &mut out, 100);
+    let r = runner::run(chain, &[], fresh(), &mut store, &cells, &mut out, 100);
     let answer = r.answer;
     if let Answer::Ended(o) = answer {
         if let Outcome::Done(c) = o {
@@ -55,7 +55,7 @@ fn sheet(chain: Chain) {
 pub(crate) fn listings() {
     let read = sheet_calls::read_request(b"010100000005\n020000\n020003\n0400\n");
     let request = read.request;
-    let p = planner::plan(request);
+    let p = planner::plan(request, &[]);
     let chain = p.chain;
     io::write_all(STDOUT_FILENO, b"the listing of plan\n");
     sheet(chain);

@@ -162,7 +162,7 @@ fn with_kernel(
     cells: &[u32],
     out: &mut [u32],
 ) {
-    let p = planner::plan(request(l, author, kernel));
+    let p = planner::plan(request(l, author, kernel), &[]);
     let verdict = p.verdict;
     let chain = p.chain;
     name(kernel);
@@ -185,7 +185,7 @@ fn with_kernels(l: Loops, author: &[u8], falling: &[u8], cells: &[u32], out: &mu
 }
 
 fn case(name: &[u8], l: Loops, author: &[u8], falling: &[u8], cells: &[u32], out: &mut [u32]) {
-    let p = planner::plan(request(l, author, Kernel::Raw));
+    let p = planner::plan(request(l, author, Kernel::Raw), &[]);
     let chain = p.chain;
     text(name);
     fifos(chain);

@@ -157,18 +157,18 @@ module _ (q : ListOfCalls) where
   makes-clock l = makes (setting q) l (handedOn q) (reached q)
 
   module _ (l m : Lending) where
-    after-done : Reports outcome.Done (oneMore q l) → shortStore (trimmed (q .chain)) (againStore q l m) ≡ false → again q l m .answer ≡ answer.Ended (outcome.Done noCounts)
+    after-done : Reports outcome.Done (oneMore q l) → shortStore (trimmed (q .chain) (q .numbers)) (againStore q l m) ≡ false → again q l m .answer ≡ answer.Ended (outcome.Done noCounts)
     after-done x s =
-        let t = trimmed (q .chain) in
+        let t = trimmed (q .chain) (q .numbers) in
         let d = done-at (setting q) l (handedOn q) (reached q) x in
         again-done (setting q) m _ (after-reached (setting q) l (handedOn q) (reached q)) s (done-dead t _ d) d
 
-    after-stall : Reports outcome.Stalled (oneMore q l) → shortStore (trimmed (q .chain)) (againStore q l m) ≡ false
+    after-stall : Reports outcome.Stalled (oneMore q l) → shortStore (trimmed (q .chain) (q .numbers)) (againStore q l m) ≡ false
         → (0 < m .allowance → 0 < m .cells → again q l m .answer ≡ answer.Ended (outcome.Stalled noCounts))
         × (m .allowance ≡ 0 → again q l m .answer ≡ answer.Ended (outcome.Spent noCounts))
         × (0 < m .allowance → m .cells ≡ 0 → again q l m .answer ≡ answer.Ended (outcome.Starved noCounts))
     after-stall x s =
-        let t = trimmed (q .chain) in
+        let t = trimmed (q .chain) (q .numbers) in
         let d = stalled-at (setting q) l (handedOn q) (reached q) x in
         again-stalled (setting q) m _ (after-reached (setting q) l (handedOn q) (reached q)) s (stalled-dead t _ (d .1)) (d .0) (d .1)
 

@@ -221,12 +221,12 @@ run-judged : (t : Trimmed) (s : State) (store : List ℕ) → Judged t s store �
 unfolding judgeRun judged firstOf
 run-judged t s store j = first-append (valueChecks t) _ (j .value) ∙ rw (j .enough, j .sound) refl
 
-module _ (c : Chain) (s : State) (l : Lent) (j : Judged (trimmed c) s (l .store)) where
+module _ (c : Chain) (numbers : List ℕ) (s : State) (l : Lent) (j : Judged (trimmed c numbers) s (l .store)) where
   abbrev t : Trimmed
-  t = trimmed c
+  t = trimmed c numbers
 
   abbrev proper : Proper t
-  proper = trimmed-proper c
+  proper = trimmed-proper c numbers
 
   abbrev ok : Accepted t
   ok = accepted t proper (j .value)
@@ -287,29 +287,29 @@ module _ (c : Chain) (s : State) (l : Lent) (j : Judged (trimmed c) s (l .store)
     output = end .standing .output;
   }
 
-  run-is : run c s l ≡ ran
+  run-is : run c numbers s l ≡ ran
   unfolding runOf runTrimmed ran
   run-is = rw (run-judged t s (l .store) j) refl
 
-  run-counts : answerCounts (run c s l .answer) ≡ end .standing .done
+  run-counts : answerCounts (run c numbers s l .answer) ≡ end .standing .done
   unfolding ran answerCounts
   run-counts = ap (λ (x : Run). answerCounts (x .answer)) run-is ∙ outcome-counts (end .ending) (end .standing .done)
 
-  run-firings : firingsOf (run c s l) ≡ end .standing .done .firings
+  run-firings : firingsOf (run c numbers s l) ≡ end .standing .done .firings
   run-firings = ap (λ (d : Counts). d .firings) run-counts
 
-  run-counters : countersOf (t .count) (run c s l .state) ≡ end .standing .counters
+  run-counters : countersOf (t .count) (run c numbers s l .state) ≡ end .standing .counters
   unfolding ran layout
   run-counters =
       ap (λ (x : Run). countersOf (t .count) (x .state)) run-is
       ∙ counters-back (t .count) s (end .standing .counters)
       (omega (arith, holds-length (layout t) (end .standing .counters .fired) 0 (layout t .cells) (end .standing .counters .passed) (end-stays .good .invariant .all)))
 
-  run-answer : (e : Ending) (d : Counts) → end .ending ≡ e → end .standing .done ≡ d → run c s l .answer ≡ answer.Ended (outcomeOf e d)
+  run-answer : (e : Ending) (d : Counts) → end .ending ≡ e → end .standing .done ≡ d → run c numbers s l .answer ≡ answer.Ended (outcomeOf e d)
   unfolding ran
   run-answer e d x y = ap (λ (r : Run). r .answer) run-is ∙ ap₂ (λ (f : Ending) (z : Counts). answer.Ended (outcomeOf f z)) x y
 
-  within : Within c s l
+  within : Within c numbers s l
   unfolding begun
   within = record {
     clocks = omega (arith, ap (λ (d : Counts). d .clocks) run-counts, end-allowed);
@@ -317,17 +317,17 @@ module _ (c : Chain) (s : State) (l : Lent) (j : Judged (trimmed c) s (l .store)
     places = subst (λ (n : ℕ). n * widthOf t ≤ length (l .output)) (sym run-firings) (omega (arith, end-stays .good .places, end-stays .output-length));
   }
 
-  kept : Kept c s l
+  kept : Kept c numbers s l
   unfolding begun ran layout
   kept = record {
     store-length = ap (λ (x : Run). length (x .store)) run-is ∙ end-stays .store-length;
     store-rest = ap (λ (x : Run). drop (sum (t .capacities)) (x .store)) run-is ∙ subst (λ (n : ℕ). drop n (end .standing .store) ≡ drop n (l .store)) (all-places t proper ok) (end-stays .store-rest);
     output-length = ap (λ (x : Run). length (x .output)) run-is ∙ end-stays .output-length;
-    output-rest = subst (λ (n : ℕ). drop (n * widthOf t) (run c s l .output) ≡ drop (n * widthOf t) (l .output)) (sym run-firings)
+    output-rest = subst (λ (n : ℕ). drop (n * widthOf t) (run c numbers s l .output) ≡ drop (n * widthOf t) (l .output)) (sym run-firings)
         (ap (λ (x : Run). drop (end .standing .done .firings * widthOf t) (x .output)) run-is ∙ end-stays .output-rest (end .standing .done .firings * widthOf t) (omega arith));
   }
 
-  reports : (e : Ending) → Reports (outcomeOf e) (run c s l) ↔ Means t l (countersOf (t .count) (run c s l .state)) (answerCounts (run c s l .answer)) e
+  reports : (e : Ending) → Reports (outcomeOf e) (run c numbers s l) ↔ Means t l (countersOf (t .count) (run c numbers s l .state)) (answerCounts (run c numbers s l .answer)) e
   reports e = (
     λ r.
         subst₂ (λ (n : Counters) (d : Counts). Means t l n d e) (sym run-counters) (sym run-counts)
@@ -340,42 +340,42 @@ module _ (c : Chain) (s : State) (l : Lent) (j : Judged (trimmed c) s (l .store)
   )
 
   -- The state that it hands back has the invariant, so it is not turned back with any store that is long enough.
-  judged-again : (store : List ℕ) → shortStore t store ≡ false → Judged t (run c s l .state) store
+  judged-again : (store : List ℕ) → shortStore t store ≡ false → Judged t (run c numbers s l .state) store
   judged-again store e = record { value = j .value; enough = e; sound = rw run-counters (invariant-good (layout t) (end .standing .counters) (end-stays .good .invariant)) }
 
   -- The store that it hands back is as long as it was.
-  long-again : shortStore t (run c s l .store) ≡ false
+  long-again : shortStore t (run c numbers s l .store) ≡ false
   unfolding shortStore
   long-again = ap (λ (n : ℕ). ltb n (sum (t .capacities))) (kept .store-length) ∙ j .enough
 
   -- A call where there is no clock to make.
-  dead-answer : live (layout t) (countersOf (t .count) s) ≡ false → (e : Ending) → Means t l (countersOf (t .count) s) noCounts e → run c s l .answer ≡ answer.Ended (outcomeOf e noCounts)
+  dead-answer : live (layout t) (countersOf (t .count) s) ≡ false → (e : Ending) → Means t l (countersOf (t .count) s) noCounts e → run c numbers s l .answer ≡ answer.Ended (outcomeOf e noCounts)
   unfolding ended begun
   dead-answer dead e m =
       let still = no-clock (layout t) (writtenBy t) (widthOf t) (l .cells) (l .allowance) start (ap length (still-traced (layout t) (end-counted .traced) dead)) in
       run-answer e noCounts (end-one e (subst (λ (x : Standing). Means t l (x .counters) (x .done) e) (sym still) m)) (ap (λ (x : Standing). x .done) still)
 
 -- Calling again.
-module _ (c : Chain) (s : State) (l : Lent) (j : Judged (trimmed c) s (l .store)) (m : Lent) where
+module _ (c : Chain) (numbers : List ℕ) (s : State) (l : Lent) (j : Judged (trimmed c numbers) s (l .store)) (m : Lent) where
   abbrev handed : Counters
-  handed = countersOf (trimmed c .count) (run c s l .state)
+  handed = countersOf (trimmed c numbers .count) (run c numbers s l .state)
 
-  after-done : Reports outcome.Done (run c s l) → shortStore (trimmed c) (m .store) ≡ false → onceMore c s l m .answer ≡ answer.Ended (outcome.Done noCounts)
+  after-done : Reports outcome.Done (run c numbers s l) → shortStore (trimmed c numbers) (m .store) ≡ false → onceMore c numbers s l m .answer ≡ answer.Ended (outcome.Done noCounts)
   unfolding outcomeOf layout
   after-done r e =
-      let all = reports c s l j Done .0 r in
-      dead-answer c (run c s l .state) m (judged-again c s l j (m .store) e) (done-dead (trimmed c) handed (omega arith)) Done all
+      let all = reports c numbers s l j Done .0 r in
+      dead-answer c numbers (run c numbers s l .state) m (judged-again c numbers s l j (m .store) e) (done-dead (trimmed c numbers) handed (omega arith)) Done all
 
   -- After Stalled firings are left and nothing would move, so that the rest is said by what is lent.
-  after-stall : Reports outcome.Stalled (run c s l) → shortStore (trimmed c) (m .store) ≡ false → (e : Ending)
-      → (handed .fired < iterationsOf (trimmed c) → moves (layout (trimmed c)) handed ≡ false → Means (trimmed c) m handed noCounts e)
-      → onceMore c s l m .answer ≡ answer.Ended (outcomeOf e noCounts)
+  after-stall : Reports outcome.Stalled (run c numbers s l) → shortStore (trimmed c numbers) (m .store) ≡ false → (e : Ending)
+      → (handed .fired < iterationsOf (trimmed c numbers) → moves (layout (trimmed c numbers)) handed ≡ false → Means (trimmed c numbers) m handed noCounts e)
+      → onceMore c numbers s l m .answer ≡ answer.Ended (outcomeOf e noCounts)
   unfolding outcomeOf
   after-stall r short e means =
-      let x = reports c s l j Stalled .0 r in
-      dead-answer c (run c s l .state) m (judged-again c s l j (m .store) short) (stalled-dead (trimmed c) handed (x .3)) e (means (x .0) (x .3))
+      let x = reports c numbers s l j Stalled .0 r in
+      dead-answer c numbers (run c numbers s l .state) m (judged-again c numbers s l j (m .store) short) (stalled-dead (trimmed c numbers) handed (x .3)) e (means (x .0) (x .3))
 
-  called-again : CalledAgain c s l m
+  called-again : CalledAgain c numbers s l m
   unfolding outcomeOf
   called-again = record {
     done = after-done;
@@ -385,12 +385,12 @@ module _ (c : Chain) (s : State) (l : Lent) (j : Judged (trimmed c) s (l .store)
   }
 
 pub any-states : AnyStates
-any-states c s l e =
-    let j = judged-run (trimmed c) s (l .store) e in
+any-states c numbers s l e =
+    let j = judged-run (trimmed c numbers) s (l .store) e in
     record {
-      within = within c s l j;
-      kept = kept c s l j;
-      outcome = reports c s l j;
-      accepted = run-judged (trimmed c) (run c s l .state) (run c s l .store) (judged-again c s l j (run c s l .store) (long-again c s l j));
-      again = called-again c s l j;
+      within = within c numbers s l j;
+      kept = kept c numbers s l j;
+      outcome = reports c numbers s l j;
+      accepted = run-judged (trimmed c numbers) (run c numbers s l .state) (run c numbers s l .store) (judged-again c numbers s l j (run c numbers s l .store) (long-again c numbers s l j));
+      again = called-again c numbers s l j;
     }

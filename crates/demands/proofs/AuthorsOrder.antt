@@ -13,7 +13,7 @@ use Rattle.model.specs.Lists.{tabulate, upTo, without, any}
 use Rattle.model.specs.Vectors.{plus, isZero}
 use Rattle.model.specs.Grounds.{Ground, dims, position}
 use Rattle.model.specs.Sized.{Sized, Proper}
-use Rattle.model.specs.Values.{Trimmed, trimmed}
+use Rattle.model.specs.Values.{Trimmed, trimmed, Same}
 use Rattle.model.specs.Iterations.{positionOf, iterationOf, readsOf}
 use Rattle.model.specs.Judging.{repeats, needsCentre, lacksCentre, centred, badOrder, judged}
 use Rattle.model.specs.Steps.{falling, whichOf, authorsOrder, sorted}
@@ -22,7 +22,6 @@ use Rattle.model.specs.Kernels.{terms, centreOf, wordsAt, written, difference, 
 use Rattle.model.specs.Running.{filtersOf, termsOf, writesOf, writtenBy}
 use Rattle.model.specs.CallLists.{allWords, firingsMade}
 use Rattle.model.specs.Words.{wordsOf, wordsFrom, loopOf, loopFrom}
-use Rattle.model.specs.declared.Chain.{Chain}
 use Rattle.model.specs.declared.Kernel.{Kernel}
 use Rattle.model.specs.declared.Kernel.the-variants as kernel
 use Rattle.model.specs.declared.Request.{Request}
@@ -208,19 +207,19 @@ sorted-writes t p e stream j =
     written-alike (t .ground) (t .offsets) (t .count) (p .references) stream (iterationOf (sorted t) j) (iterationOf t j)
     (same-iteration (sorted t) t refl (falling-no-other (t .offsets)) (falling-each (t .offsets)) refl j) (p .entries) (q .window .distinct) (t .kernel) (q .kernel .centre)
 
-loop : (r : Request) → judgeRequest r ≡ verdict.Accepted → (stream : ℕ → ℕ) (j : ℕ) → wordsOf (trimmed (planOf r .chain)) stream j ≡ loopOf r stream j
+loop : (r : Request) (numbers : List ℕ) → judgeRequest r numbers ≡ verdict.Accepted → (stream : ℕ → ℕ) (j : ℕ) → wordsOf (trimmed (planOf r numbers .chain) numbers) stream j ≡ loopOf r numbers stream j
 unfolding judgeRequest planOf loopOf
-loop r ok stream j = rw (ok, planned-lists r ok) (sorted-writes (trimmedRequest r) (request-proper r) ok stream j)
+loop r numbers ok stream j = rw (ok, planned-lists r numbers ok) (sorted-writes (trimmedRequest r numbers) (request-proper r numbers) ok stream j)
 
-loops : (r : Request) → judgeRequest r ≡ verdict.Accepted → (stream : ℕ → ℕ) (j n : ℕ) → wordsFrom (trimmed (planOf r .chain)) stream j n ≡ loopFrom r stream j n
+loops : (r : Request) (numbers : List ℕ) → judgeRequest r numbers ≡ verdict.Accepted → (stream : ℕ → ℕ) (j n : ℕ) → wordsFrom (trimmed (planOf r numbers .chain) numbers) stream j n ≡ loopFrom r numbers stream j n
 unfolding wordsFrom loopFrom
-loops r ok stream j zero = refl
-loops r ok stream j (suc n) = ap₂ _++_ (loop r ok stream j) (loops r ok stream (suc j) n)
+loops r numbers ok stream j zero = refl
+loops r numbers ok stream j (suc n) = ap₂ _++_ (loop r numbers ok stream j) (loops r numbers ok stream (suc j) n)
 
-outputs : (r : Request) → judgeRequest r ≡ verdict.Accepted → (q : ListOfCalls) → q .chain ≡ planOf r .chain
-    → allWords (trimmed (q .chain)) (q .stream) (q .calls) (q .start) ≡ loopFrom r (q .stream) 0 (firingsMade (runsOf q))
-outputs r ok q e =
-    demand-2 q .words ∙ ap (λ (c : Chain). wordsFrom (trimmed c) (q .stream) 0 (firingsMade (runsOf q))) e ∙ loops r ok (q .stream) 0 (firingsMade (runsOf q))
+outputs : (r : Request) (numbers : List ℕ) → judgeRequest r numbers ≡ verdict.Accepted → (q : ListOfCalls) → Same (q .chain) (q .numbers) (planOf r numbers .chain) numbers
+    → allWords (trimmed (q .chain) (q .numbers)) (q .stream) (q .calls) (q .start) ≡ loopFrom r numbers (q .stream) 0 (firingsMade (runsOf q))
+outputs r numbers ok q e =
+    demand-2 q .words ∙ ap (λ (t : Trimmed). wordsFrom t (q .stream) 0 (firingsMade (runsOf q))) e ∙ loops r numbers ok (q .stream) 0 (firingsMade (runsOf q))
 
 pub authors-order : AuthorsOrder
 authors-order = record { number-14 = number-14; loop = loop; outputs = outputs }

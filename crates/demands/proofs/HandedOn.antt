@@ -51,8 +51,8 @@ pub hands-on : (q : ListOfCalls) → HandsOn q
 unfolding countersOf fresh
 hands-on q = record {
   firings = reached-fired (setting q) (reached q) ∙ numbered q .firings;
-  cells = sym (first-of (trimmed (q .chain) .count) (λ k. getD (handedOn q .state .passed) k (record { 0 = 0 }) .0) (setting q .accepted .some))
+  cells = sym (first-of (trimmed (q .chain) (q .numbers) .count) (λ k. getD (handedOn q .state .passed) k (record { 0 = 0 }) .0) (setting q .accepted .some))
       ∙ list-cells (setting q) (q .calls) (q .start) [] (start q)
-      ∙ ap (λ (n : ℕ). n + cellsTaken (runsOf q)) (ap (λ (c : Counters). first (c .passed)) (q .fresh .counters) ∙ first-zero (layout (trimmed (q .chain)) .filters))
+      ∙ ap (λ (n : ℕ). n + cellsTaken (runsOf q)) (ap (λ (c : Counters). first (c .passed)) (q .fresh .counters) ∙ first-zero (layout (trimmed (q .chain) (q .numbers)) .filters))
       ∙ zero-add _;
 }

@@ -158,18 +158,18 @@ number-15 t proper = record {
 pub geometry : Geometry
 unfolding trimmed
 geometry = record {
-  iterations = λ c e. enumerated (trimmed c) (fitting-of (trimmed c) (trimmed-proper c) (accepted-chain c e));
-  largest = λ c e.
-      let ok = accepted-chain c e in
-      let f = fitting-of (trimmed c) (trimmed-proper c) ok in
-      record { most = distance-most (trimmed c) f; reached = λ k h. distance-reached (trimmed c) f k (ok .iterates) };
-  distances = λ c sizes i n fits.
-      let f = fitting (trimmed c) (trimmed-proper c) (some-references (c .window .count) n) fits in
-      record { pair = pair-distance (trimmed c) f sizes i; neighbours = same-distance (trimmed c) f sizes i };
-  cells = λ c. placed (trimmed c);
-  chain-6 = λ c. number-6 (trimmed c) (trimmed-proper c);
-  request-6 = λ r. number-6 (trimmedRequest r) (request-proper r);
-  chain-15 = λ c. number-15 (trimmed c) (trimmed-proper c);
-  request-15 = λ r. number-15 (trimmedRequest r) (request-proper r);
+  iterations = λ c numbers e. enumerated (trimmed c numbers) (fitting-of (trimmed c numbers) (trimmed-proper c numbers) (accepted-chain c numbers e));
+  largest = λ c numbers e.
+      let ok = accepted-chain c numbers e in
+      let f = fitting-of (trimmed c numbers) (trimmed-proper c numbers) ok in
+      record { most = distance-most (trimmed c numbers) f; reached = λ k h. distance-reached (trimmed c numbers) f k (ok .iterates) };
+  distances = λ c numbers sizes i n fits.
+      let f = fitting (trimmed c numbers) (trimmed-proper c numbers) (some-references (c .window .count) n) fits in
+      record { pair = pair-distance (trimmed c numbers) f sizes i; neighbours = same-distance (trimmed c numbers) f sizes i };
+  cells = λ c numbers. placed (trimmed c numbers);
+  chain-6 = λ c numbers. number-6 (trimmed c numbers) (trimmed-proper c numbers);
+  request-6 = λ r numbers. number-6 (trimmedRequest r numbers) (request-proper r numbers);
+  chain-15 = λ c numbers. number-15 (trimmed c numbers) (trimmed-proper c numbers);
+  request-15 = λ r numbers. number-15 (trimmedRequest r numbers) (request-proper r numbers);
   full-box = full-box-runs;
 }

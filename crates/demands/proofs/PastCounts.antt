@@ -1,5 +1,5 @@
 -- What stands past the counts plays no part.
-use Prim.Native.Nat.{ℕ, zero, suc, _-_, _<_}
+use Prim.Native.Nat.{ℕ, zero, suc, _+_, _-_, _*_, _<_}
 use mathlib.Core.Bool.{Bool, true, false, cond, true≢false}
 use mathlib.Core.List.{List, [], _∷_, _++_, map, flatMap}
 use mathlib.Core.Path.{_≡_, refl, sym, _∙_, ap, ap₂}
@@ -10,9 +10,9 @@ use lib.ListN.{length, getD, drop}
 use Rattle.model.specs.Lists.{tabulate, upTo}
 use Rattle.model.specs.Boxes.{Part}
 use Rattle.model.specs.Boxes.Part.{whole, box}
-use Rattle.model.specs.Grounds.{groundSizes}
-use Rattle.model.specs.Grounds.Ground.{rectangle}
-use Rattle.model.specs.Values.{Trimmed, sizesOf, offsetOf, offsetsOf, partOf, capacitiesOf, orderOf, trimmedOf, onGrid, trimmed, chainOf, blankChain, Same}
+use Rattle.model.specs.Grounds.{Row, groundSizes}
+use Rattle.model.specs.Grounds.Ground.{rectangle, rows}
+use Rattle.model.specs.Values.{Trimmed, sizesOf, rowsOf, groundOf, dimsOf, offsetOf, offsetsOf, partOf, capacitiesOf, orderOf, trimmedOf, onGrid, trimmed, chainOf, blankChain, Same}
 use Rattle.model.specs.Answers.{check, firstOf, byVerdict}
 use Rattle.model.specs.Judging.{judged, judgeChain}
 use Rattle.model.specs.Steps.{sorted, distances}
@@ -49,9 +49,33 @@ unfolding tabulate flatMap
 flat-alike zero h f g e = refl
 flat-alike (suc n) h f g e = ap₂ _++_ (e 0 (omega arith)) (flat-alike n (λ i. h (suc i)) f g (λ k b. e (suc k) (omega arith)))
 
-sizes-alike : (g h : Grid) → GridsAgree g h → sizesOf g ≡ sizesOf h
-unfolding sizesOf
-sizes-alike g h a = alike (g .dims) (h .dims) _ _ (a .dims) (a .sizes)
+rows-alike : (n m : ℕ) (ns ms : List ℕ) → n ≡ m → ((i : ℕ) → i < 2 * n → getD ns i 0 ≡ getD ms i 0) → rowsOf n ns ≡ rowsOf m ms
+unfolding rowsOf
+rows-alike n m ns ms e same =
+    alike n m _ _ e (λ i h. ap₂ (λ (x y : ℕ). let r : Row = record { start = x; length = y } in r) (same (2 * i) (omega arith)) (same (2 * i + 1) (omega arith)))
+
+module _ (g h : Grid) (ns ms : List ℕ) (a : GridsAgree g ns h ms) where
+  dims-alike : dimsOf g ≡ dimsOf h
+  unfolding dimsOf
+  dims-alike = go (g .skewed) (h .skewed) refl (a .skewed)
+    where
+      go : (s t : Bool) → g .skewed ≡ s → s ≡ t → cond s 2 (g .dims) ≡ cond t 2 (h .dims)
+      go true true e d = refl
+      go false false e d = a .dims e
+      go true false e d = absurd (true≢false d)
+      go false true e d = absurd (true≢false (sym d))
+
+  ground-alike : groundOf g ns ≡ groundOf h ms
+  unfolding groundOf sizesOf
+  ground-alike = go (g .skewed) (h .skewed) refl (a .skewed)
+    where
+      go : (s t : Bool) → g .skewed ≡ s → s ≡ t
+          → cond s (rows (rowsOf (g .rows) ns)) (rectangle (tabulate (g .dims) (λ d. getD (g .sizes) d 0)))
+          ≡ cond t (rows (rowsOf (h .rows) ms)) (rectangle (tabulate (h .dims) (λ d. getD (h .sizes) d 0)))
+      go true true e d = ap rows (rows-alike (g .rows) (h .rows) ns ms (a .count e) (a .rows e))
+      go false false e d = ap rectangle (alike (g .dims) (h .dims) _ _ (a .dims e) (a .sizes e))
+      go true false e d = absurd (true≢false d)
+      go false true e d = absurd (true≢false (sym d))
 
 offsets-alike : (n m : ℕ) (v w : Window) → n ≡ m → WindowsAgree n v w → offsetsOf n v ≡ offsetsOf m w
 unfolding offsetsOf offsetOf
@@ -69,14 +93,15 @@ parts-alike n m a b e x = go (a .stood) (b .stood) refl (x .stood)
     go true false h d = absurd (true≢false d)
     go false true h d = absurd (true≢false (sym d))
 
-trimmed-alike : (g h : Grid) (v w : Window) (p q : Bounds) (xs ys : List ℕ) (s t : Bool) (os ps : List ℕ) (k l : Kernel) → GridsAgree g h → WindowsAgree (g .dims) v w → BoundsAgree (g .dims) p q → xs ≡ ys → s ≡ t → os ≡ ps → k ≡ l
-    → trimmedOf g v p xs s os k ≡ trimmedOf h w q ys t ps l
-trimmed-alike g h v w p q xs ys s t os ps k l a b x capacities stood order kernel = λ i. record {
-  dims = a .dims i;
-  ground = rectangle (sizes-alike g h a i);
+trimmed-alike : (g h : Grid) (ns ms : List ℕ) (v w : Window) (p q : Bounds) (xs ys : List ℕ) (s t : Bool) (os ps : List ℕ) (k l : Kernel)
+    → GridsAgree g ns h ms → WindowsAgree (dimsOf g) v w → BoundsAgree (dimsOf g) p q → xs ≡ ys → s ≡ t → os ≡ ps → k ≡ l
+    → trimmedOf g ns v p xs s os k ≡ trimmedOf h ms w q ys t ps l
+trimmed-alike g h ns ms v w p q xs ys s t os ps k l a b x capacities stood order kernel = λ i. record {
+  dims = dims-alike g h ns ms a i;
+  ground = ground-alike g h ns ms a i;
   count = b .count i;
-  offsets = offsets-alike (g .dims) (h .dims) v w (a .dims) b i;
-  part = parts-alike (g .dims) (h .dims) p q (a .dims) x i;
+  offsets = offsets-alike (dimsOf g) (dimsOf h) v w (dims-alike g h ns ms a) b i;
+  part = parts-alike (dimsOf g) (dimsOf h) p q (dims-alike g h ns ms a) x i;
   capacities = capacities i;
   ordered = stood i;
   order = order i;
@@ -93,17 +118,17 @@ orders-alike n m o p e a = go (o .stood) (p .stood) refl (a .stood)
     go true false h d = absurd (true≢false d)
     go false true h d = absurd (true≢false (sym d))
 
-same-chains : (c d : Chain) → ChainsAgree c d → Same c d
+same-chains : (c d : Chain) (ns ms : List ℕ) → ChainsAgree c ns d ms → Same c ns d ms
 unfolding trimmed capacitiesOf
-same-chains c d a =
-    trimmed-alike (c .grid) (d .grid) (c .window) (d .window) (c .bounds) (d .bounds) (capacitiesOf c) (capacitiesOf d) (c .order .stood) (d .order .stood)
+same-chains c d ns ms a =
+    trimmed-alike (c .grid) (d .grid) ns ms (c .window) (d .window) (c .bounds) (d .bounds) (capacitiesOf c) (capacitiesOf d) (c .order .stood) (d .order .stood)
     (orderOf (c .window .count) (c .order)) (orderOf (d .window .count) (d .order)) (c .kernel) (d .kernel) (a .grid) (a .window) (a .bounds)
     (alike (c .window .count - 1) (d .window .count - 1) _ _ (ap (λ (n : ℕ). n - 1) (a .window .count)) (a .capacities))
     (a .order .stood) (orders-alike (c .window .count) (d .window .count) (c .order) (d .order) (a .window .count) (a .order)) (a .kernel)
 
-apart : (c d : Chain) → c .order .stood ≡ true → d .order .stood ≡ false → Same c d → ⊥
+apart : (c d : Chain) (ns ms : List ℕ) → c .order .stood ≡ true → d .order .stood ≡ false → Same c ns d ms → ⊥
 unfolding trimmed
-apart c d s n e = true≢false (sym s ∙ ap (λ (t : Trimmed). t .ordered) e ∙ n)
+apart c d ns ms s n e = true≢false (sym s ∙ ap (λ (t : Trimmed). t .ordered) e ∙ n)
 
 -- A box is not none.
 boxed : Part → Bool
@@ -118,24 +143,24 @@ boxed-stood dims b = go (b .stood)
     go true = refl
     go false = refl
 
-box-apart : (c d : Chain) → c .bounds .stood ≡ true → d .bounds .stood ≡ false → Same c d → ⊥
+box-apart : (c d : Chain) (ns ms : List ℕ) → c .bounds .stood ≡ true → d .bounds .stood ≡ false → Same c ns d ms → ⊥
 unfolding trimmed
-box-apart c d s n e =
-    true≢false (sym s ∙ sym (boxed-stood (c .grid .dims) (c .bounds)) ∙ ap (λ (t : Trimmed). boxed (t .part)) e ∙ boxed-stood (d .grid .dims) (d .bounds) ∙ n)
+box-apart c d ns ms s n e =
+    true≢false (sym s ∙ sym (boxed-stood (dimsOf (c .grid)) (c .bounds)) ∙ ap (λ (t : Trimmed). boxed (t .part)) e ∙ boxed-stood (dimsOf (d .grid)) (d .bounds) ∙ n)
 
-box-asked : (r q : Request) → r .bounds .stood ≡ true → q .bounds .stood ≡ false → SameRequest r q → ⊥
+box-asked : (r q : Request) (ns ms : List ℕ) → r .bounds .stood ≡ true → q .bounds .stood ≡ false → SameRequest r ns q ms → ⊥
 unfolding trimmedRequest
-box-asked r q s n e =
-    true≢false (sym s ∙ sym (boxed-stood (r .grid .dims) (r .bounds)) ∙ ap (λ (t : Trimmed). boxed (t .part)) e ∙ boxed-stood (q .grid .dims) (q .bounds) ∙ n)
+box-asked r q ns ms s n e =
+    true≢false (sym s ∙ sym (boxed-stood (dimsOf (r .grid)) (r .bounds)) ∙ ap (λ (t : Trimmed). boxed (t .part)) e ∙ boxed-stood (dimsOf (q .grid)) (q .bounds) ∙ n)
 
-same-requests : (r q : Request) → RequestsAgree r q → SameRequest r q
+same-requests : (r q : Request) (ns ms : List ℕ) → RequestsAgree r ns q ms → SameRequest r ns q ms
 unfolding trimmedRequest
-same-requests r q a =
-    both (r .kernel) (q .kernel) (distances (sorted (onGrid (r .grid) (r .window) (r .bounds)))) (distances (sorted (onGrid (q .grid) (q .window) (q .bounds)))) (a .kernel)
+same-requests r q ns ms a =
+    both (r .kernel) (q .kernel) (distances (sorted (onGrid (r .grid) ns (r .window) (r .bounds)))) (distances (sorted (onGrid (q .grid) ms (q .window) (q .bounds)))) (a .kernel)
     (ap (λ (t : Trimmed). distances (sorted t)) (both kernel.Raw kernel.Raw [] [] refl refl))
   where
-    both : (k l : Kernel) (xs ys : List ℕ) → k ≡ l → xs ≡ ys → trimmedOf (r .grid) (r .window) (r .bounds) xs false [] k ≡ trimmedOf (q .grid) (q .window) (q .bounds) ys false [] l
-    both k l xs ys f e = trimmed-alike (r .grid) (q .grid) (r .window) (q .window) (r .bounds) (q .bounds) xs ys false false [] [] k l (a .grid) (a .window) (a .bounds) e refl refl f
+    both : (k l : Kernel) (xs ys : List ℕ) → k ≡ l → xs ≡ ys → trimmedOf (r .grid) ns (r .window) (r .bounds) xs false [] k ≡ trimmedOf (q .grid) ms (q .window) (q .bounds) ys false [] l
+    both k l xs ys f e = trimmed-alike (r .grid) (q .grid) ns ms (r .window) (q .window) (r .bounds) (q .bounds) xs ys false false [] [] k l (a .grid) (a .window) (a .bounds) e refl refl f
 
 -- What is written of a chain, from what plays a part.
 boxFrom : (dims : ℕ) → Part → List (List ℕ)
@@ -174,11 +199,11 @@ box-from dims b = go (b .stood)
     go true = ap (λ (bs : List ℕ). (8 ∷ bs) ∷ []) (flat-alike dims (λ k. k) (pair (b .lowest) (b .highest)) (pair low high) same)
     go false = refl
 
-written-from : (c : Chain) (output : List ℕ) → writeOf c output ≡ writtenFrom (trimmed c) output
+written-from : (c : Chain) (output : List ℕ) → writeOf c output ≡ writtenFrom (trimmed c []) output
 unfolding writeOf writeVerdict sheetOf chainLines gridLine orderLines judgeChain trimmed linesFrom writtenFrom
-written-from c output = rw (box-from (c .grid .dims) (c .bounds))
+written-from c output = rw (box-from (dimsOf (c .grid)) (c .bounds))
 
-written-alike : (c d : Chain) → Same c d → (output : List ℕ) → writeOf c output ≡ writeOf d output
+written-alike : (c d : Chain) → Same c [] d [] → (output : List ℕ) → writeOf c output ≡ writeOf d output
 written-alike c d e output = written-from c output ∙ ap (λ (t : Trimmed). writtenFrom t output) e ∙ sym (written-from d output)
 
 -- What is planned of a request.
@@ -186,16 +211,16 @@ plannedFrom : Trimmed → Planned
 plannedFrom t =
     byVerdict (judged t) (record { verdict = verdict.Accepted; chain = chainOf (sorted t) }) (λ x. record { verdict = verdict.Refused x; chain = blankChain })
 
-planned-from : (r : Request) → planOf r ≡ plannedFrom (trimmedRequest r)
+planned-from : (r : Request) (numbers : List ℕ) → planOf r numbers ≡ plannedFrom (trimmedRequest r numbers)
 unfolding planOf plannedChain judgeRequest plannedFrom
-planned-from r = refl
+planned-from r numbers = refl
 
-planned-alike : (r q : Request) → SameRequest r q → planOf r ≡ planOf q
-planned-alike r q e = planned-from r ∙ ap plannedFrom e ∙ sym (planned-from q)
+planned-alike : (r q : Request) (ns ms : List ℕ) → SameRequest r ns q ms → planOf r ns ≡ planOf q ms
+planned-alike r q ns ms e = planned-from r ns ∙ ap plannedFrom e ∙ sym (planned-from q ms)
 
-judged-alike : (r q : Request) → SameRequest r q → judgeRequest r ≡ judgeRequest q
+judged-alike : (r q : Request) (ns ms : List ℕ) → SameRequest r ns q ms → judgeRequest r ns ≡ judgeRequest q ms
 unfolding judgeRequest
-judged-alike r q e = ap judged e
+judged-alike r q ns ms e = ap judged e
 
 pub past-counts : PastCounts
 past-counts = record { same-chains = same-chains; same-requests = same-requests; apart = apart; box-apart = box-apart; box-asked = box-asked; written = written-alike; judged = judged-alike; planned = planned-alike }

@@ -5,8 +5,9 @@ use mathlib.Core.Path.{_≡_, refl, _∙_}
 use native.Mathlib.Omega.{arith}
 use lib.ListN.{length, getD}
 use Rattle.model.specs.Lists.{sum}
+use Rattle.model.specs.Grounds.{dims}
 use Rattle.model.specs.Grounds.Ground.{rectangle}
-use Rattle.model.specs.Values.{Trimmed, sizesOf, offsetsOf, trimmed}
+use Rattle.model.specs.Values.{Trimmed, groundOf, dimsOf, offsetsOf, trimmed}
 use Rattle.model.specs.Iterations.{positionOf, courseOf, iterationsOf, iterationOf, readsOf, distanceIn, distanceOf}
 use Rattle.model.specs.Judging.{judgeChain}
 use Rattle.model.specs.Running.{layout}
@@ -58,25 +59,25 @@ module _ (t : Trimmed) (proper : Proper t) (ok : Accepted t) (p : Planned t) whe
     total-distance j h =
         rw (proper .fifos) at (steps-sum (readsOf t j) (t .capacities) (λ k b. every-iteration j k h (omega (arith, proper .fifos))))
 
-module _ (r : Request) (ok : judgeRequest r ≡ verdict.Accepted) where
-  planned-pairs : Planned (sorted (trimmedRequest r))
+module _ (r : Request) (numbers : List ℕ) (ok : judgeRequest r numbers ≡ verdict.Accepted) where
+  planned-pairs : Planned (sorted (trimmedRequest r numbers))
   unfolding judgeRequest trimmedRequest sorted distances distanceOf distanceIn readsOf positionOf iterationOf courseOf
   planned-pairs k g =
-      let p = request-proper r in
-      let os = offsetsOf (r .grid .dims) (r .window) in
+      let p = request-proper r numbers in
+      let os = offsetsOf (dimsOf (r .grid)) (r .window) in
       let n = length-falling os in
       record {
-        falls = falling-falls (length (sizesOf (r .grid))) os (p .entries) (no-repeats (trimmedRequest r) ok) k (omega (arith, p .references));
+        falls = falling-falls (dims (groundOf (r .grid) numbers)) os (p .entries) (no-repeats (trimmedRequest r numbers) ok) k (omega (arith, p .references));
         exact = getD-tabulate (r .window .count - 1) _ k 0 (omega arith);
       }
 
-  planned-right : PlanRight r (sorted (trimmedRequest r))
+  planned-right : PlanRight r numbers (sorted (trimmedRequest r numbers))
   unfolding trimmedRequest sorted
   planned-right =
-      let t = sorted (trimmedRequest r) in
-      let proper = sorted-proper (trimmedRequest r) (request-proper r) in
-      let good = accepted t proper (planned-judged r ok) in
-      let os = offsetsOf (r .grid .dims) (r .window) in
+      let t = sorted (trimmedRequest r numbers) in
+      let proper = sorted-proper (trimmedRequest r numbers) (request-proper r numbers) in
+      let good = accepted t proper (planned-judged r numbers ok) in
+      let os = offsetsOf (dimsOf (r .grid)) (r .window) in
       record {
         dims = refl;
         ground = refl;
@@ -86,21 +87,21 @@ module _ (r : Request) (ok : judgeRequest r ≡ verdict.Accepted) where
         each = falling-each os;
         no-other = falling-no-other os;
         ordered = refl;
-        terms = length-authors os ∙ request-proper r .references;
-        holds = λ i h. let b : i < length os = omega (arith, request-proper r .references) in (omega (arith, authors-below os i b, request-proper r .references), authors-hold os i b);
+        terms = length-authors os ∙ request-proper r numbers .references;
+        holds = λ i h. let b : i < length os = omega (arith, request-proper r numbers .references) in (omega (arith, authors-below os i b, request-proper r numbers .references), authors-hold os i b);
         planned = planned-pairs;
         most = no-more t proper good planned-pairs;
         reached = one-has t proper good planned-pairs;
         every = every-iteration t proper good planned-pairs;
         total = total-distance t proper good planned-pairs;
-        least = λ c same right.
-            fewest-places t (trimmed c) (same .ground) (same .each) (same .no-other) (same .part) proper (trimmed-proper c) (fitting-of t proper good) (good .iterates) planned-pairs right;
+        least = λ c ns same right.
+            fewest-places t (trimmed c ns) (same .ground) (same .each) (same .no-other) (same .part) proper (trimmed-proper c ns) (fitting-of t proper good) (good .iterates) planned-pairs right;
       }
 
 pub plan-demand : PlanDemand
 unfolding planOf judgeChain
-plan-demand r ok = record {
+plan-demand r numbers ok = record {
   answer = rw ok;
-  accepted = plan-accepted r ok;
-  right = rw (ok, planned-lists r ok) (planned-right r ok);
+  accepted = plan-accepted r numbers ok;
+  right = rw (ok, planned-lists r numbers ok) (planned-right r numbers ok);
 }

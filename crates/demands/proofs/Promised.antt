@@ -36,32 +36,32 @@ use Rattle.demands.proofs.Words.{demand-2}
 module _ (q : ListOfCalls) where
   pub clocks-few : FewClocks q
   unfolding layout
-  clocks-few = omega (arith, few-clocks (layout (trimmed (q .chain))) (lawful (trimmed (q .chain)) (setting q .proper) (setting q .accepted)) (traced-ran (layout (trimmed (q .chain))) (reached q .traced)), numbered q .clocks)
+  clocks-few = omega (arith, few-clocks (layout (trimmed (q .chain) (q .numbers))) (lawful (trimmed (q .chain) (q .numbers)) (setting q .proper) (setting q .accepted)) (traced-ran (layout (trimmed (q .chain) (q .numbers))) (reached q .traced)), numbered q .clocks)
 
   pub never-stale : NeverStale q
   unfolding refused ran answerNumber numberOf
   never-stale l =
       by-call (setting q) l (handedOn q) (reached q)
-      (λ x _. (answerNumber (x .answer) ≡ 0) ⊎ ((answerNumber (x .answer) ≡ 10) × (shortStore (trimmed (q .chain)) (take (l .front) (handedOn q .store)) ≡ true)))
+      (λ x _. (answerNumber (x .answer) ≡ 0) ⊎ ((answerNumber (x .answer) ≡ 10) × (shortStore (trimmed (q .chain) (q .numbers)) (take (l .front) (handedOn q .store)) ≡ true)))
       (λ s. inr (refl, s)) (λ _. inl refl)
 
 -- Two lists on one chain and one stream.
 module _ (p q : ListOfCalls) (same : SameRun p q) where
   -- The second list's clocks, on the first one's layout.
-  other : Traced (layout (trimmed (p .chain))) (fresh (layout (trimmed (p .chain)))) (eventsOf q) (countersOf (trimmed (q .chain) .count) (handedOn q .state))
-  other = subst (λ (t : Trimmed). Traced (layout t) (fresh (layout t)) (eventsOf q) (countersOf (trimmed (q .chain) .count) (handedOn q .state))) (sym (same .chain)) (reached q .traced)
+  other : Traced (layout (trimmed (p .chain) (p .numbers))) (fresh (layout (trimmed (p .chain) (p .numbers)))) (eventsOf q) (countersOf (trimmed (q .chain) (q .numbers) .count) (handedOn q .state))
+  other = subst (λ (t : Trimmed). Traced (layout t) (fresh (layout t)) (eventsOf q) (countersOf (trimmed (q .chain) (q .numbers) .count) (handedOn q .state))) (sym (same .chain)) (reached q .traced)
 
   same-clocks : clocksMade (runsOf p) ≡ clocksMade (runsOf q)
-      → (eventsOf p ≡ eventsOf q) × (countersOf (trimmed (p .chain) .count) (handedOn p .state) ≡ countersOf (trimmed (q .chain) .count) (handedOn q .state))
-  same-clocks e = traced-same (layout (trimmed (p .chain))) (reached p .traced) other (numbered p .clocks ∙ e ∙ sym (numbered q .clocks))
+      → (eventsOf p ≡ eventsOf q) × (countersOf (trimmed (p .chain) (p .numbers) .count) (handedOn p .state) ≡ countersOf (trimmed (q .chain) (q .numbers) .count) (handedOn q .state))
+  same-clocks e = traced-same (layout (trimmed (p .chain) (p .numbers))) (reached p .traced) other (numbered p .clocks ∙ e ∙ sym (numbered q .clocks))
 
   same-firings : clocksMade (runsOf p) ≡ clocksMade (runsOf q) → firingsMade (runsOf p) ≡ firingsMade (runsOf q)
   same-firings e = sym (numbered p .firings) ∙ ap firingsAmong (same-clocks e .0) ∙ numbered q .firings
 
   same-words : clocksMade (runsOf p) ≡ clocksMade (runsOf q)
-      → allWords (trimmed (p .chain)) (p .stream) (p .calls) (p .start) ≡ allWords (trimmed (q .chain)) (q .stream) (q .calls) (q .start)
+      → allWords (trimmed (p .chain) (p .numbers)) (p .stream) (p .calls) (p .start) ≡ allWords (trimmed (q .chain) (q .numbers)) (q .stream) (q .calls) (q .start)
   same-words e =
-      demand-2 p .words ∙ ap (λ (n : ℕ). wordsFrom (trimmed (p .chain)) (p .stream) 0 n) (same-firings e)
+      demand-2 p .words ∙ ap (λ (n : ℕ). wordsFrom (trimmed (p .chain) (p .numbers)) (p .stream) 0 n) (same-firings e)
       ∙ ap₂ (λ (t : Trimmed) (s : ℕ → ℕ). wordsFrom t s 0 (firingsMade (runsOf q))) (same .chain) (same .stream) ∙ sym (demand-2 q .words)
 
 pub split : (p q : ListOfCalls) → Split p q
@@ -96,24 +96,24 @@ module _ (t : Trimmed) (s : State) (store lent output : List ℕ) (allowance : �
 
 pub refused-keeps : RefusedKeeps
 unfolding runOf answerCounts
-refused-keeps c s store lent output allowance x =
-    by-run (trimmed c) s store lent output allowance
+refused-keeps c numbers s store lent output allowance x =
+    by-run (trimmed c numbers) s store lent output allowance
     (λ r. r .answer ≡ answer.Refused x → (r .state ≡ s) × (r .store ≡ store) × (r .output ≡ output) × (answerCounts (r .answer) ≡ noCounts))
     (λ e. absurd (let z : _≡_ {A = ℕ} 0 1 = cc in omega arith)) (λ y e. (refl, refl, refl, refl))
 
 pub past-count : PastCount
 unfolding runOf withCounters trimmed
-past-count c s store lent output allowance =
-    by-run (trimmed c) s store lent output allowance (λ r. drop (c .window .count) (r .state .passed) ≡ drop (c .window .count) (s .passed))
+past-count c numbers s store lent output allowance =
+    by-run (trimmed c numbers) s store lent output allowance (λ r. drop (c .window .count) (r .state .passed) ≡ drop (c .window .count) (s .passed))
     (rw n (drop-at (map (λ (p : ℕ). let passed : CellsPassed = record { 0 = p } in passed) (last .passed)) (drop (c .window .count) (s .passed)) (c .window .count)
     (length-map (last .passed) _ ∙ n))) (λ y. refl)
   where
     last : Counters
-    last = ended (trimmed c) s store lent output allowance .standing .counters
+    last = ended (trimmed c numbers) s store lent output allowance .standing .counters
 
     n : length (last .passed) ≡ c .window .count
-    n = length-ended (trimmed c) s store lent output allowance
+    n = length-ended (trimmed c numbers) s store lent output allowance
 
 pub alike : Alike
 unfolding judgeChain runOf
-alike c d e = (ap judged e, λ s store lent output allowance. ap (λ (t : Trimmed). runTrimmed t s store lent output allowance) e)
+alike c d ns ms e = (ap judged e, λ s store lent output allowance. ap (λ (t : Trimmed). runTrimmed t s store lent output allowance) e)

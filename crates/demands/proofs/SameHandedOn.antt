@@ -180,7 +180,7 @@ same-handed p q same begin e =
     ∙ moved afterAll
   where
     -- The second list's calls, on the first one's chain, stream and start.
-    moved : {A : Type 0} (f : Trimmed → (ℕ → ℕ) → List Lending → Between → A) → f (trimmed (p .chain)) (p .stream) (q .calls) (p .start) ≡ f (trimmed (q .chain)) (q .stream) (q .calls) (q .start)
+    moved : {A : Type 0} (f : Trimmed → (ℕ → ℕ) → List Lending → Between → A) → f (trimmed (p .chain) (p .numbers)) (p .stream) (q .calls) (p .start) ≡ f (trimmed (q .chain) (q .numbers)) (q .stream) (q .calls) (q .start)
     moved f =
         ap₂ (λ (t : Trimmed) (s : ℕ → ℕ). f t s (q .calls) (p .start)) (same .chain) (same .stream)
-        ∙ ap (f (trimmed (q .chain)) (q .stream) (q .calls)) (begin .start)
+        ∙ ap (f (trimmed (q .chain) (q .numbers)) (q .stream) (q .calls)) (begin .start)

@@ -108,22 +108,22 @@ module _ (t : Trimmed) (proper : Proper t) (ok : Accepted t) where
 
 module _ (q : ListOfCalls) where
   pub indexed : Indexed q
-  indexed j u f = left (trimmed (q .chain)) (setting q .proper) (setting q .accepted) (reached q .traced) u j f
+  indexed j u f = left (trimmed (q .chain) (q .numbers)) (setting q .proper) (setting q .accepted) (reached q .traced) u j f
 
-  pub on-time : (sizes : List ℕ) (is : trimmed (q .chain) .ground ≡ rectangle sizes) → OnTime q sizes is
+  pub on-time : (sizes : List ℕ) (is : trimmed (q .chain) (q .numbers) .ground ≡ rectangle sizes) → OnTime q sizes is
   on-time sizes is =
-      let t = trimmed (q .chain) in
+      let t = trimmed (q .chain) (q .numbers) in
       let tr = reached q .traced in
       record {
         fired = λ planned j h. (
           λ f. omega (arith, fires-on-time t (setting q .proper) (setting q .accepted) tr sizes is planned (f .0) j (f .1), f .1 .made, numbered q .clocks),
-          λ due. (newestOf (trimmed (q .chain)) j, due-fires t (setting q .proper) (setting q .accepted) tr sizes is planned j h (rw (numbered q .clocks) due)),
+          λ due. (newestOf (trimmed (q .chain) (q .numbers)) j, due-fires t (setting q .proper) (setting q .accepted) tr sizes is planned j h (rw (numbered q .clocks) due)),
         );
         clock = λ planned j u f. fires-on-time t (setting q .proper) (setting q .accepted) tr sizes is planned u j f;
       }
 
-  pub newest-not-early : (j u : ℕ) → FiresIn (eventsOf q) u j → newestOf (trimmed (q .chain)) j ≤ u
-  newest-not-early j u f = newest-before (trimmed (q .chain)) (setting q .proper) (setting q .accepted) (reached q .traced) u j f
+  pub newest-not-early : (j u : ℕ) → FiresIn (eventsOf q) u j → newestOf (trimmed (q .chain) (q .numbers)) j ≤ u
+  newest-not-early j u f = newest-before (trimmed (q .chain) (q .numbers)) (setting q .proper) (setting q .accepted) (reached q .traced) u j f
 
 -- The same cells, part and offsets give the same layout, but for the capacities.
 same-layout : (t u : Trimmed) → t .ground ≡ u .ground → t .part ≡ u .part → t .offsets ≡ u .offsets → t .count ≡ u .count
@@ -163,10 +163,10 @@ not-earlier p q = record {
 }
   where
     t : Trimmed
-    t = trimmed (p .chain)
+    t = trimmed (p .chain) (p .numbers)
 
     u : Trimmed
-    u = trimmed (q .chain)
+    u = trimmed (q .chain) (q .numbers)
 
     -- What the other fires, the planned one fires in the same clock.
     too : SameWindow t u → Planned t → (j v : ℕ) → FiresIn (eventsOf q) v j → Firing (layout t) v j

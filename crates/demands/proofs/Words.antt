@@ -34,7 +34,7 @@ module _ (S : Setting) where
 pub demand-2 : (q : ListOfCalls) → Demand2 q
 unfolding firingsAmong
 demand-2 q =
-    let t = trimmed (q .chain) in
+    let t = trimmed (q .chain) (q .numbers) in
     record {
       words = list-words (setting q) (q .calls) (q .start) [] (start q)
           ∙ ap (λ (j : ℕ). wordsFrom t (q .stream) j (firingsMade (runsOf q))) (reached-fired (setting q) (start q));

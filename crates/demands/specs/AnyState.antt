@@ -36,43 +36,43 @@ Means t l now did Full =
     (now .fired < iterationsOf t) × (did .clocks < l .allowance) × (did .cells < length (l .cells)) × (fires (layout t) now ≡ true)
     × (length (l .output) < did .firings * widthOf t + widthOf t)
 
-module _ (c : Chain) (s : State) (l : Lent) where
+module _ (c : Chain) (numbers : List ℕ) (s : State) (l : Lent) where
   abbrev pub run : Run
-  run = runOf c s (l .store) (l .cells) (l .output) (l .allowance)
+  run = runOf c numbers s (l .store) (l .cells) (l .output) (l .allowance)
 
   -- No more clocks than allowed, cells than lent and words than places.
   pub record Within : Type 0 where
     pub clocks : answerCounts (run .answer) .clocks ≤ l .allowance
     pub cells : answerCounts (run .answer) .cells ≤ length (l .cells)
-    pub places : firingsOf run * widthOf (trimmed c) ≤ length (l .output)
+    pub places : firingsOf run * widthOf (trimmed c numbers) ≤ length (l .output)
 
   -- The lengths of store and output stay, and so do the words past the FIFOs' places and the output's places past the firings' words.
   pub record Kept : Type 0 where
     pub store-length : length (run .store) ≡ length (l .store)
-    pub store-rest : drop (sum (trimmed c .capacities)) (run .store) ≡ drop (sum (trimmed c .capacities)) (l .store)
+    pub store-rest : drop (sum (trimmed c numbers .capacities)) (run .store) ≡ drop (sum (trimmed c numbers .capacities)) (l .store)
     pub output-length : length (run .output) ≡ length (l .output)
-    pub output-rest : drop (firingsOf run * widthOf (trimmed c)) (run .output) ≡ drop (firingsOf run * widthOf (trimmed c)) (l .output)
+    pub output-rest : drop (firingsOf run * widthOf (trimmed c numbers)) (run .output) ≡ drop (firingsOf run * widthOf (trimmed c numbers)) (l .output)
 
   -- One more call, on the state that is handed back.
   abbrev pub onceMore : Lent → Run
-  onceMore m = runOf c (run .state) (m .store) (m .cells) (m .output) (m .allowance)
+  onceMore m = runOf c numbers (run .state) (m .store) (m .cells) (m .output) (m .allowance)
 
   -- "Calling again after Done or Stalled gives the same outcome with zeros, unless an earlier line of the list applies", as `Again` in `Promises`.
   pub record CalledAgain (m : Lent) : Type 0 where
-    pub done : Reports outcome.Done run → shortStore (trimmed c) (m .store) ≡ false → onceMore m .answer ≡ answer.Ended (outcome.Done noCounts)
-    pub stalled : Reports outcome.Stalled run → shortStore (trimmed c) (m .store) ≡ false → 0 < m .allowance → 0 < length (m .cells)
+    pub done : Reports outcome.Done run → shortStore (trimmed c numbers) (m .store) ≡ false → onceMore m .answer ≡ answer.Ended (outcome.Done noCounts)
+    pub stalled : Reports outcome.Stalled run → shortStore (trimmed c numbers) (m .store) ≡ false → 0 < m .allowance → 0 < length (m .cells)
         → onceMore m .answer ≡ answer.Ended (outcome.Stalled noCounts)
-    pub spent : Reports outcome.Stalled run → shortStore (trimmed c) (m .store) ≡ false → m .allowance ≡ 0 → onceMore m .answer ≡ answer.Ended (outcome.Spent noCounts)
-    pub starved : Reports outcome.Stalled run → shortStore (trimmed c) (m .store) ≡ false → 0 < m .allowance → length (m .cells) ≡ 0
+    pub spent : Reports outcome.Stalled run → shortStore (trimmed c numbers) (m .store) ≡ false → m .allowance ≡ 0 → onceMore m .answer ≡ answer.Ended (outcome.Spent noCounts)
+    pub starved : Reports outcome.Stalled run → shortStore (trimmed c numbers) (m .store) ≡ false → 0 < m .allowance → length (m .cells) ≡ 0
         → onceMore m .answer ≡ answer.Ended (outcome.Starved noCounts)
 
 -- A call that no number turns back reports an outcome exactly if its end is what the outcome says; and the state and the store that it hands back are not turned back either.
-pub record AnyState (c : Chain) (s : State) (l : Lent) : Type 0 where
-  pub within : Within c s l
-  pub kept : Kept c s l
-  pub outcome : (e : Ending) → Reports (outcomeOf e) (run c s l) ↔ Means (trimmed c) l (countersOf (trimmed c .count) (run c s l .state)) (answerCounts (run c s l .answer)) e
-  pub accepted : judgeRun (trimmed c) (run c s l .state) (run c s l .store) ≡ verdict.Accepted
-  pub again : (m : Lent) → CalledAgain c s l m
+pub record AnyState (c : Chain) (numbers : List ℕ) (s : State) (l : Lent) : Type 0 where
+  pub within : Within c numbers s l
+  pub kept : Kept c numbers s l
+  pub outcome : (e : Ending) → Reports (outcomeOf e) (run c numbers s l) ↔ Means (trimmed c numbers) l (countersOf (trimmed c numbers .count) (run c numbers s l .state)) (answerCounts (run c numbers s l .answer)) e
+  pub accepted : judgeRun (trimmed c numbers) (run c numbers s l .state) (run c numbers s l .store) ≡ verdict.Accepted
+  pub again : (m : Lent) → CalledAgain c numbers s l m
 
 abbrev pub AnyStates : Type 0
-AnyStates = (c : Chain) (s : State) (l : Lent) → judgeRun (trimmed c) s (l .store) ≡ verdict.Accepted → AnyState c s l
+AnyStates = (c : Chain) (numbers : List ℕ) (s : State) (l : Lent) → judgeRun (trimmed c numbers) s (l .store) ≡ verdict.Accepted → AnyState c numbers s l

@@ -5,7 +5,7 @@ use mathlib.Core.List.{List}
 use mathlib.Core.Logic.{_↔_}
 use mathlib.Core.Path.{_≡_}
 use lib.ListN.{length, getD}
-use Rattle.model.specs.Values.{trimmed}
+use Rattle.model.specs.Values.{trimmed, Same}
 use Rattle.model.specs.Judging.{badOrder}
 use Rattle.model.specs.Planning.{judgeRequest, planOf}
 use Rattle.model.specs.CallLists.{allWords, firingsMade}
@@ -24,7 +24,7 @@ pub record AuthorsOrder : Type 0 where
   pub number-14 : (n : ℕ) (order : List ℕ) → length order ≡ n → (badOrder n order ≡ false) ↔ EachOnce n order
   -- "kernel outputs are compared with the author's own loop": of a request that no number turns back, whatever the cells are, the planned chain writes in every iteration the
   -- words that the kernel gives over the request's references in the request's order;
-  pub loop : (r : Request) → judgeRequest r ≡ verdict.Accepted → (stream : ℕ → ℕ) (j : ℕ) → wordsOf (trimmed (planOf r .chain)) stream j ≡ loopOf r stream j
+  pub loop : (r : Request) (numbers : List ℕ) → judgeRequest r numbers ≡ verdict.Accepted → (stream : ℕ → ℕ) (j : ℕ) → wordsOf (trimmed (planOf r numbers .chain) numbers) stream j ≡ loopOf r numbers stream j
   -- and all outputs of a list of calls on it are those words of iterations 0, 1, 2, .., as many as there were firings.
-  pub outputs : (r : Request) → judgeRequest r ≡ verdict.Accepted → (q : ListOfCalls) → q .chain ≡ planOf r .chain
-      → allWords (trimmed (q .chain)) (q .stream) (q .calls) (q .start) ≡ loopFrom r (q .stream) 0 (firingsMade (runsOf q))
+  pub outputs : (r : Request) (numbers : List ℕ) → judgeRequest r numbers ≡ verdict.Accepted → (q : ListOfCalls) → Same (q .chain) (q .numbers) (planOf r numbers .chain) numbers
+      → allWords (trimmed (q .chain) (q .numbers)) (q .stream) (q .calls) (q .start) ≡ loopFrom r numbers (q .stream) 0 (firingsMade (runsOf q))

@@ -21,5 +21,5 @@ module _ (t : Trimmed) (stream : ℕ → ℕ) where
 
 -- All outputs together are the words of iterations 0, 1, 2, .. in order, as many as there were firings; later output places are unchanged.
 pub record Demand2 (q : ListOfCalls) : Type 0 where
-  pub words : allWords (trimmed (q .chain)) (q .stream) (q .calls) (q .start) ≡ wordsFrom (trimmed (q .chain)) (q .stream) 0 (firingsMade (runsOf q))
-  pub kept : Kept (trimmed (q .chain)) (q .stream) (q .calls) (q .start)
+  pub words : allWords (trimmed (q .chain) (q .numbers)) (q .stream) (q .calls) (q .start) ≡ wordsFrom (trimmed (q .chain) (q .numbers)) (q .stream) 0 (firingsMade (runsOf q))
+  pub kept : Kept (trimmed (q .chain) (q .numbers)) (q .stream) (q .calls) (q .start)

@@ -22,32 +22,34 @@ use Rattle.demands.specs.Plan.{SameWindow}
 -- its counters past n and the store are as they may be. Each call lends what it likes; refused ones stay in the list and add 0.
 pub record ListOfCalls : Type 0 where
   pub chain : Chain
-  pub accepted : judgeChain chain ≡ verdict.Accepted
+  -- The rows, where the grid is skewed.
+  pub numbers : List ℕ
+  pub accepted : judgeChain chain numbers ≡ verdict.Accepted
   pub stream : ℕ → ℕ
   pub start : Between
-  pub fresh : Fresh (trimmed chain) start
+  pub fresh : Fresh (trimmed chain numbers) start
   pub calls : List Lending
 
 module _ (q : ListOfCalls) where
   -- The runs of the list, the events of its clocks, what it hands on, and one more call.
   abbrev pub runsOf : List Run
-  runsOf = runs (trimmed (q .chain)) (q .stream) (q .calls) (q .start)
+  runsOf = runs (trimmed (q .chain) (q .numbers)) (q .stream) (q .calls) (q .start)
 
   abbrev pub eventsOf : List Bool
-  eventsOf = allEvents (trimmed (q .chain)) (q .stream) (q .calls) (q .start)
+  eventsOf = allEvents (trimmed (q .chain) (q .numbers)) (q .stream) (q .calls) (q .start)
 
   abbrev pub handedOn : Between
-  handedOn = afterAll (trimmed (q .chain)) (q .stream) (q .calls) (q .start)
+  handedOn = afterAll (trimmed (q .chain) (q .numbers)) (q .stream) (q .calls) (q .start)
 
   abbrev pub oneMore : Lending → Run
-  oneMore l = callRun (trimmed (q .chain)) (q .stream) l handedOn
+  oneMore l = callRun (trimmed (q .chain) (q .numbers)) (q .stream) l handedOn
 
   -- Lent enough, one more call ends Done with every firing made exactly if order and capacities are right;
   pub record Finishes : Type 0 where
-    pub exactly : (l : Lending) → LentEnough (trimmed (q .chain)) l handedOn
-        → Right (trimmed (q .chain)) ↔ (Reports outcome.Done (oneMore l) × (firingsMade runsOf + firingsOf (oneMore l) ≡ iterationsOf (trimmed (q .chain))))
+    pub exactly : (l : Lending) → LentEnough (trimmed (q .chain) (q .numbers)) l handedOn
+        → Right (trimmed (q .chain) (q .numbers)) ↔ (Reports outcome.Done (oneMore l) × (firingsMade runsOf + firingsOf (oneMore l) ≡ iterationsOf (trimmed (q .chain) (q .numbers))))
     -- in that case no call of the list and not the last, whatever it is lent, reports Stalled.
-    pub no-stall : Right (trimmed (q .chain)) → Each (λ r. Reports outcome.Stalled r → ⊥) runsOf × ((l : Lending) → Reports outcome.Stalled (oneMore l) → ⊥)
+    pub no-stall : Right (trimmed (q .chain) (q .numbers)) → Each (λ r. Reports outcome.Stalled r → ⊥) runsOf × ((l : Lending) → Reports outcome.Stalled (oneMore l) → ⊥)
 
   -- The firings of the list and of one more call.
   abbrev pub madeWith : Lending → ℕ
@@ -57,21 +59,21 @@ module _ (q : ListOfCalls) where
   -- and, where these are not all, reports Stalled; and no call, whatever it is lent, reports Stalled before, or where they are all.
   pub record StopsAt (B : ℕ) : Type 0 where
     pub at-most : (l : Lending) → madeWith l ≤ B
-    pub exactly : (l : Lending) → LentEnough (trimmed (q .chain)) l handedOn → madeWith l ≡ B
-    pub stalled : B < iterationsOf (trimmed (q .chain)) → (l : Lending) → LentEnough (trimmed (q .chain)) l handedOn → Reports outcome.Stalled (oneMore l)
-    pub not-before : (l : Lending) → Reports outcome.Stalled (oneMore l) → (madeWith l ≡ B) × (B < iterationsOf (trimmed (q .chain)))
+    pub exactly : (l : Lending) → LentEnough (trimmed (q .chain) (q .numbers)) l handedOn → madeWith l ≡ B
+    pub stalled : B < iterationsOf (trimmed (q .chain) (q .numbers)) → (l : Lending) → LentEnough (trimmed (q .chain) (q .numbers)) l handedOn → Reports outcome.Stalled (oneMore l)
+    pub not-before : (l : Lending) → Reports outcome.Stalled (oneMore l) → (madeWith l ≡ B) × (B < iterationsOf (trimmed (q .chain) (q .numbers)))
 
   -- No call makes a firing, and the one more, lent enough, reports Stalled.
   pub record NeverFires : Type 0 where
     pub no-firing : Each (λ r. firingsOf r ≡ 0) runsOf × ((l : Lending) → firingsOf (oneMore l) ≡ 0)
-    pub stalled : (l : Lending) → LentEnough (trimmed (q .chain)) l handedOn → Reports outcome.Stalled (oneMore l)
+    pub stalled : (l : Lending) → LentEnough (trimmed (q .chain) (q .numbers)) l handedOn → Reports outcome.Stalled (oneMore l)
 
   -- A chain that is not right: where its offsets fall, there is a first iteration that needs more, and it stops at that; where they do not, it never fires; and on a rectangle it never fires.
   pub record Stalls : Type 0 where
-    pub first : (Right (trimmed (q .chain)) → ⊥) → Falls (trimmed (q .chain)) → (B : ℕ) × FirstBlocked (trimmed (q .chain)) B × (B < iterationsOf (trimmed (q .chain)))
-    pub shorter : Falls (trimmed (q .chain)) → (B : ℕ) → FirstBlocked (trimmed (q .chain)) B → StopsAt B
-    pub disordered : (Falls (trimmed (q .chain)) → ⊥) → NeverFires
-    pub rectangular : (sizes : List ℕ) → trimmed (q .chain) .ground ≡ rectangle sizes → (Right (trimmed (q .chain)) → ⊥) → NeverFires
+    pub first : (Right (trimmed (q .chain) (q .numbers)) → ⊥) → Falls (trimmed (q .chain) (q .numbers)) → (B : ℕ) × FirstBlocked (trimmed (q .chain) (q .numbers)) B × (B < iterationsOf (trimmed (q .chain) (q .numbers)))
+    pub shorter : Falls (trimmed (q .chain) (q .numbers)) → (B : ℕ) → FirstBlocked (trimmed (q .chain) (q .numbers)) B → StopsAt B
+    pub disordered : (Falls (trimmed (q .chain) (q .numbers)) → ⊥) → NeverFires
+    pub rectangular : (sizes : List ℕ) → trimmed (q .chain) (q .numbers) .ground ≡ rectangle sizes → (Right (trimmed (q .chain) (q .numbers)) → ⊥) → NeverFires
 
   -- Clocks are numbered from 0 through all calls: there is an event for each, and as many of them fire as firings are made.
   pub record Numbered : Type 0 where
@@ -85,23 +87,23 @@ module _ (q : ListOfCalls) where
 
   -- What fires is an iteration: the firing's index is below their number.
   abbrev pub Indexed : Type 0
-  Indexed = (j u : ℕ) → FiresIn eventsOf u j → j < iterationsOf (trimmed (q .chain))
+  Indexed = (j u : ℕ) → FiresIn eventsOf u j → j < iterationsOf (trimmed (q .chain) (q .numbers))
 
   -- "The firing clocks are promised for rectangles only": there, on a planned chain the iterations fired by the list are exactly those whose newest cell has a position below the clocks
   -- made, and each fires in the clock that equals this position.
-  pub record OnTime (sizes : List ℕ) (is : trimmed (q .chain) .ground ≡ rectangle sizes) : Type 0 where
-    pub fired : Planned (trimmed (q .chain)) → (j : ℕ) → j < iterationsOf (trimmed (q .chain)) → ((u : ℕ) × FiresIn eventsOf u j) ↔ (newestOf (trimmed (q .chain)) j < clocksMade runsOf)
-    pub clock : Planned (trimmed (q .chain)) → (j u : ℕ) → FiresIn eventsOf u j → u ≡ newestOf (trimmed (q .chain)) j
+  pub record OnTime (sizes : List ℕ) (is : trimmed (q .chain) (q .numbers) .ground ≡ rectangle sizes) : Type 0 where
+    pub fired : Planned (trimmed (q .chain) (q .numbers)) → (j : ℕ) → j < iterationsOf (trimmed (q .chain) (q .numbers)) → ((u : ℕ) × FiresIn eventsOf u j) ↔ (newestOf (trimmed (q .chain) (q .numbers)) j < clocksMade runsOf)
+    pub clock : Planned (trimmed (q .chain) (q .numbers)) → (j u : ℕ) → FiresIn eventsOf u j → u ≡ newestOf (trimmed (q .chain) (q .numbers)) j
 
 -- No chain of the same grid, box and window fires an iteration earlier than the planned one: "in that clock, later or never". Streams and calls of the two lists are as they like.
 pub record NotEarlier (p q : ListOfCalls) : Type 0 where
   -- An index is that of one iteration, the same vector, in both lists.
-  pub same-count : SameWindow (trimmed (p .chain)) (trimmed (q .chain)) → iterationsOf (trimmed (p .chain)) ≡ iterationsOf (trimmed (q .chain))
-  pub same-iteration : SameWindow (trimmed (p .chain)) (trimmed (q .chain)) → (j : ℕ) → iterationOf (trimmed (p .chain)) j ≡ iterationOf (trimmed (q .chain)) j
-  pub newest-first : SameWindow (trimmed (p .chain)) (trimmed (q .chain)) → (j u : ℕ) → FiresIn (eventsOf q) u j → newestOf (trimmed (p .chain)) j ≤ u
-  pub planned-first : SameWindow (trimmed (p .chain)) (trimmed (q .chain)) → Planned (trimmed (p .chain)) → (j u v : ℕ) → FiresIn (eventsOf p) u j → FiresIn (eventsOf q) v j → u ≤ v
+  pub same-count : SameWindow (trimmed (p .chain) (p .numbers)) (trimmed (q .chain) (q .numbers)) → iterationsOf (trimmed (p .chain) (p .numbers)) ≡ iterationsOf (trimmed (q .chain) (q .numbers))
+  pub same-iteration : SameWindow (trimmed (p .chain) (p .numbers)) (trimmed (q .chain) (q .numbers)) → (j : ℕ) → iterationOf (trimmed (p .chain) (p .numbers)) j ≡ iterationOf (trimmed (q .chain) (q .numbers)) j
+  pub newest-first : SameWindow (trimmed (p .chain) (p .numbers)) (trimmed (q .chain) (q .numbers)) → (j u : ℕ) → FiresIn (eventsOf q) u j → newestOf (trimmed (p .chain) (p .numbers)) j ≤ u
+  pub planned-first : SameWindow (trimmed (p .chain) (p .numbers)) (trimmed (q .chain) (q .numbers)) → Planned (trimmed (p .chain) (p .numbers)) → (j u v : ℕ) → FiresIn (eventsOf p) u j → FiresIn (eventsOf q) v j → u ≤ v
   -- Indeed it fires in the planned chain's clock or never: where the planned chain's list made a clock of that number, that clock fires the iteration too.
-  pub same-clock : SameWindow (trimmed (p .chain)) (trimmed (q .chain)) → Planned (trimmed (p .chain)) → (j v : ℕ) → FiresIn (eventsOf q) v j → v < clocksMade (runsOf p) → FiresIn (eventsOf p) v j
+  pub same-clock : SameWindow (trimmed (p .chain) (p .numbers)) (trimmed (q .chain) (q .numbers)) → Planned (trimmed (p .chain) (p .numbers)) → (j v : ℕ) → FiresIn (eventsOf q) v j → v < clocksMade (runsOf p) → FiresIn (eventsOf p) v j
 
 -- Demand 3.
 pub record Demand3 : Type 0 where
@@ -110,5 +112,5 @@ pub record Demand3 : Type 0 where
   pub numbered : (q : ListOfCalls) → Numbered q
   pub hands-on : (q : ListOfCalls) → HandsOn q
   pub indexed : (q : ListOfCalls) → Indexed q
-  pub on-time : (q : ListOfCalls) (sizes : List ℕ) (is : trimmed (q .chain) .ground ≡ rectangle sizes) → OnTime q sizes is
+  pub on-time : (q : ListOfCalls) (sizes : List ℕ) (is : trimmed (q .chain) (q .numbers) .ground ≡ rectangle sizes) → OnTime q sizes is
   pub not-earlier : (p q : ListOfCalls) → NotEarlier p q

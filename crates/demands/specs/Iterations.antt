@@ -9,7 +9,7 @@ use Rattle.model.specs.Vectors.{before}
 use Rattle.model.specs.Grounds.Ground.{rectangle}
 use Rattle.model.specs.Boxes.{between, crossed, badBox, fullBox}
 use Rattle.model.specs.Boxes.Part.{whole, box}
-use Rattle.model.specs.Values.{Trimmed, sizesOf, offsetsOf, partOf, trimmed, setBounds}
+use Rattle.model.specs.Values.{Trimmed, dimsOf, offsetsOf, partOf, trimmed, setBounds}
 use Rattle.model.specs.Iterations.{cellsOf, isCellOf, positionOf, isIterationOf, coversOf, iterationsOf, iterationOf, readsOf, distanceIn, distanceOf}
 use Rattle.model.specs.Answers.{verdictNumber}
 use Rattle.model.specs.Judging.{badGround, badCount, repeats, noIteration, judged, judgeChain}
@@ -67,26 +67,26 @@ module _ (t : Trimmed) where
     pub answer : badGround (t .dims) (t .ground) ≡ false → badCount (t .count) ≡ false → repeats (t .offsets) ≡ false → noIteration (t .ground) (t .offsets) ≡ false
         → verdictNumber (judged t) ≡ 15 ↔ badBox (t .ground) (t .offsets) (t .part) ≡ true
 
--- A chain without a box, and the same chain with a box that is the full one.
-pub record Filling (c : Chain) (b : Bounds) : Type 0 where
+-- A chain without a box, and the same chain with a box that is the full one of a rectangle of these sizes.
+pub record Filling (c : Chain) (sizes : List ℕ) (b : Bounds) : Type 0 where
   pub absent : c .bounds .stood ≡ false
-  pub full : partOf (c .grid .dims) b ≡ fullBox (sizesOf (c .grid)) (offsetsOf (c .grid .dims) (c .window))
+  pub full : partOf (dimsOf (c .grid)) b ≡ fullBox sizes (offsetsOf (dimsOf (c .grid)) (c .window))
 
--- A full box runs as none: an accepted chain is accepted with it too, and every call does the same in every word and clock.
+-- On a rectangle a full box runs as none: an accepted chain is accepted with it too, and every call does the same in every word and clock.
 abbrev pub FullBoxRuns : Type 0
-FullBoxRuns = (c : Chain) (b : Bounds) → Filling c b → judgeChain c ≡ verdict.Accepted
-    → (judgeChain (setBounds b c) ≡ verdict.Accepted)
-    × ((s : State) (store lent output : List ℕ) (allowance : ℕ) → runOf (setBounds b c) s store lent output allowance ≡ runOf c s store lent output allowance)
+FullBoxRuns = (c : Chain) (numbers sizes : List ℕ) → trimmed c numbers .ground ≡ rectangle sizes → (b : Bounds) → Filling c sizes b → judgeChain c numbers ≡ verdict.Accepted
+    → (judgeChain (setBounds b c) numbers ≡ verdict.Accepted)
+    × ((s : State) (store lent output : List ℕ) (allowance : ℕ) → runOf (setBounds b c) numbers s store lent output allowance ≡ runOf c numbers s store lent output allowance)
 
 -- Iterations and largest distances of every accepted chain, one distance on every rectangle that 4 and 15 let pass, cells of every chain, numbers 6 and 15 of every chain and every request.
 pub record Geometry : Type 0 where
-  pub iterations : (c : Chain) → judgeChain c ≡ verdict.Accepted → Enumerated (trimmed c)
-  pub largest : (c : Chain) → judgeChain c ≡ verdict.Accepted → Largest (trimmed c)
-  pub distances : (c : Chain) (sizes : List ℕ) → trimmed c .ground ≡ rectangle sizes → badCount (c .window .count) ≡ false
-      → badBox (trimmed c .ground) (trimmed c .offsets) (trimmed c .part) ≡ false → SameDistance (trimmed c)
-  pub cells : (c : Chain) → Placed (trimmed c)
-  pub chain-6 : (c : Chain) → Number6 (trimmed c)
-  pub request-6 : (r : Request) → Number6 (trimmedRequest r)
-  pub chain-15 : (c : Chain) → Number15 (trimmed c)
-  pub request-15 : (r : Request) → Number15 (trimmedRequest r)
+  pub iterations : (c : Chain) (numbers : List ℕ) → judgeChain c numbers ≡ verdict.Accepted → Enumerated (trimmed c numbers)
+  pub largest : (c : Chain) (numbers : List ℕ) → judgeChain c numbers ≡ verdict.Accepted → Largest (trimmed c numbers)
+  pub distances : (c : Chain) (numbers sizes : List ℕ) → trimmed c numbers .ground ≡ rectangle sizes → badCount (c .window .count) ≡ false
+      → badBox (trimmed c numbers .ground) (trimmed c numbers .offsets) (trimmed c numbers .part) ≡ false → SameDistance (trimmed c numbers)
+  pub cells : (c : Chain) (numbers : List ℕ) → Placed (trimmed c numbers)
+  pub chain-6 : (c : Chain) (numbers : List ℕ) → Number6 (trimmed c numbers)
+  pub request-6 : (r : Request) (numbers : List ℕ) → Number6 (trimmedRequest r numbers)
+  pub chain-15 : (c : Chain) (numbers : List ℕ) → Number15 (trimmed c numbers)
+  pub request-15 : (r : Request) (numbers : List ℕ) → Number15 (trimmedRequest r numbers)
   pub full-box : FullBoxRuns

@@ -1,12 +1,12 @@
 -- "entries past its counts play no part, and chains that differ only there are the same" (document 01, "Turned back on account of the input"). That such chains are judged and run alike
 -- stands in `Promises`. "A part of the record whose line is absent plays no part" (document 02, request 2).
-use Prim.Native.Nat.{ℕ, _-_, _<_}
+use Prim.Native.Nat.{ℕ, _-_, _*_, _<_}
 use mathlib.Core.Bool.{true, false}
-use mathlib.Core.List.{List}
+use mathlib.Core.List.{List, []}
 use mathlib.Core.Path.{_≡_}
 use lib.IntN.{pos}
 use lib.ListN.{getD}
-use Rattle.model.specs.Values.{entryOf, capacityOf, Same}
+use Rattle.model.specs.Values.{dimsOf, entryOf, capacityOf, Same}
 use Rattle.model.specs.Planning.{trimmedRequest, judgeRequest, planOf}
 use Rattle.model.specs.Writing.{writeOf}
 use Rattle.model.specs.declared.Bounds.{Bounds}
@@ -17,9 +17,13 @@ use Rattle.model.specs.declared.Request.{Request}
 use Rattle.model.specs.declared.Chain.{Chain}
 
 -- Two grids, two windows and two boxes on a grid of some dimensions, two orders of n terms, two chains and two requests that differ only past their counts or in an absent part.
-pub record GridsAgree (g h : Grid) : Type 0 where
-  pub dims : g .dims ≡ h .dims
-  pub sizes : (d : ℕ) → d < g .dims → getD (g .sizes) d 0 ≡ getD (h .sizes) d 0
+-- Beside a grid its rows are lent: of a rectangle the sizes play a part, of a skewed grid how many rows it has, and two numbers for each of them.
+pub record GridsAgree (g : Grid) (ns : List ℕ) (h : Grid) (ms : List ℕ) : Type 0 where
+  pub skewed : g .skewed ≡ h .skewed
+  pub dims : g .skewed ≡ false → g .dims ≡ h .dims
+  pub sizes : g .skewed ≡ false → (d : ℕ) → d < g .dims → getD (g .sizes) d 0 ≡ getD (h .sizes) d 0
+  pub count : g .skewed ≡ true → g .rows ≡ h .rows
+  pub rows : g .skewed ≡ true → (i : ℕ) → i < 2 * g .rows → getD ns i 0 ≡ getD ms i 0
 
 pub record WindowsAgree (dims : ℕ) (v w : Window) : Type 0 where
   pub count : v .count ≡ w .count
@@ -34,35 +38,35 @@ pub record BoundsAgree (dims : ℕ) (a b : Bounds) : Type 0 where
   pub lowest : a .stood ≡ true → (d : ℕ) → d < dims → getD (a .lowest) d (pos 0) ≡ getD (b .lowest) d (pos 0)
   pub highest : a .stood ≡ true → (d : ℕ) → d < dims → getD (a .highest) d (pos 0) ≡ getD (b .highest) d (pos 0)
 
-pub record ChainsAgree (c d : Chain) : Type 0 where
-  pub grid : GridsAgree (c .grid) (d .grid)
-  pub window : WindowsAgree (c .grid .dims) (c .window) (d .window)
-  pub bounds : BoundsAgree (c .grid .dims) (c .bounds) (d .bounds)
+pub record ChainsAgree (c : Chain) (ns : List ℕ) (d : Chain) (ms : List ℕ) : Type 0 where
+  pub grid : GridsAgree (c .grid) ns (d .grid) ms
+  pub window : WindowsAgree (dimsOf (c .grid)) (c .window) (d .window)
+  pub bounds : BoundsAgree (dimsOf (c .grid)) (c .bounds) (d .bounds)
   pub capacities : (k : ℕ) → k < c .window .count - 1 → capacityOf c k ≡ capacityOf d k
   pub order : OrdersAgree (c .window .count) (c .order) (d .order)
   pub kernel : c .kernel ≡ d .kernel
 
-pub record RequestsAgree (r q : Request) : Type 0 where
-  pub grid : GridsAgree (r .grid) (q .grid)
-  pub window : WindowsAgree (r .grid .dims) (r .window) (q .window)
-  pub bounds : BoundsAgree (r .grid .dims) (r .bounds) (q .bounds)
+pub record RequestsAgree (r : Request) (ns : List ℕ) (q : Request) (ms : List ℕ) : Type 0 where
+  pub grid : GridsAgree (r .grid) ns (q .grid) ms
+  pub window : WindowsAgree (dimsOf (r .grid)) (r .window) (q .window)
+  pub bounds : BoundsAgree (dimsOf (r .grid)) (r .bounds) (q .bounds)
   pub kernel : r .kernel ≡ q .kernel
 
--- Two requests are the same.
-abbrev pub SameRequest : Request → Request → Type 0
-SameRequest r q = trimmedRequest r ≡ trimmedRequest q
+-- Two requests, each with its rows, are the same.
+abbrev pub SameRequest : Request → (numbers : List ℕ) → Request → (numbers : List ℕ) → Type 0
+SameRequest r ns q ms = trimmedRequest r ns ≡ trimmedRequest q ms
 
 pub record PastCounts : Type 0 where
   -- "chains that differ only there are the same", and so are requests.
-  pub same-chains : (c d : Chain) → ChainsAgree c d → Same c d
-  pub same-requests : (r q : Request) → RequestsAgree r q → SameRequest r q
+  pub same-chains : (c d : Chain) (ns ms : List ℕ) → ChainsAgree c ns d ms → Same c ns d ms
+  pub same-requests : (r q : Request) (ns ms : List ℕ) → RequestsAgree r ns q ms → SameRequest r ns q ms
   -- A written order, the chain order too, is not the same as none.
-  pub apart : (c d : Chain) → c .order .stood ≡ true → d .order .stood ≡ false → Same c d → ⊥
+  pub apart : (c d : Chain) (ns ms : List ℕ) → c .order .stood ≡ true → d .order .stood ≡ false → Same c ns d ms → ⊥
   -- "the record tells a written full box from none": any written box, in a chain and in a request.
-  pub box-apart : (c d : Chain) → c .bounds .stood ≡ true → d .bounds .stood ≡ false → Same c d → ⊥
-  pub box-asked : (r q : Request) → r .bounds .stood ≡ true → q .bounds .stood ≡ false → SameRequest r q → ⊥
-  -- The same chain is written alike,
-  pub written : (c d : Chain) → Same c d → (output : List ℕ) → writeOf c output ≡ writeOf d output
+  pub box-apart : (c d : Chain) (ns ms : List ℕ) → c .bounds .stood ≡ true → d .bounds .stood ≡ false → Same c ns d ms → ⊥
+  pub box-asked : (r q : Request) (ns ms : List ℕ) → r .bounds .stood ≡ true → q .bounds .stood ≡ false → SameRequest r ns q ms → ⊥
+  -- The same chain is written alike (a sheet has no line for rows),
+  pub written : (c d : Chain) → Same c [] d [] → (output : List ℕ) → writeOf c output ≡ writeOf d output
   -- the same request judged and planned alike.
-  pub judged : (r q : Request) → SameRequest r q → judgeRequest r ≡ judgeRequest q
-  pub planned : (r q : Request) → SameRequest r q → planOf r ≡ planOf q
+  pub judged : (r q : Request) (ns ms : List ℕ) → SameRequest r ns q ms → judgeRequest r ns ≡ judgeRequest q ms
+  pub planned : (r q : Request) (ns ms : List ℕ) → SameRequest r ns q ms → planOf r ns ≡ planOf q ms

@@ -7,7 +7,7 @@ use lib.ListN.{length, getD}
 use Rattle.model.specs.Lists.{sum}
 use Rattle.model.specs.Windows.{Members}
 use Rattle.model.specs.Grounds.Ground.{rectangle}
-use Rattle.model.specs.Values.{Trimmed, sizesOf, offsetsOf, partOf, trimmed}
+use Rattle.model.specs.Values.{Trimmed, groundOf, dimsOf, offsetsOf, partOf, trimmed}
 use Rattle.model.specs.Iterations.{iterationsOf, readsOf}
 use Rattle.model.specs.Judging.{judgeChain}
 use Rattle.model.specs.Planning.{judgeRequest, planOf}
@@ -24,21 +24,21 @@ pub record SameWindow (t u : Trimmed) : Type 0 where
   pub no-other : Members (u .offsets) (t .offsets)
 
 -- t: the planned chain of the request r, trimmed.
-pub record PlanRight (r : Request) (t : Trimmed) : Type 0 where
+pub record PlanRight (r : Request) (numbers : List ℕ) (t : Trimmed) : Type 0 where
   -- The grid, the box and the kernel are the request's: "Planning copies it", and where none stood there is none.
-  pub dims : t .dims ≡ r .grid .dims
-  pub ground : t .ground ≡ rectangle (sizesOf (r .grid))
-  pub part : t .part ≡ partOf (r .grid .dims) (r .bounds)
+  pub dims : t .dims ≡ dimsOf (r .grid)
+  pub ground : t .ground ≡ groundOf (r .grid) numbers
+  pub part : t .part ≡ partOf (dimsOf (r .grid)) (r .bounds)
   pub kernel : t .kernel ≡ r .kernel
   -- The offsets are the request's, as many, each once.
   pub count : t .count ≡ r .window .count
-  pub each : Members (offsetsOf (r .grid .dims) (r .window)) (t .offsets)
-  pub no-other : Members (t .offsets) (offsetsOf (r .grid .dims) (r .window))
+  pub each : Members (offsetsOf (dimsOf (r .grid)) (r .window)) (t .offsets)
+  pub no-other : Members (t .offsets) (offsetsOf (dimsOf (r .grid)) (r .window))
   -- The author's order stands, a byte for each reference, and byte i names the filter that holds the author's reference i.
   pub ordered : t .ordered ≡ true
   pub terms : length (t .order) ≡ r .window .count
   pub holds : (i : ℕ) → i < r .window .count
-      → (getD (t .order) i 0 < t .count) × (getD (t .offsets) (getD (t .order) i 0) [] ≡ getD (offsetsOf (r .grid .dims) (r .window)) i [])
+      → (getD (t .order) i 0 < t .count) × (getD (t .offsets) (getD (t .order) i 0) [] ≡ getD (offsetsOf (dimsOf (r .grid)) (r .window)) i [])
   -- They fall, and the capacities are the reuse distances of neighbours,
   pub planned : Planned t
   -- which no iteration exceeds and one has: "the largest over all iterations, or over the box's where a box is given";
@@ -51,14 +51,14 @@ pub record PlanRight (r : Request) (t : Trimmed) : Type 0 where
   pub total : (sizes : List ℕ) → t .ground ≡ rectangle sizes → (j : ℕ) → j < iterationsOf t
       → readsOf t j 0 ≡ readsOf t j (t .count - 1) + sum (t .capacities)
   -- No chain of the same grid, box and window, accepted or not, whose order and capacities are right has fewer places.
-  pub least : (c : Chain) → SameWindow t (trimmed c) → Right (trimmed c) → sum (t .capacities) ≤ sum (trimmed c .capacities)
+  pub least : (c : Chain) (ns : List ℕ) → SameWindow t (trimmed c ns) → Right (trimmed c ns) → sum (t .capacities) ≤ sum (trimmed c ns .capacities)
 
 -- What planning gives.
-pub record PlanGives (r : Request) : Type 0 where
-  pub answer : planOf r .verdict ≡ verdict.Accepted
-  pub accepted : judgeChain (planOf r .chain) ≡ verdict.Accepted
-  pub right : PlanRight r (trimmed (planOf r .chain))
+pub record PlanGives (r : Request) (numbers : List ℕ) : Type 0 where
+  pub answer : planOf r numbers .verdict ≡ verdict.Accepted
+  pub accepted : judgeChain (planOf r numbers .chain) numbers ≡ verdict.Accepted
+  pub right : PlanRight r numbers (trimmed (planOf r numbers .chain) numbers)
 
 -- A request that no number turns back is planned, and its chain is accepted.
 abbrev pub PlanDemand : Type 0
-PlanDemand = (r : Request) → judgeRequest r ≡ verdict.Accepted → PlanGives r
+PlanDemand = (r : Request) (numbers : List ℕ) → judgeRequest r numbers ≡ verdict.Accepted → PlanGives r numbers

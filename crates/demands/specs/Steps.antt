@@ -9,7 +9,7 @@ use Rattle.model.specs.Lists.{tabulate, sum}
 use Rattle.model.specs.Vectors.{plus, before}
 use Rattle.model.specs.Windows.{Members}
 use Rattle.model.specs.Grounds.Ground.{rectangle}
-use Rattle.model.specs.Values.{offsetsOf, onGrid}
+use Rattle.model.specs.Values.{dimsOf, offsetsOf, onGrid}
 use Rattle.model.specs.Iterations.{positionOf, isIterationOf, coversOf}
 use Rattle.model.specs.Answers.{byVerdict}
 use Rattle.model.specs.Judging.{centred, judgeWindow, judgeBehind}
@@ -22,20 +22,20 @@ use Rattle.model.specs.declared.Steps.{Steps}
 use Rattle.model.specs.declared.Window.{Window}
 use Rattle.model.specs.declared.Verdict.the-variants as verdict
 
-module _ (g : Grid) (w : Window) (b : Bounds) where
+module _ (g : Grid) (numbers : List ℕ) (w : Window) (b : Bounds) where
   abbrev pub steps : Steps
-  steps = stepsOf g w b
+  steps = stepsOf g numbers w b
 
   -- The author's reference i, and the sorted reference k.
   abbrev pub given : ℕ → List ℤ
-  given i = getD (offsetsOf (g .dims) w) i []
+  given i = getD (offsetsOf (dimsOf g) w) i []
 
   abbrev pub arranged : ℕ → List ℤ
-  arranged k = getD (offsetsOf (g .dims) (steps .window)) k []
+  arranged k = getD (offsetsOf (dimsOf g) (steps .window)) k []
 
   -- The position that the sorted reference k reads in the iteration v.
   abbrev pub readBy : (v : List ℤ) (k : ℕ) → ℕ
-  readBy v k = positionOf (onGrid g w b) (plus v (arranged k))
+  readBy v k = positionOf (onGrid g numbers w b) (plus v (arranged k))
 
   abbrev pub distance : ℕ → ℕ
   distance k = getD (steps .distances) k 0
@@ -44,8 +44,8 @@ module _ (g : Grid) (w : Window) (b : Bounds) where
   pub record Sorted : Type 0 where
     -- The offsets are the request's, as many, each once,
     pub count : steps .window .count ≡ w .count
-    pub each : Members (offsetsOf (g .dims) w) (offsetsOf (g .dims) (steps .window))
-    pub no-other : Members (offsetsOf (g .dims) (steps .window)) (offsetsOf (g .dims) w)
+    pub each : Members (offsetsOf (dimsOf g) w) (offsetsOf (dimsOf g) (steps .window))
+    pub no-other : Members (offsetsOf (dimsOf g) (steps .window)) (offsetsOf (dimsOf g) w)
     -- in strictly falling order;
     pub falls : (k : ℕ) → suc k < w .count → before (arranged (suc k)) (arranged k) ≡ true
     -- the author's reference i is held by the filter that is named.
@@ -54,8 +54,8 @@ module _ (g : Grid) (w : Window) (b : Bounds) where
   -- Section 3.3.2: "the maximum reuse distances of all the pairs of adjacent array references"
   pub record Distances : Type 0 where
     -- In no iteration that a run covers the pair's positions differ by more than the distance, in one they differ by it,
-    pub most : (v : List ℤ) (k : ℕ) → coversOf (onGrid g w b) v ≡ true → suc k < w .count → readBy v k ≤ readBy v (suc k) + distance k
-    pub reached : (k : ℕ) → suc k < w .count → (v : List ℤ) × (coversOf (onGrid g w b) v ≡ true) × (readBy v k ≡ readBy v (suc k) + distance k)
+    pub most : (v : List ℤ) (k : ℕ) → coversOf (onGrid g numbers w b) v ≡ true → suc k < w .count → readBy v k ≤ readBy v (suc k) + distance k
+    pub reached : (k : ℕ) → suc k < w .count → (v : List ℤ) × (coversOf (onGrid g numbers w b) v ≡ true) × (readBy v k ≡ readBy v (suc k) + distance k)
     -- and it is at least 1.
     pub some : (k : ℕ) → suc k < w .count → 0 < distance k
 
@@ -65,31 +65,31 @@ module _ (g : Grid) (w : Window) (b : Bounds) where
 
   -- On a rectangle they differ by the distance in every iteration, inside the box and outside it, and the sum "is equal to the maximum reuse distance between array reference A_0 and A_{n-1}".
   pub record OnRectangle : Type 0 where
-    pub every : (v : List ℤ) (k : ℕ) → isIterationOf (onGrid g w b) v ≡ true → suc k < w .count → readBy v k ≡ readBy v (suc k) + distance k
-    pub first-to-last : (v : List ℤ) → isIterationOf (onGrid g w b) v ≡ true → readBy v 0 ≡ readBy v (w .count - 1) + steps .total
+    pub every : (v : List ℤ) (k : ℕ) → isIterationOf (onGrid g numbers w b) v ≡ true → suc k < w .count → readBy v k ≡ readBy v (suc k) + distance k
+    pub first-to-last : (v : List ℤ) → isIterationOf (onGrid g numbers w b) v ≡ true → readBy v 0 ≡ readBy v (w .count - 1) + steps .total
 
 abbrev pub StepOne : Type 0
-StepOne = (g : Grid) (w : Window) (b : Bounds) → judgeWindow g w b ≡ verdict.Accepted → Sorted g w b
+StepOne = (g : Grid) (numbers : List ℕ) (w : Window) (b : Bounds) → judgeWindow g numbers w b ≡ verdict.Accepted → Sorted g numbers w b
 
 abbrev pub StepTwo : Type 0
-StepTwo = (g : Grid) (w : Window) (b : Bounds) → judgeWindow g w b ≡ verdict.Accepted → Distances g w b
+StepTwo = (g : Grid) (numbers : List ℕ) (w : Window) (b : Bounds) → judgeWindow g numbers w b ≡ verdict.Accepted → Distances g numbers w b
 
 abbrev pub StepThree : Type 0
-StepThree = (g : Grid) (w : Window) (b : Bounds) → judgeWindow g w b ≡ verdict.Accepted → Summed g w b
+StepThree = (g : Grid) (numbers : List ℕ) (w : Window) (b : Bounds) → judgeWindow g numbers w b ≡ verdict.Accepted → Summed g numbers w b
 
 abbrev pub OnRectangles : Type 0
-OnRectangles = (g : Grid) (w : Window) (b : Bounds) (sizes : List ℕ) → onGrid g w b .ground ≡ rectangle sizes → judgeWindow g w b ≡ verdict.Accepted → OnRectangle g w b
+OnRectangles = (g : Grid) (numbers : List ℕ) (w : Window) (b : Bounds) (sizes : List ℕ) → onGrid g numbers w b .ground ≡ rectangle sizes → judgeWindow g numbers w b ≡ verdict.Accepted → OnRectangle g numbers w b
 
 -- A plan is these steps, then what refuses, then the chain.
-pub record PlannedBySteps (r : Request) (s : Steps) : Type 0 where
+pub record PlannedBySteps (r : Request) (numbers : List ℕ) (s : Steps) : Type 0 where
   -- 3 to 6 and 15 come before the steps, 7 and 8 behind them, and 9 goes by their total;
-  pub found : s .verdict ≡ judgeWindow (r .grid) (r .window) (r .bounds)
-  pub refused : planOf r .verdict ≡ byVerdict (s .verdict) (judgeBehind (r .kernel) (centred (offsetsOf (r .grid .dims) (r .window))) (s .total)) verdict.Refused
+  pub found : s .verdict ≡ judgeWindow (r .grid) numbers (r .window) (r .bounds)
+  pub refused : planOf r numbers .verdict ≡ byVerdict (s .verdict) (judgeBehind (r .kernel) (centred (offsetsOf (dimsOf (r .grid)) (r .window))) (s .total)) verdict.Refused
   -- the chain has the request's box, their window, their distances for its capacities, and their filters for its order.
-  pub chain : planOf r .verdict ≡ verdict.Accepted → planOf r .chain ≡ chainBy (r .grid) (r .bounds) (r .kernel) s
+  pub chain : planOf r numbers .verdict ≡ verdict.Accepted → planOf r numbers .chain ≡ chainBy (r .grid) (r .bounds) (r .kernel) s
 
 abbrev pub PlansBySteps : Type 0
-PlansBySteps = (r : Request) → PlannedBySteps r (stepsOf (r .grid) (r .window) (r .bounds))
+PlansBySteps = (r : Request) (numbers : List ℕ) → PlannedBySteps r numbers (stepsOf (r .grid) numbers (r .window) (r .bounds))
 
 -- All of them.
 pub record PaperSteps : Type 0 where

@@ -9,8 +9,10 @@ use lib.Dec.{eqb, ltb}
 use borrow.Author.Tests.{eq-eqb, ne-eqb, lt-ltb, le-ltb, eqb-false, ltb-false}
 use Rattle.model.specs.Lists.{tabulate, product, any}
 use Rattle.model.specs.Geometry.{cellCount}
+use Rattle.model.specs.Grounds.Ground.{rectangle}
 use Rattle.model.specs.Values.{sizesOf}
 use Rattle.model.proofs.Tests.{neither}
+use Rattle.model.proofs.ChainLaws.{sizes-count}
 use Rattle.model.proofs.CheckLaws.{few-dims}
 use Rattle.model.proofs.CheckLaws as counts
 use Rattle.model.specs.Judging.{mostCells, badDims, badSizes, badGrid, badCount}
@@ -82,7 +84,7 @@ module _ (g : Grid) (e : badGrid (g .dims) (sizesOf g) ≡ false) where
   parts = neither (eqb (g .dims) 0 || ltb 4 (g .dims)) (any (λ s. eqb s 0) (sizesOf g) || ltb mostCells (cellCount (sizesOf g))) e
 
   pub few-dimensions : g .dims ≤ 4
-  few-dimensions = few-dims (g .dims) (sizesOf g) e
+  few-dimensions = few-dims (g .dims) (rectangle (sizesOf g)) (sizes-count g) e
 
   pub sizes-above : (d : ℕ) → d < g .dims → 1 ≤ numberAt (g .sizes) d
   unfolding sizesOf

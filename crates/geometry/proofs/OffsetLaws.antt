@@ -101,6 +101,10 @@ module _ (dims : ℕ) (w : Window) where
   unfolding held
   is-held h k = rw (le-leb dims 4 h, le-leb (w .count) 32 k)
 
+  pub has-centre-is : dims ≤ 4 → w .count ≤ 32 → hasCentre dims w ≡ any isZero (offsetsOf dims w)
+  unfolding hasCentre
+  has-centre-is h k = rw (is-held h k)
+
   many-dimensions : 4 < dims → held dims w ≡ false
   unfolding held
   many-dimensions h = rw (lt-leb dims 4 h)

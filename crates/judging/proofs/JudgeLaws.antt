@@ -1,15 +1,14 @@
 -- Laws of the checks in their groups.
 use Prim.Native.Nat.{ℕ}
-use mathlib.Core.Bool.{Bool, false, cond}
+use mathlib.Core.Bool.{Bool, true, false, cond}
 use mathlib.Core.List.{List, [], _∷_, _++_}
-use mathlib.Core.Path.{_≡_, refl, sym, _∙_, ap}
+use mathlib.Core.Path.{_≡_, refl, sym, _∙_, ap, ap₂}
 use lib.Dec.{ltb}
 use Rattle.model.specs.Lists.{sum}
 use Rattle.model.specs.Kernels.{centreOf}
-use Rattle.model.specs.Values.{offsetOf, offsetsOf, onGrid, capacitiesOf, orderOf, trimmed}
-use Rattle.model.specs.Iterations.{courseOf}
+use Rattle.model.specs.Values.{Trimmed, dimsOf, offsetOf, offsetsOf, onRectangle, onRows, capacitiesOf, orderOf, trimmed}
 use Rattle.model.specs.Answers.{check, firstOf, byVerdict}
-use Rattle.model.specs.Judging.{mostPlaces, badCount, tooLarge, centred, badOrder, windowChecks, kernelChecks, chainChecks, valueChecks, judged, judgeWindow, judgeBehind, judgeChain}
+use Rattle.model.specs.Judging.{mostPlaces, badCount, tooLarge, badOrder, windowChecks, kernelChecks, chainChecks, valueChecks, judged, judgeWindow, judgeRectangle, judgeRows, judgeBehind, judgeChain}
 use Rattle.model.specs.declared.Grid.{Grid}
 use Rattle.model.specs.declared.Window.{Window}
 use Rattle.model.specs.declared.Kernel.{Kernel}
@@ -20,13 +19,17 @@ use Rattle.model.specs.declared.Refusal.the-variants as refusal
 use Rattle.model.specs.declared.Verdict.{Verdict}
 use Rattle.model.specs.declared.Verdict.the-variants as verdict
 use Rattle.model.proofs.ListLaws.{length-tabulate}
+use Rattle.model.proofs.ChainLaws.{dims-flat, on-flat, dims-skewed, on-skewed}
 use Rattle.model.proofs.CheckLaws.{then-checks, both-pass, WindowPasses, window-passes}
 use Rattle.geometry.specs.Windows.{centreIn}
 use Rattle.shape.specs.Shapes.{surveyOf, chainShape}
 use Rattle.shape.specs.declared.Survey.{Survey}
 use Rattle.geometry.proofs.OffsetLaws.{below-count}
 use Rattle.shape.proofs.Answers.{centre-is, survey-verdict}
-use Rattle.judging.specs.Checks.{judgedRest, examinedOf}
+use Rattle.rows.specs.Surveys.{rowSurveyOf}
+use Rattle.rows.specs.declared.RowSurvey.{RowSurvey}
+use Rattle.rows.proofs.SurveyLaws.{survey-verdict as rows-verdict}
+use Rattle.judging.specs.Checks.{judgedRest, judgedBehind, examinedOf, examinedRows}
 
 -- 14 is looked at where 7, 8 and 9 pass, and 9 goes by the sum of the capacities.
 module _ (k : Kernel) (b : Bool) (capacities : List ℕ) (n : ℕ) (order : List ℕ) where
@@ -42,77 +45,98 @@ module _ (k : Kernel) (b : Bool) (capacities : List ℕ) (n : ℕ) (order : List
       → cond bad (verdict.Refused refusal.BadOrder) verdict.Accepted ≡ judgedRest k b capacities n order
   rest-order bad e f = sym (rw (e, f) at by-total)
 
-module _ (g : Grid) (w : Window) (x : Bounds) where
-  survey-centre : judgeWindow g w x ≡ verdict.Accepted → surveyOf g w x .centre ≡ centreOf (offsetsOf (g .dims) w)
-  unfolding surveyOf
-  survey-centre e = rw e
-
-  pub survey-count : surveyOf g w x .verdict ≡ verdict.Accepted → badCount (w .count) ≡ false
-  survey-count e = window-passes (onGrid g w x) (sym (survey-verdict g w x) ∙ e) .count
-
-  -- There is a centre exactly if its number is below the count.
-  survey-centred : surveyOf g w x .verdict ≡ verdict.Accepted → ltb (surveyOf g w x .centre) (w .count) ≡ centred (offsetsOf (g .dims) w)
-  unfolding offsetsOf
-  survey-centred e =
-      ap (λ (m : ℕ). ltb m (w .count)) (survey-centre (sym (survey-verdict g w x) ∙ e))
-      ∙ ap (ltb (centreOf (offsetsOf (g .dims) w))) (sym (length-tabulate (w .count) (offsetOf (g .dims) w))) ∙ below-count (offsetsOf (g .dims) w)
+-- Behind what was found of the window: where it is let pass, there is a centre exactly if its number is below the count.
+pub behind : (c : Chain) (dims : ℕ) (found : Verdict) (m : ℕ) → (found ≡ verdict.Accepted → m ≡ centreOf (offsetsOf dims (c .window)))
+    → byVerdict found (judgedRest (c .kernel) (ltb m (c .window .count)) (capacitiesOf c) (c .window .count) (orderOf (c .window .count) (c .order))) verdict.Refused ≡ judgedBehind found dims c
+unfolding judgedBehind offsetsOf
+behind c dims verdict.Accepted m is =
+    ap (λ (b : Bool). judgedRest (c .kernel) b (capacitiesOf c) (c .window .count) (orderOf (c .window .count) (c .order)))
+    (ap (λ (m : ℕ). ltb m (c .window .count)) (is refl)
+    ∙ ap (ltb (centreOf (offsetsOf dims (c .window)))) (sym (length-tabulate (c .window .count) (offsetOf dims (c .window)))) ∙ below-count (offsetsOf dims (c .window)))
+behind c dims (verdict.Refused x) m is = refl
 
 -- A chain: its window is judged, then the rest.
-module _ (c : Chain) where
-  by-rest : judgeChain c
-      ≡ byVerdict (surveyOf (c .grid) (c .window) (c .bounds) .verdict) (judgedRest (c .kernel) (centred (offsetsOf (c .grid .dims) (c .window))) (capacitiesOf c) (c .window .count) (orderOf (c .window .count) (c .order))) verdict.Refused
-  unfolding judgeChain judged valueChecks windowChecks trimmed judgedRest
-  by-rest = rw (survey-verdict (c .grid) (c .window) (c .bounds)) (then-checks (windowChecks (trimmed c)) _)
+by-rest : (c : Chain) (numbers : List ℕ) → judgedBehind (judgeWindow (c .grid) numbers (c .window) (c .bounds)) (dimsOf (c .grid)) c ≡ judgeChain c numbers
+unfolding judgeChain judged valueChecks windowChecks trimmed judgedRest judgedBehind
+by-rest c numbers = sym (then-checks (windowChecks (trimmed c numbers)) _)
 
-  -- What examining finds.
-  module _ (s : Survey) (d : s ≡ surveyOf (c .grid) (c .window) (c .bounds)) where
-    found : (v : Verdict) → v ≡ judgeChain c → record { verdict = v; centre = s .centre; shape = s .shape } ≡ examinedOf c
-    unfolding examinedOf
-    found v e = rw (d, e)
+window-clear : (c : Chain) (numbers : List ℕ) → judgeChain c numbers ≡ verdict.Accepted → judgeWindow (c .grid) numbers (c .window) (c .bounds) ≡ verdict.Accepted
+unfolding judgeChain judged valueChecks windowChecks trimmed
+window-clear c numbers e = both-pass (windowChecks (trimmed c numbers)) _ e .0
 
-    surveyed : (v : Verdict) → s .verdict ≡ v → surveyOf (c .grid) (c .window) (c .bounds) .verdict ≡ v
-    surveyed v e = ap (λ (t : Survey). t .verdict) (sym d) ∙ e
+-- ---- a chain on a rectangle
 
-    examined-refused : (x : Refusal) → s .verdict ≡ verdict.Refused x → record { verdict = verdict.Refused x; centre = s .centre; shape = s .shape } ≡ examinedOf c
-    examined-refused x e = found (verdict.Refused x) (sym (rw (surveyed (verdict.Refused x) e) at by-rest))
+module _ (g : Grid) (w : Window) (x : Bounds) where
+  pub survey-count : surveyOf g w x .verdict ≡ verdict.Accepted → badCount (w .count) ≡ false
+  survey-count e = window-passes (onRectangle g w x) (sym (survey-verdict g w x) ∙ e) .count
 
-    examined-rest : (v : Verdict) → s .verdict ≡ verdict.Accepted → v ≡ judgedRest (c .kernel) (ltb (s .centre) (c .window .count)) (capacitiesOf c) (c .window .count) (orderOf (c .window .count) (c .order))
-        → record { verdict = v; centre = s .centre; shape = s .shape } ≡ examinedOf c
-    examined-rest v e q =
-        let a = surveyed verdict.Accepted e in
-        found v
-        (q ∙ ap (λ (t : Survey). judgedRest (c .kernel) (ltb (t .centre) (c .window .count)) (capacitiesOf c) (c .window .count) (orderOf (c .window .count) (c .order))) d
-        ∙ ap (λ (b : Bool). judgedRest (c .kernel) b (capacitiesOf c) (c .window .count) (orderOf (c .window .count) (c .order))) (survey-centred (c .grid) (c .window) (c .bounds) a) ∙ sym (rw a at by-rest))
+  pub survey-centre : surveyOf g w x .verdict ≡ verdict.Accepted → surveyOf g w x .centre ≡ centreOf (offsetsOf (g .dims) w)
+  unfolding surveyOf
+  survey-centre e = rw (sym (survey-verdict g w x) ∙ e)
 
-    -- The verdict goes by what the survey found.
-    pub examined-behind : (v : Verdict)
-        → v ≡ byVerdict (s .verdict) (judgedRest (c .kernel) (ltb (s .centre) (c .window .count)) (capacitiesOf c) (c .window .count) (orderOf (c .window .count) (c .order))) verdict.Refused
-        → record { verdict = v; centre = s .centre; shape = s .shape } ≡ examinedOf c
-    examined-behind v q = go (s .verdict) refl q
-      where
-        go : (w : Verdict) → s .verdict ≡ w
-            → v ≡ byVerdict w (judgedRest (c .kernel) (ltb (s .centre) (c .window .count)) (capacitiesOf c) (c .window .count) (orderOf (c .window .count) (c .order))) verdict.Refused
-            → record { verdict = v; centre = s .centre; shape = s .shape } ≡ examinedOf c
-        go verdict.Accepted e q = examined-rest v e q
-        go (verdict.Refused x) e q = ap (λ (v : Verdict). record { verdict = v; centre = s .centre; shape = s .shape }) q ∙ examined-refused x e
+-- What examining finds.
+pub examined : (c : Chain) (s : Survey) → s ≡ surveyOf (c .grid) (c .window) (c .bounds) → (v : Verdict)
+    → v ≡ byVerdict (s .verdict) (judgedRest (c .kernel) (ltb (s .centre) (c .window .count)) (capacitiesOf c) (c .window .count) (orderOf (c .window .count) (c .order))) verdict.Refused
+    → record { verdict = v; centre = s .centre; shape = s .shape } ≡ examinedOf c
+unfolding examinedOf
+examined c s d v q =
+    rw (q, d) (ap (λ (v : Verdict). record { verdict = v; centre = there .centre; shape = there .shape })
+    (behind c (c .grid .dims) (there .verdict) (there .centre) (survey-centre (c .grid) (c .window) (c .bounds))))
+  where
+    there : Survey
+    there = surveyOf (c .grid) (c .window) (c .bounds)
 
-  pub examined-verdict : examinedOf c .verdict ≡ judgeChain c
+module _ (c : Chain) (flat : c .grid .skewed ≡ false) (numbers : List ℕ) where
+  flatly : judgeWindow (c .grid) numbers (c .window) (c .bounds) ≡ judgeRectangle (c .grid) (c .window) (c .bounds)
+  flatly = ap (λ (t : Trimmed). firstOf (windowChecks t)) (on-flat (c .grid) flat numbers (c .window) (c .bounds))
+
+  pub examined-verdict : examinedOf c .verdict ≡ judgeChain c numbers
   unfolding examinedOf
-  examined-verdict = refl
+  examined-verdict =
+      ap₂ (λ (v : Verdict) (n : ℕ). judgedBehind v n c) (survey-verdict (c .grid) (c .window) (c .bounds) ∙ sym flatly) (sym (dims-flat (c .grid) flat)) ∙ by-rest c numbers
 
   -- Of an accepted chain it finds the centre and the shape.
-  module _ (e : judgeChain c ≡ verdict.Accepted) where
-    window-clear : firstOf (windowChecks (onGrid (c .grid) (c .window) (c .bounds))) ≡ verdict.Accepted
-    unfolding judgeChain judged valueChecks windowChecks trimmed
-    window-clear = both-pass (windowChecks (trimmed c)) _ e .0
+  module _ (e : judgeChain c numbers ≡ verdict.Accepted) where
+    clear : judgeRectangle (c .grid) (c .window) (c .bounds) ≡ verdict.Accepted
+    clear = sym flatly ∙ window-clear c numbers e
 
-    parts-clear : WindowPasses (onGrid (c .grid) (c .window) (c .bounds))
-    parts-clear = window-passes (onGrid (c .grid) (c .window) (c .bounds)) window-clear
+    parts-clear : WindowPasses (onRectangle (c .grid) (c .window) (c .bounds))
+    parts-clear = window-passes (onRectangle (c .grid) (c .window) (c .bounds)) clear
 
     pub examined-shape : examinedOf c .shape ≡ chainShape c
-    unfolding examinedOf surveyOf courseOf trimmed chainShape
-    examined-shape = rw window-clear
+    unfolding examinedOf surveyOf chainShape
+    examined-shape = rw clear
 
     pub examined-centre : examinedOf c .centre ≡ centreIn (c .grid .dims) (c .window)
     unfolding examinedOf surveyOf
-    examined-centre = rw window-clear (sym (centre-is (c .grid) (c .window) (parts-clear .grid) (parts-clear .count)))
+    examined-centre = rw clear (sym (centre-is (c .grid) (c .window) (parts-clear .grid) (parts-clear .count)))
+
+-- ---- a chain on rows
+
+module _ (n : ℕ) (numbers : List ℕ) (w : Window) (x : Bounds) where
+  pub rows-count : rowSurveyOf n numbers w x .verdict ≡ verdict.Accepted → badCount (w .count) ≡ false
+  rows-count e = window-passes (onRows n numbers w x) (sym (rows-verdict n numbers w x) ∙ e) .count
+
+  pub rows-centre : rowSurveyOf n numbers w x .verdict ≡ verdict.Accepted → rowSurveyOf n numbers w x .centre ≡ centreOf (offsetsOf 2 w)
+  unfolding rowSurveyOf
+  rows-centre e = rw (sym (rows-verdict n numbers w x) ∙ e)
+
+pub examined-rows : (c : Chain) (numbers : List ℕ) (s : RowSurvey) → s ≡ rowSurveyOf (c .grid .rows) numbers (c .window) (c .bounds) → (v : Verdict)
+    → v ≡ byVerdict (s .verdict) (judgedRest (c .kernel) (ltb (s .centre) (c .window .count)) (capacitiesOf c) (c .window .count) (orderOf (c .window .count) (c .order))) verdict.Refused
+    → record { verdict = v; centre = s .centre; cells = s .cells; iterations = s .iterations; course = s .course } ≡ examinedRows c numbers
+unfolding examinedRows
+examined-rows c numbers s d v q =
+    rw (q, d) (ap (λ (v : Verdict). record { verdict = v; centre = there .centre; cells = there .cells; iterations = there .iterations; course = there .course })
+    (behind c 2 (there .verdict) (there .centre) (rows-centre (c .grid .rows) numbers (c .window) (c .bounds))))
+  where
+    there : RowSurvey
+    there = rowSurveyOf (c .grid .rows) numbers (c .window) (c .bounds)
+
+module _ (c : Chain) (skewed : c .grid .skewed ≡ true) (numbers : List ℕ) where
+  skewedly : judgeWindow (c .grid) numbers (c .window) (c .bounds) ≡ judgeRows (c .grid .rows) numbers (c .window) (c .bounds)
+  skewedly = ap (λ (t : Trimmed). firstOf (windowChecks t)) (on-skewed (c .grid) skewed numbers (c .window) (c .bounds))
+
+  pub rows-examined : examinedRows c numbers .verdict ≡ judgeChain c numbers
+  unfolding examinedRows
+  rows-examined =
+      ap₂ (λ (v : Verdict) (n : ℕ). judgedBehind v n c) (rows-verdict (c .grid .rows) numbers (c .window) (c .bounds) ∙ sym skewedly) (sym (dims-skewed (c .grid) skewed)) ∙ by-rest c numbers

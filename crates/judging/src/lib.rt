@@ -5,6 +5,7 @@ use model::Order;
 use model::Refusal;
 use model::Verdict;
 use model::Window;
+use rows::RowSurvey;
 use shape::Shape;
 ghost use mathlib.Core.Path.{_≡_};
 ghost use mathlib.Core.Bool.{false};
@@ -16,7 +17,7 @@ ghost use Rattle.model.specs.Answers.{byVerdict};
 ghost use Rattle.model.specs.declared.Verdict.the-variants.{Accepted, Refused};
 ghost use Rattle.geometry.specs.Parts.{numberAt};
 ghost use Rattle.geometry.specs.Windows.{hasCentre};
-ghost use Rattle.judging.specs.Checks.{judgedRest, examinedOf};
+ghost use Rattle.judging.specs.Checks.{judgedRest, examinedOf, examinedRows};
 
 // 7: difference or blend without a centre.
 fn lacks_centre(kernel: Kernel, centred: bool) -> bool
@@ -144,13 +145,14 @@ fn judge_behind(
     }
 }
 
-// What judging a chain finds: the first of 3 to 9, 14 and 15 that turns it back, and, where 3 to 6 and 15 let it pass, its centre and its shape.
+// What judging a chain on a rectangle finds: the first of 3 to 9, 14 and 15 that turns it back, and, where 3 to 6 and 15 let it pass, its centre and its shape.
 pub struct Examined {
     pub shape: Shape,
     pub centre: u8,
     pub verdict: Verdict,
 }
 
+// A chain, its grid taken for a rectangle.
 pub fn examine(c: Chain) -> Examined
     ensures { λ r. ⌜ r ≡ examinedOf c ⌝ }
 {
@@ -179,10 +181,48 @@ pub fn examine(c: Chain) -> Examined
     }
 }
 
-// The first of 3 to 9, 14 and 15 that turns a chain back; 9 goes by the capacities given.
-pub fn judge_chain(c: Chain) -> Verdict
-    ensures { λ r. ⌜ r ≡ judgeChain c ⌝ }
+// A chain, its grid taken for rows: the first of 16, 4 to 9, 14 and 15 that turns it back, and what the survey found.
+pub fn examine_rows(c: Chain, rows: &[u32]) -> RowSurvey
+    ensures { λ r. ⌜ r ≡ examinedRows c (now (rows .entry)) ⌝ }
 {
+    let grid = c.grid;
+    let window = c.window;
+    let kernel = c.kernel;
+    let capacities = c.capacities;
+    let order = c.order;
+    let bounds = c.bounds;
+    let survey = rows::survey(grid.rows, rows, window, bounds);
+    let centre = survey.centre;
+    let found = survey.verdict;
+    let verdict = judge_behind(
+        found,
+        kernel,
+        centre < window.count,
+        window.count,
+        &capacities,
+        order,
+    );
+    let cells = survey.cells;
+    let iterations = survey.iterations;
+    let course = survey.course;
+    RowSurvey {
+        verdict,
+        centre,
+        cells,
+        iterations,
+        course,
+    }
+}
+
+// The first of 3 (on rows 16) to 9, 14 and 15 that turns a chain back; 9 goes by the capacities given.
+pub fn judge_chain(c: Chain, rows: &[u32]) -> Verdict
+    ensures { λ r. ⌜ r ≡ judgeChain c (now (rows .entry)) ⌝ }
+{
+    let grid = c.grid;
+    if grid.skewed {
+        let on_rows = examine_rows(c, rows);
+        return on_rows.verdict;
+    }
     let e = examine(c);
     e.verdict
 }

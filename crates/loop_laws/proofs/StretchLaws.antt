@@ -151,6 +151,17 @@ module _ (L : Layout) (write : List ℕ → List ℕ) (size : ℕ) (lent : List 
   pub all-fired : e .ending ≡ Done → L .iterations ≤ e .standing .counters .fired
   all-fired d = subst (λ (y : Ending). WhereDone y (L .iterations ≤ e .standing .counters .fired)) d where-done
 
+  -- and one that made every firing is done.
+  pub done-so : L .iterations ≤ e .standing .counters .fired → e .ending ≡ Done
+  done-so = rw is (by-look (ends-so L write size lent left s .why))
+    where
+      by-look : {t : ℕ} {x : Standing} {y : Ending} → Looked L write size lent t x (ends y) → L .iterations ≤ x .counters .fired → y ≡ Done
+      by-look (is-done _) h = refl
+      by-look (is-spent more _) h = absurd (omega arith)
+      by-look (is-starved more _ _) h = absurd (omega arith)
+      by-look (is-stalled more _ _ _) h = absurd (omega arith)
+      by-look (is-full more _ _ _ _ _) h = absurd (omega arith)
+
 later-resumed : (a b m : ℕ) (front : List ℕ) (e : Ending) (rest ended : Ended)
     → endedLater a b m front (resumed e rest ended) ≡ resumed e (endedLater a b m front rest) (endedLater a b m front ended)
 later-resumed a b m front Done rest ended = refl

@@ -2,18 +2,18 @@
 use Prim.Native.Nat.{ℕ, _+_, _-_, _*_, _/_, _%_, _≤_, _<_}
 use mathlib.Core.Bool.{Bool, true, false, cond}
 use mathlib.Core.List.{List, []}
-use mathlib.Core.Path.{_≡_, refl, sym, _∙_, ap, ap₂}
+use mathlib.Core.Path.{_≡_, refl, sym, _∙_, ap, ap₂, subst}
 use native.Mathlib.Nat.{mul-add-div, mul-add-mod-self-left, div-eq-of-lt, mod-eq-of-lt}
 use native.Mathlib.Omega.{arith}
 use lib.ListN.{length, getD}
 use lib.IntN.{ℤ, pos}
 use Rattle.model.specs.Lists.{tabulate}
-use Rattle.model.specs.Grounds.{Ground, groundSizes, dims}
-use Rattle.model.specs.Grounds.Ground.{rectangle}
+use Rattle.model.specs.Grounds.{Row, Ground, dims}
+use Rattle.model.specs.Grounds.Ground.{rectangle, rows}
 use Rattle.model.specs.Boxes.{Part}
 use Rattle.model.specs.Boxes.Part.{whole, box}
 use Rattle.model.specs.Sized.{Sized, Bounded}
-use Rattle.model.specs.Values.{Trimmed, sizesOf, entryOf, offsetOf, offsetsOf, capacitiesOf, orderOf, partOf, trimmed, Same, windowOf, capacityArray, indexArray, boundsOf, chainOf}
+use Rattle.model.specs.Values.{Trimmed, sizesOf, rowsOf, groundOf, dimsOf, entryOf, offsetOf, offsetsOf, capacitiesOf, orderOf, partOf, trimmed, Same, onGrid, onRectangle, onRows, windowOf, capacityArray, indexArray, boundsOf, sizeArray, gridOf, normalGrid, chainOf}
 use Rattle.model.specs.declared.Bounds.{Bounds}
 use Rattle.model.specs.declared.Chain.{Chain}
 use Rattle.model.specs.declared.Grid.{Grid}
@@ -42,11 +42,65 @@ offsets-back dims n os count sized few most =
 pub capacities-back : (n : ℕ) (xs : List ℕ) → length xs ≡ n → n ≤ 31 → tabulate n (λ k. getD (capacityArray xs) k 0) ≡ xs
 capacities-back n xs count most = tabulate-back 0 xs n _ count (λ k h. getD-tabulate 31 _ k 0 (omega arith))
 
-module _ (t : Trimmed) where
-  chain-ground : (sizes : List ℕ) → t .ground ≡ rectangle sizes → length sizes ≡ t .dims → t .dims ≤ 4 → rectangle (sizesOf (chainOf t .grid)) ≡ t .ground
-  unfolding sizesOf chainOf
-  chain-ground sizes e dims few =
-      ap rectangle (tabulate-back 0 sizes (t .dims) _ dims (λ d h. getD-tabulate 4 _ d 0 (omega arith) ∙ ap (λ (g : Ground). getD (groundSizes g) d 0) e)) ∙ sym e
+pub sizes-count : (g : Grid) → length (sizesOf g) ≡ g .dims
+unfolding sizesOf
+sizes-count g = length-tabulate (g .dims) _
+
+pub rows-count : (n : ℕ) (numbers : List ℕ) → length (rowsOf n numbers) ≡ n
+unfolding rowsOf
+rows-count n numbers = length-tabulate n _
+
+-- A grid's cells have as many dimensions as the grid.
+pub ground-dims : (g : Grid) (numbers : List ℕ) → dims (groundOf g numbers) ≡ dimsOf g
+unfolding groundOf dimsOf
+ground-dims g numbers = go (g .skewed)
+  where
+    go : (skewed : Bool) → dims (cond skewed (rows (rowsOf (g .rows) numbers)) (rectangle (sizesOf g))) ≡ cond skewed 2 (g .dims)
+    go true = refl
+    go false = sizes-count g
+
+-- A grid's normal form is that of its cells,
+pub grid-normal : (g : Grid) (numbers : List ℕ) → gridOf (dimsOf g) (groundOf g numbers) ≡ normalGrid g
+unfolding gridOf groundOf dimsOf
+grid-normal g numbers = go (g .skewed)
+  where
+    go : (skewed : Bool) → gridOf (cond skewed 2 (g .dims)) (cond skewed (rows (rowsOf (g .rows) numbers)) (rectangle (sizesOf g)))
+        ≡ record { skewed = skewed; rows = cond skewed (g .rows) 0; dims = cond skewed 2 (g .dims); sizes = sizeArray (cond skewed [] (sizesOf g)) }
+    go true = λ i. record { skewed = true; rows = rows-count (g .rows) numbers i; dims = 2; sizes = sizeArray [] }
+    go false = refl
+
+-- and its rows are read again where they were.
+abbrev rowsIn : Ground → List Row
+rowsIn (rectangle sizes) = []
+rowsIn (rows rs) = rs
+
+abbrev pub Again : (numbers : List ℕ) → Ground → Type 0
+Again numbers g = (rs : List Row) → g ≡ rows rs → rowsOf (length rs) numbers ≡ rs
+
+pub ground-again : (g : Grid) (numbers : List ℕ) → Again numbers (groundOf g numbers)
+unfolding groundOf rowsOf tabulate
+ground-again g numbers rs e = go (g .skewed) (ap rowsIn e)
+  where
+    go : (skewed : Bool) → rowsIn (cond skewed (rows (rowsOf (g .rows) numbers)) (rectangle (sizesOf g))) ≡ rs → rowsOf (length rs) numbers ≡ rs
+    go true h = subst (λ (rs : List Row). rowsOf (length rs) numbers ≡ rs) h (ap (λ (n : ℕ). rowsOf n numbers) (rows-count (g .rows) numbers))
+    go false h = subst (λ (rs : List Row). rowsOf (length rs) numbers ≡ rs) h refl
+
+module _ (t : Trimmed) (numbers : List ℕ) where
+  chain-ground : Again numbers (t .ground) → dims (t .ground) ≡ t .dims → t .dims ≤ 4 → groundOf (chainOf t .grid) numbers ≡ t .ground
+  unfolding sizesOf chainOf gridOf groundOf
+  chain-ground again same few = go (t .ground) again same
+    where
+      go : (g : Ground) → Again numbers g → dims g ≡ t .dims → groundOf (gridOf (t .dims) g) numbers ≡ g
+      go (rectangle sizes) again same = ap rectangle (tabulate-back 0 sizes (t .dims) _ same (λ d h. getD-tabulate 4 _ d 0 (omega arith)))
+      go (rows rs) again same = ap rows (again rs refl)
+
+  chain-dims : dims (t .ground) ≡ t .dims → dimsOf (chainOf t .grid) ≡ t .dims
+  unfolding chainOf gridOf dimsOf
+  chain-dims same = go (t .ground) same
+    where
+      go : (g : Ground) → dims g ≡ t .dims → dimsOf (gridOf (t .dims) g) ≡ t .dims
+      go (rectangle sizes) same = refl
+      go (rows rs) same = same
 
   chain-offsets : dims (t .ground) ≡ t .dims → length (t .offsets) ≡ t .count → Sized (dims (t .ground)) (t .offsets) → t .dims ≤ 4 → t .count ≤ 32
       → offsetsOf (t .dims) (chainOf t .window) ≡ t .offsets
@@ -77,15 +131,15 @@ module _ (t : Trimmed) where
       go (box lowest highest) b = ap₂ box (back lowest (b .0)) (back highest (b .1))
 
   -- Of the chain that is made of it the value plays a part again, where its lists are of the lengths that the counts say and no longer than a chain's.
-  pub trimmed-chain : (sizes : List ℕ) → t .ground ≡ rectangle sizes → dims (t .ground) ≡ t .dims → length (t .offsets) ≡ t .count → Sized (dims (t .ground)) (t .offsets) → Bounded (dims (t .ground)) (t .part) → length (t .capacities) ≡ t .count - 1
-      → length (t .order) ≡ cond (t .ordered) (t .count) 0 → t .dims ≤ 4 → t .count ≤ 32 → trimmed (chainOf t) ≡ t
+  pub trimmed-chain : Again numbers (t .ground) → dims (t .ground) ≡ t .dims → length (t .offsets) ≡ t .count → Sized (dims (t .ground)) (t .offsets) → Bounded (dims (t .ground)) (t .part)
+      → length (t .capacities) ≡ t .count - 1 → length (t .order) ≡ cond (t .ordered) (t .count) 0 → t .dims ≤ 4 → t .count ≤ 32 → trimmed (chainOf t) numbers ≡ t
   unfolding trimmed chainOf
-  trimmed-chain sizes e same count sized bounded fifos terms few most = λ i. record {
-    dims = t .dims;
-    ground = chain-ground sizes e (sym (ap dims e) ∙ same) few i;
+  trimmed-chain again same count sized bounded fifos terms few most = λ i. record {
+    dims = chain-dims same i;
+    ground = chain-ground again same few i;
     count = t .count;
-    offsets = chain-offsets same count sized few most i;
-    part = chain-part same bounded few i;
+    offsets = (ap (λ (d : ℕ). offsetsOf d (chainOf t .window)) (chain-dims same) ∙ chain-offsets same count sized few most) i;
+    part = (ap (λ (d : ℕ). partOf d (chainOf t .bounds)) (chain-dims same) ∙ chain-part same bounded few) i;
     capacities = chain-capacities fifos most i;
     ordered = t .ordered;
     order = chain-order terms most i;
@@ -106,24 +160,62 @@ pub offsets-count : (dims : ℕ) (w : Window) → length (offsetsOf dims w) ≡ 
 unfolding offsetsOf
 offsets-count dims w = length-tabulate (w .count) (offsetOf dims w)
 
-pub offsets-sized : (g : Grid) (w : Window) → Sized (length (sizesOf g)) (offsetsOf (g .dims) w)
-unfolding sizesOf offsetOf offsetsOf
-offsets-sized g w k h =
-    let b = rw length-tabulate at h in
-    rw (getD-tabulate (w .count) (offsetOf (g .dims) w) k [] b) (length-tabulate (g .dims) _ ∙ sym (length-tabulate (g .dims) _))
+pub offsets-entries : (dims : ℕ) (w : Window) → Sized dims (offsetsOf dims w)
+unfolding offsetOf offsetsOf
+offsets-entries dims w k h = let b = rw length-tabulate at h in rw (getD-tabulate (w .count) (offsetOf dims w) k [] b) (length-tabulate dims _)
+
+pub offsets-sized : (g : Grid) (numbers : List ℕ) (w : Window) → Sized (dims (groundOf g numbers)) (offsetsOf (dimsOf g) w)
+offsets-sized g numbers w = subst (λ (d : ℕ). Sized d (offsetsOf (dimsOf g) w)) (sym (ground-dims g numbers)) (offsets-entries (dimsOf g) w)
 
 -- A box has a lowest and a highest index for each.
-pub part-bounded : (g : Grid) (b : Bounds) → Bounded (length (sizesOf g)) (partOf (g .dims) b)
-unfolding sizesOf partOf
-part-bounded g b = go (b .stood)
+pub part-entries : (dims : ℕ) (b : Bounds) → Bounded dims (partOf dims b)
+unfolding partOf
+part-entries dims b = go (b .stood)
   where
-    go : (t : Bool) → Bounded (length (sizesOf g)) (cond t (box (tabulate (g .dims) (λ d. getD (b .lowest) d (pos 0))) (tabulate (g .dims) (λ d. getD (b .highest) d (pos 0)))) whole)
-    go true = (length-tabulate (g .dims) _ ∙ sym (length-tabulate (g .dims) _), length-tabulate (g .dims) _ ∙ sym (length-tabulate (g .dims) _))
+    go : (stood : Bool) → Bounded dims (cond stood (box (tabulate dims (λ d. getD (b .lowest) d (pos 0))) (tabulate dims (λ d. getD (b .highest) d (pos 0)))) whole)
+    go true = (length-tabulate dims _, length-tabulate dims _)
     go false = tt
 
+pub part-bounded : (g : Grid) (numbers : List ℕ) (b : Bounds) → Bounded (dims (groundOf g numbers)) (partOf (dimsOf g) b)
+part-bounded g numbers b = subst (λ (d : ℕ). Bounded d (partOf (dimsOf g) b)) (sym (ground-dims g numbers)) (part-entries (dimsOf g) b)
+
+-- The same of a rectangle, by its sizes.
+pub sizes-sized : (g : Grid) (w : Window) → Sized (length (sizesOf g)) (offsetsOf (g .dims) w)
+sizes-sized g w = subst (λ (d : ℕ). Sized d (offsetsOf (g .dims) w)) (sym (sizes-count g)) (offsets-entries (g .dims) w)
+
+pub sizes-bounded : (g : Grid) (b : Bounds) → Bounded (length (sizesOf g)) (partOf (g .dims) b)
+sizes-bounded g b = subst (λ (d : ℕ). Bounded d (partOf (g .dims) b)) (sym (sizes-count g)) (part-entries (g .dims) b)
+
+-- A grid that is not skewed is a rectangle, whatever is lent beside it; one that is has two dimensions and its rows.
+module _ (g : Grid) (flat : g .skewed ≡ false) where
+  pub dims-flat : dimsOf g ≡ g .dims
+  unfolding dimsOf
+  dims-flat = rw flat
+
+  pub ground-flat : (numbers : List ℕ) → groundOf g numbers ≡ rectangle (sizesOf g)
+  unfolding groundOf
+  ground-flat numbers = rw flat
+
+  pub on-flat : (numbers : List ℕ) (w : Window) (b : Bounds) → onGrid g numbers w b ≡ onRectangle g w b
+  unfolding groundOf dimsOf
+  on-flat numbers w b = rw flat
+
+module _ (g : Grid) (skewed : g .skewed ≡ true) where
+  pub dims-skewed : dimsOf g ≡ 2
+  unfolding dimsOf
+  dims-skewed = rw skewed
+
+  pub ground-skewed : (numbers : List ℕ) → groundOf g numbers ≡ rows (rowsOf (g .rows) numbers)
+  unfolding groundOf
+  ground-skewed numbers = rw skewed
+
+  pub on-skewed : (numbers : List ℕ) (w : Window) (b : Bounds) → onGrid g numbers w b ≡ onRows (g .rows) numbers w b
+  unfolding groundOf dimsOf
+  on-skewed numbers w b = rw skewed
+
 -- A chain's normal form is the same chain.
-pub same-normal : (c : Chain) → c .grid .dims ≤ 4 → c .window .count ≤ 32 → Same (chainOf (trimmed c)) c
-unfolding trimmed sizesOf capacitiesOf
-same-normal c few most =
-    trimmed-chain (trimmed c) (sizesOf (c .grid)) refl (length-tabulate (c .grid .dims) _) (offsets-count (c .grid .dims) (c .window)) (offsets-sized (c .grid) (c .window))
-    (part-bounded (c .grid) (c .bounds)) (length-tabulate (c .window .count - 1) _) (length-order (c .window .count) (c .order)) few most
+pub same-normal : (c : Chain) (numbers : List ℕ) → dimsOf (c .grid) ≤ 4 → c .window .count ≤ 32 → Same (chainOf (trimmed c numbers)) numbers c numbers
+unfolding trimmed capacitiesOf
+same-normal c numbers few most =
+    trimmed-chain (trimmed c numbers) numbers (ground-again (c .grid) numbers) (ground-dims (c .grid) numbers) (offsets-count (dimsOf (c .grid)) (c .window)) (offsets-sized (c .grid) numbers (c .window))
+    (part-bounded (c .grid) numbers (c .bounds)) (length-tabulate (c .window .count - 1) _) (length-order (c .window .count) (c .order)) few most

@@ -9,6 +9,8 @@ use borrow.Author.Tests.{eqb-false, ltb-false}
 use Rattle.model.specs.Boxes.{badBox}
 use Rattle.model.specs.Values.{Trimmed}
 use Rattle.model.specs.Answers.{Check, check, firstOf, byVerdict}
+use Rattle.model.specs.Grounds.{Ground, dims}
+use Rattle.model.specs.Grounds.Ground.{rectangle, rows}
 use Rattle.model.specs.Judging.{badDims, badSizes, badGrid, badGround, badCount, repeats, noIteration, centred, lacksCentre, badFactor, tooLarge, badOrder, windowChecks, kernelChecks, chainChecks, valueChecks}
 use Rattle.model.specs.declared.Kernel.{Kernel}
 use Rattle.model.specs.declared.Refusal.{Refusal}
@@ -59,9 +61,10 @@ window-passes t e =
     record { grid = p3 .0; count = p4 .0; distinct = p5 .0; iterates = p6 .0; fits = p15 .0 }
 
 -- What 3 and 4, where they pass, say of the counts.
-pub few-dims : (dims : ℕ) (sizes : List ℕ) → badGrid dims sizes ≡ false → dims ≤ 4
+pub few-dims : (d : ℕ) (g : Ground) → dims g ≡ d → badGround d g ≡ false → d ≤ 4
 unfolding badGrid badDims
-few-dims dims sizes e = ltb-false 4 dims (neither (eqb dims 0) (ltb 4 dims) (neither (badDims dims) (badSizes sizes) e .0) .1)
+few-dims d (rectangle sizes) same e = ltb-false 4 d (neither (eqb d 0) (ltb 4 d) (neither (badDims d) (badSizes sizes) e .0) .1)
+few-dims d (rows rs) same e = omega arith
 
 pub some-references : (n : ℕ) → badCount n ≡ false → 0 < n
 unfolding badCount

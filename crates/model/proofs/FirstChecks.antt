@@ -9,7 +9,7 @@ use lib.Dec.{eqb, ltb}
 use lib.ListN.{length, getD}
 use Rattle.model.specs.Grounds.{Ground}
 use Rattle.model.specs.Grounds.Ground.{rectangle, rows}
-use Rattle.model.specs.Values.{Trimmed, trimmed}
+use Rattle.model.specs.Values.{groundOf, Trimmed, trimmed}
 use Rattle.model.specs.Answers.{numberOf, verdictNumber, Check, check, firstOf}
 use Rattle.model.specs.Judging.{groundRefusal, windowChecks, kernelChecks, chainChecks, valueChecks, judged, judgeChain}
 use Rattle.model.specs.Planning.{trimmedRequest, judgeRequest}
@@ -86,12 +86,12 @@ run : (t : Trimmed) (s : State) (store : List ℕ)
 unfolding numbersOf conditionsOf numberOf judgeRun
 run t s store = value-behind t _
 
-write : (c : Chain) (room : ℕ) → AnswersFirst (valueNumbers (trimmed c .ground) ++ (12 ∷ [])) (valueConditions (trimmed c) ++ (ltb room (length (sheetOf c)) ∷ [])) (writeVerdict c room)
-unfolding numbersOf conditionsOf numberOf writeVerdict judgeChain judged
+write : (c : Chain) (room : ℕ) → AnswersFirst (valueNumbers (groundOf (c .grid) []) ++ (12 ∷ [])) (valueConditions (trimmed c []) ++ (ltb room (length (sheetOf c)) ∷ [])) (writeVerdict c room)
+unfolding trimmed numbersOf conditionsOf numberOf writeVerdict judgeChain judged
 write c room =
     let last = check (ltb room (length (sheetOf c))) refusal.ShortOutput ∷ [] in
-    subst (AnswersFirst (valueNumbers (trimmed c .ground) ++ (12 ∷ [])) (valueConditions (trimmed c) ++ (ltb room (length (sheetOf c)) ∷ []))) (then-checks (valueChecks (trimmed c)) last)
-    (value-behind (trimmed c) last)
+    subst (AnswersFirst (valueNumbers (groundOf (c .grid) []) ++ (12 ∷ [])) (valueConditions (trimmed c []) ++ (ltb room (length (sheetOf c)) ∷ []))) (then-checks (valueChecks (trimmed c [])) last)
+    (value-behind (trimmed c []) last)
 
 line : (chainSheet : Bool) (r : Reading) (l : Seen) → AnswersFirst (1 ∷ 2 ∷ 3 ∷ 1 ∷ 3 ∷ 4 ∷ 13 ∷ []) (conditionsOf (lineChecks chainSheet r l)) (lineVerdict chainSheet r l)
 unfolding numbersOf numberOf lineChecks lineVerdict
@@ -102,11 +102,11 @@ unfolding numbersOf conditionsOf numberOf cellVerdict
 cell l = checks _
 
 pub first-checks : FirstChecks
-unfolding judgeChain judgeRequest judged
+unfolding judgeChain judgeRequest judged trimmed trimmedRequest
 first-checks = record {
   checks = checks;
-  chain = λ c. value (trimmed c);
-  request = λ r. value (trimmedRequest r);
+  chain = λ c numbers. value (trimmed c numbers);
+  request = λ r numbers. value (trimmedRequest r numbers);
   run = run;
   write = write;
   line = line;

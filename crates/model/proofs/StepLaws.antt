@@ -1,18 +1,22 @@
 -- Laws of the three steps of planning (document 003, section 3.3), of every grid, window and box that 3 to 6 and 15 let pass.
 use Prim.Native.Nat.{ℕ, suc, _+_, _-_, _≤_, _<_}
-use mathlib.Core.Bool.{Bool, true}
+use mathlib.Core.Bool.{Bool, true, false}
 use mathlib.Core.List.{List, [], _++_}
-use mathlib.Core.Path.{_≡_, refl, _∙_}
+use mathlib.Core.Path.{_≡_, refl, _∙_, ap}
 use native.Mathlib.Omega.{arith}
 use lib.ListN.{length, getD}
 use lib.IntN.{ℤ}
 use Rattle.model.specs.Lists.{tabulate, any}
 use Rattle.model.specs.Vectors.{before}
+use Rattle.model.specs.Grounds.{dims}
+use Rattle.model.specs.Courses.{count}
+use Rattle.model.specs.Boxes.{course, badBox}
+use Rattle.model.specs.Boxes.Part.{whole}
 use Rattle.model.specs.Sized.{Fitting}
-use Rattle.model.specs.Values.{Trimmed, sizesOf, offsetsOf, onGrid, windowOf, capacityArray, filterArray, chainOf, blankChain}
+use Rattle.model.specs.Values.{Trimmed, groundOf, dimsOf, offsetsOf, partOf, onGrid, windowOf, capacityArray, filterArray, chainOf, blankChain}
 use Rattle.model.specs.Iterations.{iterationsOf, distanceOf}
 use Rattle.model.specs.Answers.{firstOf, byVerdict}
-use Rattle.model.specs.Judging.{tooLarge, twice, badOrder, centred, windowChecks, kernelChecks, chainChecks, valueChecks, judged, judgeWindow, judgeBehind}
+use Rattle.model.specs.Judging.{noIteration, tooLarge, twice, badOrder, centred, windowChecks, kernelChecks, chainChecks, valueChecks, judged, judgeWindow, judgeBehind}
 use Rattle.model.specs.Steps.{falling, authorsOrder, sorted, distances, total, stepsOf, refusedSteps}
 use Rattle.model.specs.Planning.{trimmedRequest, judgeRequest, plannedChain, planOf, chainBy}
 use Rattle.model.specs.declared.Bounds.{Bounds}
@@ -27,9 +31,10 @@ use Rattle.model.specs.declared.Verdict.the-variants as verdict
 use Rattle.model.specs.declared.Window.{Window}
 use Rattle.model.proofs.ListLaws.{length-tabulate, getD-tabulate}
 use Rattle.model.proofs.Iterations.{some-covered}
+use Rattle.model.proofs.SameCourses.{same-course}
 use Rattle.model.proofs.SameWindows.{same-count, fitting-too}
-use Rattle.model.proofs.SortLaws.{length-falling, falling-each, falling-no-other, sized-falling, falling-falls}
-use Rattle.model.proofs.ChainLaws.{offsets-count, offsets-sized, part-bounded, offsets-back, capacities-back}
+use Rattle.model.proofs.SortLaws.{length-falling, falling-each, falling-no-other, sized-falling, falling-falls, repeats-falling}
+use Rattle.model.proofs.ChainLaws.{ground-dims, grid-normal, offsets-count, offsets-sized, part-bounded, offsets-back, capacities-back}
 use Rattle.model.proofs.CheckLaws.{then-checks, both-pass, WindowPasses, window-passes, few-dims, some-references, few-references}
 
 -- 9 of the distances is 9 of their sum; a request has no order, so there is no 14.
@@ -37,134 +42,146 @@ by-total : (k : Kernel) (centred : Bool) (n : ℕ) (t : Trimmed) → firstOf (ke
 unfolding judgeBehind total chainChecks kernelChecks tooLarge badOrder twice any firstOf
 by-total k centred n t = refl
 
-module _ (g : Grid) (w : Window) where
-  abbrev sizes : List ℕ
-  sizes = sizesOf g
-
+module _ (g : Grid) (numbers : List ℕ) (w : Window) where
   -- The author's offsets, and these sorted.
   abbrev given : List (List ℤ)
-  given = offsetsOf (g .dims) w
+  given = offsetsOf (dimsOf g) w
 
   abbrev arranged : List (List ℤ)
   arranged = falling given
 
   pub arranged-count : length arranged ≡ w .count
-  arranged-count = length-falling given ∙ offsets-count (g .dims) w
+  arranged-count = length-falling given ∙ offsets-count (dimsOf g) w
 
-  pub arranged-sized : (k : ℕ) → k < w .count → length (getD arranged k []) ≡ length sizes
-  arranged-sized k h = sized-falling (length sizes) given (offsets-sized g w) k (omega (arith, arranged-count))
+  pub arranged-sized : (k : ℕ) → k < w .count → length (getD arranged k []) ≡ dims (groundOf g numbers)
+  arranged-sized k h = sized-falling (dims (groundOf g numbers)) given (offsets-sized g numbers w) k (omega (arith, arranged-count))
 
   module _ (bounds : Bounds) where
     -- What the steps answer, by what comes before them.
-    pub steps-verdict : stepsOf g w bounds .verdict ≡ judgeWindow g w bounds
+    pub steps-verdict : stepsOf g numbers w bounds .verdict ≡ judgeWindow g numbers w bounds
     unfolding stepsOf
-    steps-verdict = go (judgeWindow g w bounds) refl
+    steps-verdict = go (judgeWindow g numbers w bounds) refl
       where
-        go : (v : Verdict) → judgeWindow g w bounds ≡ v → stepsOf g w bounds .verdict ≡ judgeWindow g w bounds
+        go : (v : Verdict) → judgeWindow g numbers w bounds ≡ v → stepsOf g numbers w bounds .verdict ≡ judgeWindow g numbers w bounds
         go verdict.Accepted e = rw e
         go (verdict.Refused x) e = rw e
 
-    pub steps-refused : (x : Refusal) → judgeWindow g w bounds ≡ verdict.Refused x → stepsOf g w bounds ≡ refusedSteps x
+    pub steps-refused : (x : Refusal) → judgeWindow g numbers w bounds ≡ verdict.Refused x → stepsOf g numbers w bounds ≡ refusedSteps x
     unfolding stepsOf
     steps-refused x e = rw e
 
-    module _ (e : judgeWindow g w bounds ≡ verdict.Accepted) where
-      pub steps-taken : stepsOf g w bounds ≡ (record {
+    -- Of a rectangle whatever is lent beside it plays no part.
+    pub steps-flat : g .skewed ≡ false → stepsOf g numbers w bounds ≡ stepsOf g [] w bounds
+    unfolding stepsOf groundOf
+    steps-flat flat = rw flat
+
+    module _ (e : judgeWindow g numbers w bounds ≡ verdict.Accepted) where
+      pub steps-taken : stepsOf g numbers w bounds ≡ (record {
         verdict = verdict.Accepted;
         window = windowOf (w .count) arranged;
         filters = filterArray (authorsOrder given);
-        distances = capacityArray (distances (sorted (onGrid g w bounds)));
-        total = total (sorted (onGrid g w bounds));
+        distances = capacityArray (distances (sorted (onGrid g numbers w bounds)));
+        total = total (sorted (onGrid g numbers w bounds));
       })
       unfolding stepsOf sorted
       steps-taken = rw e
 
-      pub passed : WindowPasses (onGrid g w bounds)
-      passed = window-passes (onGrid g w bounds) e
+      pub passed : WindowPasses (onGrid g numbers w bounds)
+      passed = window-passes (onGrid g numbers w bounds) e
 
       -- Window and box fit the grid, also with the offsets sorted.
-      pub given-fits : Fitting (onGrid g w bounds)
+      pub given-fits : Fitting (onGrid g numbers w bounds)
       given-fits = record {
-        references = offsets-count (g .dims) w;
+        references = offsets-count (dimsOf g) w;
         suits = record {
-          some = omega (arith, offsets-count (g .dims) w, some-references (w .count) (passed .count));
-          entries = offsets-sized g w;
-          bounded = part-bounded g bounds;
+          some = omega (arith, offsets-count (dimsOf g) w, some-references (w .count) (passed .count));
+          entries = offsets-sized g numbers w;
+          bounded = part-bounded g numbers bounds;
           fits = passed .fits;
         };
       }
 
-      pub arranged-fits : Fitting (sorted (onGrid g w bounds))
+      pub arranged-fits : Fitting (sorted (onGrid g numbers w bounds))
       unfolding sorted
       arranged-fits =
-          fitting-too (onGrid g w bounds) (sorted (onGrid g w bounds)) refl (falling-each given) (falling-no-other given) refl given-fits arranged-count
-          (λ k h. arranged-sized k (omega (arith, arranged-count))) (part-bounded g bounds)
+          fitting-too (onGrid g numbers w bounds) (sorted (onGrid g numbers w bounds)) refl (falling-each given) (falling-no-other given) refl given-fits arranged-count
+          (λ k h. arranged-sized k (omega (arith, arranged-count))) (part-bounded g numbers bounds)
+
+      -- The sorted window is let pass as the author's is.
+      pub arranged-judged : firstOf (windowChecks (sorted (onGrid g numbers w bounds))) ≡ verdict.Accepted
+      unfolding sorted windowChecks noIteration course
+      arranged-judged = ap firstOf same ∙ e
+        where
+          boxed : badBox (groundOf g numbers) arranged (partOf (dimsOf g) bounds) ≡ false
+          boxed = arranged-fits .suits .fits
+
+          same : windowChecks (sorted (onGrid g numbers w bounds)) ≡ windowChecks (onGrid g numbers w bounds)
+          same = rw (repeats-falling given, ap count (same-course arranged given (falling-no-other given) (falling-each given) (groundOf g numbers) whole), boxed, passed .fits)
 
       few : w .count ≤ 32
       few = few-references (w .count) (passed .count)
 
       -- The offsets: in their array they are those sorted, each strictly before the one in front of it.
-      pub arranged-back : offsetsOf (g .dims) (windowOf (w .count) arranged) ≡ arranged
-      unfolding sizesOf
+      pub arranged-back : offsetsOf (dimsOf g) (windowOf (w .count) arranged) ≡ arranged
       arranged-back =
-          offsets-back (g .dims) (w .count) arranged arranged-count (λ k h. arranged-sized k h ∙ length-tabulate (g .dims) _)
-          (few-dims (g .dims) sizes (passed .grid)) few
+          offsets-back (dimsOf g) (w .count) arranged arranged-count (λ k h. arranged-sized k h ∙ ground-dims g numbers)
+          (few-dims (dimsOf g) (groundOf g numbers) (ground-dims g numbers) (passed .grid)) few
 
       pub arranged-falls : (k : ℕ) → suc k < w .count → before (getD arranged (suc k) []) (getD arranged k []) ≡ true
-      arranged-falls k h = falling-falls (length sizes) given (offsets-sized g w) (passed .distinct) k (omega (arith, arranged-count))
+      arranged-falls k h = falling-falls (dims (groundOf g numbers)) given (offsets-sized g numbers w) (passed .distinct) k (omega (arith, arranged-count))
 
       -- The distances: of the sorted offsets, in their array.
-      pub distance-there : (k : ℕ) → suc k < w .count → getD (capacityArray (distances (sorted (onGrid g w bounds)))) k 0 ≡ distanceOf (sorted (onGrid g w bounds)) k
+      pub distance-there : (k : ℕ) → suc k < w .count → getD (capacityArray (distances (sorted (onGrid g numbers w bounds)))) k 0 ≡ distanceOf (sorted (onGrid g numbers w bounds)) k
       unfolding distances sorted
       distance-there k h =
-          getD-tabulate 31 _ k 0 (omega (arith, few)) ∙ getD-tabulate (w .count - 1) (distanceOf (sorted (onGrid g w bounds))) k 0 (omega arith)
+          getD-tabulate 31 _ k 0 (omega (arith, few)) ∙ getD-tabulate (w .count - 1) (distanceOf (sorted (onGrid g numbers w bounds))) k 0 (omega arith)
 
       -- There is an iteration, of all and of those that a run covers.
-      pub some-given : 0 < iterationsOf (onGrid g w bounds)
-      some-given = some-covered (onGrid g w bounds) (part-bounded g bounds) (passed .fits) (passed .iterates)
+      pub some-given : 0 < iterationsOf (onGrid g numbers w bounds)
+      some-given = some-covered (onGrid g numbers w bounds) (part-bounded g numbers bounds) (passed .fits) (passed .iterates)
 
-      pub some-arranged : 0 < iterationsOf (sorted (onGrid g w bounds))
+      pub some-arranged : 0 < iterationsOf (sorted (onGrid g numbers w bounds))
       unfolding sorted
       some-arranged =
-          omega (arith, some-given, same-count (onGrid g w bounds) (sorted (onGrid g w bounds)) refl (falling-each given) (falling-no-other given) refl)
+          omega (arith, some-given, same-count (onGrid g numbers w bounds) (sorted (onGrid g numbers w bounds)) refl (falling-each given) (falling-no-other given) refl)
 
       -- Their sum: that of as many as there are pairs.
-      pub distances-back : tabulate (w .count - 1) (λ k. getD (capacityArray (distances (sorted (onGrid g w bounds)))) k 0) ≡ distances (sorted (onGrid g w bounds))
+      pub distances-back : tabulate (w .count - 1) (λ k. getD (capacityArray (distances (sorted (onGrid g numbers w bounds)))) k 0) ≡ distances (sorted (onGrid g numbers w bounds))
       unfolding distances sorted
-      distances-back = capacities-back (w .count - 1) (distances (sorted (onGrid g w bounds))) (length-tabulate (w .count - 1) _) (omega (arith, few))
+      distances-back = capacities-back (w .count - 1) (distances (sorted (onGrid g numbers w bounds))) (length-tabulate (w .count - 1) _) (omega (arith, few))
 
 -- A request is judged by what comes before the steps, then by 7 and 8, then by 9 of their total,
-module _ (r : Request) where
+module _ (r : Request) (numbers : List ℕ) where
   abbrev steps : Steps
-  steps = stepsOf (r .grid) (r .window) (r .bounds)
+  steps = stepsOf (r .grid) numbers (r .window) (r .bounds)
 
   abbrev hasCentre : Bool
-  hasCentre = centred (offsetsOf (r .grid .dims) (r .window))
+  hasCentre = centred (offsetsOf (dimsOf (r .grid)) (r .window))
 
-  pub judged-by-steps : judgeRequest r ≡ byVerdict (steps .verdict) (judgeBehind (r .kernel) hasCentre (steps .total)) verdict.Refused
+  pub judged-by-steps : judgeRequest r numbers ≡ byVerdict (steps .verdict) (judgeBehind (r .kernel) hasCentre (steps .total)) verdict.Refused
   unfolding judgeRequest judged valueChecks trimmedRequest windowChecks
-  judged-by-steps = then-checks (windowChecks (trimmedRequest r)) _ ∙ go (judgeWindow (r .grid) (r .window) (r .bounds)) refl
+  judged-by-steps = then-checks (windowChecks (trimmedRequest r numbers)) _ ∙ go (judgeWindow (r .grid) numbers (r .window) (r .bounds)) refl
     where
-      go : (v : Verdict) → judgeWindow (r .grid) (r .window) (r .bounds) ≡ v
-          → byVerdict (judgeWindow (r .grid) (r .window) (r .bounds)) (firstOf (kernelChecks (r .kernel) hasCentre ++ chainChecks (distances (sorted (onGrid (r .grid) (r .window) (r .bounds)))) (r .window .count) [])) verdict.Refused
+      go : (v : Verdict) → judgeWindow (r .grid) numbers (r .window) (r .bounds) ≡ v
+          → byVerdict (judgeWindow (r .grid) numbers (r .window) (r .bounds)) (firstOf (kernelChecks (r .kernel) hasCentre ++ chainChecks (distances (sorted (onGrid (r .grid) numbers (r .window) (r .bounds)))) (r .window .count) [])) verdict.Refused
           ≡ byVerdict (steps .verdict) (judgeBehind (r .kernel) hasCentre (steps .total)) verdict.Refused
-      go verdict.Accepted e = rw (e, steps-taken (r .grid) (r .window) (r .bounds) e) (by-total (r .kernel) hasCentre (r .window .count) (sorted (onGrid (r .grid) (r .window) (r .bounds))))
-      go (verdict.Refused x) e = rw (e, steps-refused (r .grid) (r .window) (r .bounds) x e)
+      go verdict.Accepted e = rw (e, steps-taken (r .grid) numbers (r .window) (r .bounds) e) (by-total (r .kernel) hasCentre (r .window .count) (sorted (onGrid (r .grid) numbers (r .window) (r .bounds))))
+      go (verdict.Refused x) e = rw (e, steps-refused (r .grid) numbers (r .window) (r .bounds) x e)
 
-  pub request-passes : judgeRequest r ≡ verdict.Accepted → judgeWindow (r .grid) (r .window) (r .bounds) ≡ verdict.Accepted
+  pub request-passes : judgeRequest r numbers ≡ verdict.Accepted → judgeWindow (r .grid) numbers (r .window) (r .bounds) ≡ verdict.Accepted
   unfolding judgeRequest judged valueChecks trimmedRequest windowChecks
-  request-passes e = both-pass (windowChecks (trimmedRequest r)) _ e .0
+  request-passes e = both-pass (windowChecks (trimmedRequest r numbers)) _ e .0
 
-  pub plan-verdict : planOf r .verdict ≡ judgeRequest r
+  pub plan-verdict : planOf r numbers .verdict ≡ judgeRequest r numbers
   unfolding planOf
-  plan-verdict = go (judgeRequest r)
+  plan-verdict = go (judgeRequest r numbers)
     where
-      go : (v : Verdict) → byVerdict {A = Planned} v (record { verdict = verdict.Accepted; chain = plannedChain r }) (λ x. record { verdict = verdict.Refused x; chain = blankChain }) .verdict ≡ v
+      go : (v : Verdict) → byVerdict {A = Planned} v (record { verdict = verdict.Accepted; chain = plannedChain r numbers }) (λ x. record { verdict = verdict.Refused x; chain = blankChain }) .verdict ≡ v
       go verdict.Accepted = refl
       go (verdict.Refused x) = refl
 
   -- and its chain is made of their results.
-  module _ (e : judgeWindow (r .grid) (r .window) (r .bounds) ≡ verdict.Accepted) where
-    pub chain-by-steps : plannedChain r ≡ chainBy (r .grid) (r .bounds) (r .kernel) steps
+  module _ (e : judgeWindow (r .grid) numbers (r .window) (r .bounds) ≡ verdict.Accepted) where
+    pub chain-by-steps : plannedChain r numbers ≡ chainBy (r .grid) (r .bounds) (r .kernel) steps
     unfolding plannedChain trimmedRequest sorted chainOf
-    chain-by-steps = rw (steps-taken (r .grid) (r .window) (r .bounds) e)
+    chain-by-steps = rw (grid-normal (r .grid) numbers, steps-taken (r .grid) numbers (r .window) (r .bounds) e)

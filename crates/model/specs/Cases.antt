@@ -14,7 +14,7 @@ use Rattle.model.specs.Grounds.Ground.{rectangle}
 use Rattle.model.specs.Courses.{count, vector, allIterations}
 use Rattle.model.specs.Boxes.{Part, indexCount, widths, boxShape, boxCourse, course, crossed, readsOutside, badBox}
 use Rattle.model.specs.Boxes.Part.{whole, box}
-use Rattle.model.specs.Values.{sizesOf, offsetOf, offsetsOf, partOf, capacitiesOf, orderOf, trimmed, boundsOf, chainOf, requestOf}
+use Rattle.model.specs.Values.{sizesOf, offsetOf, offsetsOf, partOf, capacitiesOf, orderOf, trimmed, boundsOf, chainOf, requestOf, groundOf, dimsOf, gridOf}
 use Rattle.model.specs.Iterations.{cellsOf, positionOf, courseOf, iterationsOf, iterationOf, readsOf, firsts, distanceIn, distanceOf}
 use Rattle.model.specs.Answers.{numberOf, verdictNumber, outcomeCase, outcomeCounts, answerCounts, answerNumber, firstOf}
 use Rattle.model.specs.Judging.{badDims, badSizes, badGrid, badCount, repeats, noIteration, needsCentre, lacksCentre, notFinite, badFactor, tooLarge, twice, badOrder, windowChecks, kernelChecks, chainChecks, valueChecks, judged}
@@ -73,8 +73,8 @@ rawChain part sizes offsets capacities =
 
 unfoldable pub planned : Part → List ℕ → List (List ℤ) → Result
 planned part sizes offsets =
-    let p = planOf (requestOf (rawChain part sizes offsets [])) in
-    let t = trimmed (p .chain) in
+    let p = planOf (requestOf (rawChain part sizes offsets [])) [] in
+    let t = trimmed (p .chain) [] in
     record { number = verdictNumber (p .verdict); offsets = t .offsets; part = t .part; capacities = t .capacities; order = t .order; outcome = 0; cells = 0; clocks = 0; firing = []; words = [] }
 
 unfoldable pub start : State
@@ -83,7 +83,7 @@ start = record { passed = replicate 32 (record { 0 = 0 }); fired = record { 0 = 
 unfoldable pub ran : Part → List ℕ → List (List ℤ) → List ℕ → Result
 ran part sizes offsets capacities =
     let c = rawChain part sizes offsets capacities in
-    let t = trimmed c in
+    let t = trimmed c [] in
     let cells = product sizes in
     let store : List ℕ = replicate (sum capacities) 0 in
     let lent : List ℕ = tabulate cells (λ p. p) in
@@ -180,5 +180,5 @@ cases =
     ∷ []
 
 pub table : map answered cases ≡ map expected cases
-unfolding answered copied expected cases cross crossByRows planned ran start endOf firingClocks tabulate upTo sum product greatest all any someBelow same above plus equal before isZero rectangular.cellCount cellCount place natural position cellPlace cellAt firstEntry otherEntries leastFrom least lows extent extents indices count vector allIterations rectangular.inside inside isIteration indexCount widths boxShape boxCourse course crossed readsOutside badBox cellsOf positionOf courseOf iterationsOf iterationOf readsOf firsts distanceIn distanceOf sizesOf offsetOf offsetsOf partOf capacitiesOf orderOf trimmed chainOf boundsOf numberOf verdictNumber outcomeCase outcomeCounts answerCounts answerNumber firstOf badDims badSizes badGrid badCount repeats noIteration needsCentre lacksCentre notFinite badFactor tooLarge twice badOrder windowChecks kernelChecks chainChecks valueChecks judged insert falling whichOf authorsOrder distances trimmedRequest judgeRequest sorted plannedChain planOf wordsAt terms written width centreOf turn limit turns ready fires next moves firstPlace placeIn presented stored layout countersOf withCounters outcomeOf words clocked look call events shortStore notPast badCounter badFifo badFilters badState judgeRun begun filtersOf termsOf writesOf writtenBy widthOf ended runTrimmed eventsTrimmed
+unfolding answered copied expected cases cross crossByRows planned ran start endOf firingClocks tabulate upTo sum product greatest all any someBelow same above plus equal before isZero rectangular.cellCount cellCount place natural position cellPlace cellAt firstEntry otherEntries leastFrom least lows extent extents indices count vector allIterations rectangular.inside inside isIteration indexCount widths boxShape boxCourse course crossed readsOutside badBox cellsOf positionOf courseOf iterationsOf iterationOf readsOf firsts distanceIn distanceOf sizesOf groundOf dimsOf offsetOf offsetsOf partOf capacitiesOf orderOf trimmed chainOf gridOf boundsOf numberOf verdictNumber outcomeCase outcomeCounts answerCounts answerNumber firstOf badDims badSizes badGrid badCount repeats noIteration needsCentre lacksCentre notFinite badFactor tooLarge twice badOrder windowChecks kernelChecks chainChecks valueChecks judged insert falling whichOf authorsOrder distances trimmedRequest judgeRequest sorted plannedChain planOf wordsAt terms written width centreOf turn limit turns ready fires next moves firstPlace placeIn presented stored layout countersOf withCounters outcomeOf words clocked look call events shortStore notPast badCounter badFifo badFilters badState judgeRun begun filtersOf termsOf writesOf writtenBy widthOf ended runTrimmed eventsTrimmed
 table = refl

@@ -7,7 +7,7 @@ use lib.Dec.{eqb, ltb}
 use lib.ListN.{length, getD}
 use Rattle.model.specs.Grounds.{Ground}
 use Rattle.model.specs.Grounds.Ground.{rectangle, rows}
-use Rattle.model.specs.Values.{Trimmed, trimmed}
+use Rattle.model.specs.Values.{Trimmed, trimmed, groundOf}
 use Rattle.model.specs.Answers.{numberOf, verdictNumber, Check, firstOf}
 use Rattle.model.specs.Judging.{valueChecks, judgeChain}
 use Rattle.model.specs.Planning.{trimmedRequest, judgeRequest}
@@ -59,13 +59,13 @@ valueNumbers g = gridNumber g ∷ 4 ∷ 5 ∷ 6 ∷ 15 ∷ 7 ∷ 8 ∷ 9 ∷ 14 
 pub record FirstChecks : Type 0 where
   pub checks : (cs : List Check) → AnswersFirst (numbersOf cs) (conditionsOf cs) (firstOf cs)
   -- "A chain or request handed over as a value is judged by 3 to 9, lowest first"; "14 .. after 9", "15 .. after 6"
-  pub chain : (c : Chain) → AnswersFirst (valueNumbers (trimmed c .ground)) (valueConditions (trimmed c)) (judgeChain c)
-  pub request : (r : Request) → AnswersFirst (valueNumbers (trimmedRequest r .ground)) (valueConditions (trimmedRequest r)) (judgeRequest r)
+  pub chain : (c : Chain) (numbers : List ℕ) → AnswersFirst (valueNumbers (groundOf (c .grid) numbers)) (valueConditions (trimmed c numbers)) (judgeChain c numbers)
+  pub request : (r : Request) (numbers : List ℕ) → AnswersFirst (valueNumbers (groundOf (r .grid) numbers)) (valueConditions (trimmedRequest r numbers)) (judgeRequest r numbers)
   -- "A run looks at the chain first, then 10, then 11."
   pub run : (t : Trimmed) (s : State) (store : List ℕ)
       → AnswersFirst (valueNumbers (t .ground) ++ (10 ∷ 11 ∷ [])) (valueConditions t ++ (shortStore t store ∷ badState (layout t) (countersOf (t .count) s) ∷ [])) (judgeRun t s store)
   -- 12 is "looked at last".
-  pub write : (c : Chain) (room : ℕ) → AnswersFirst (valueNumbers (trimmed c .ground) ++ (12 ∷ [])) (valueConditions (trimmed c) ++ (ltb room (length (sheetOf c)) ∷ [])) (writeVerdict c room)
+  pub write : (c : Chain) (room : ℕ) → AnswersFirst (valueNumbers (groundOf (c .grid) []) ++ (12 ∷ [])) (valueConditions (trimmed c []) ++ (ltb room (length (sheetOf c)) ∷ [])) (writeVerdict c room)
   -- A sheet's line: form 1, order 2, a bad count 3, a wrong length 1, sizes 3, a 33rd `02` line 4, a bad name 13; and a line where a cell is wanted: 1, then 2.
   pub line : (chainSheet : Bool) (r : Reading) (l : Seen) → AnswersFirst (1 ∷ 2 ∷ 3 ∷ 1 ∷ 3 ∷ 4 ∷ 13 ∷ []) (conditionsOf (lineChecks chainSheet r l)) (lineVerdict chainSheet r l)
   pub cell : (l : Seen) → AnswersFirst (1 ∷ 2 ∷ []) (malformed (l .sound) (l .len) (kindOf l) (secondOf l) ∷ not (eqb (kindOf l) 5) ∷ []) (cellVerdict l)

@@ -13,7 +13,7 @@ use Rattle.model.specs.Grounds.{Row, Ground}
 use Rattle.model.specs.Grounds.Ground.{rectangle, rows}
 use Rattle.model.specs.Courses.{count, allIterations}
 use Rattle.model.specs.Boxes.{badBox}
-use Rattle.model.specs.Values.{Trimmed, trimmed, onGrid}
+use Rattle.model.specs.Values.{Trimmed, trimmed, onGrid, onRectangle, onRows}
 use Rattle.model.specs.Answers.{Check, check, firstOf}
 use Rattle.model.specs.declared.Bounds.{Bounds}
 use Rattle.model.specs.declared.Chain.{Chain}
@@ -119,8 +119,15 @@ windowChecks t =
     ∷ []
 
 -- (what they answer by themselves)
-abbrev pub judgeWindow : Grid → Window → Bounds → Verdict
-judgeWindow g w b = firstOf (windowChecks (onGrid g w b))
+abbrev pub judgeWindow : Grid → (numbers : List ℕ) → Window → Bounds → Verdict
+judgeWindow g numbers w b = firstOf (windowChecks (onGrid g numbers w b))
+
+-- (on a rectangle, and on rows)
+abbrev pub judgeRectangle : Grid → Window → Bounds → Verdict
+judgeRectangle g w b = firstOf (windowChecks (onRectangle g w b))
+
+abbrev pub judgeRows : (count : ℕ) (numbers : List ℕ) → Window → Bounds → Verdict
+judgeRows count numbers w b = firstOf (windowChecks (onRows count numbers w b))
 
 -- 7 and 8, of a kernel, where the window has a centre or has none,
 unfoldable pub kernelChecks : Kernel → (centred : Bool) → List Check
@@ -142,5 +149,5 @@ judged t = firstOf (valueChecks t)
 unfoldable pub judgeBehind : Kernel → (centred : Bool) → (total : ℕ) → Verdict
 judgeBehind k centred total = firstOf (kernelChecks k centred ++ (check (ltb mostPlaces total) refusal.TooLarge ∷ []))
 
-unfoldable pub judgeChain : Chain → Verdict
-judgeChain c = judged (trimmed c)
+unfoldable pub judgeChain : Chain → (numbers : List ℕ) → Verdict
+judgeChain c numbers = judged (trimmed c numbers)

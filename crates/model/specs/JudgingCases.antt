@@ -12,7 +12,7 @@ use Rattle.model.specs.Geometry as rectangular
 use Rattle.model.specs.Grounds.{cellCount, inside, cellPlace, position, cellAt, isIteration}
 use Rattle.model.specs.Courses.{count, vector, allIterations}
 use Rattle.model.specs.Boxes.{indexCount, widths, boxShape, boxCourse, course, crossed, readsOutside, badBox}
-use Rattle.model.specs.Values.{sizesOf, offsetOf, offsetsOf, partOf, capacitiesOf, orderOf, trimmed, noBounds, noOrder, requestOf}
+use Rattle.model.specs.Values.{sizesOf, offsetOf, offsetsOf, partOf, capacitiesOf, orderOf, trimmed, noBounds, noOrder, requestOf, groundOf, dimsOf}
 use Rattle.model.specs.Iterations.{positionOf, courseOf, iterationOf, readsOf, firsts, distanceIn, distanceOf}
 use Rattle.model.specs.Answers.{numberOf, verdictNumber, firstOf}
 use Rattle.model.specs.Judging.{badDims, badSizes, badGrid, badCount, repeats, noIteration, needsCentre, lacksCentre, notFinite, badFactor, tooLarge, twice, badOrder, windowChecks, kernelChecks, chainChecks, valueChecks, judged, judgeChain}
@@ -36,7 +36,7 @@ pub record Case : Type 0 where
   pub numbers : Numbers
 
 unfoldable pub answered : Case → Numbers
-answered c = record { chain = verdictNumber (judgeChain (c .value)); request = verdictNumber (judgeRequest (requestOf (c .value))) }
+answered c = record { chain = verdictNumber (judgeChain (c .value) []); request = verdictNumber (judgeRequest (requestOf (c .value)) []) }
 
 unfoldable pub expected : Case → Numbers
 expected c = c .numbers
@@ -68,10 +68,10 @@ case g count offsets capacities k chain request = ordered false g count offsets 
 
 -- A grid in one dimension, with sizes 0 past it, and others.
 abbrev line : ℕ → Grid
-line size = record { dims = 1; sizes = size ∷ 0 ∷ 0 ∷ 0 ∷ [] }
+line size = record { skewed = false; rows = 0; dims = 1; sizes = size ∷ 0 ∷ 0 ∷ 0 ∷ [] }
 
 abbrev grid : ℕ → List ℕ → Grid
-grid dims sizes = record { dims = dims; sizes = sizes }
+grid dims sizes = record { skewed = false; rows = 0; dims = dims; sizes = sizes }
 
 abbrev scaledBy : ℕ → Kernel
 scaledBy f = kernel.Scaled (float f)
@@ -165,7 +165,7 @@ cases =
 pub table : map answered cases ≡ map expected cases
 unfolding answered expected cases flatMap ofBits tabulate sum product greatest all any someBelow same above plus equal before isZero
     rectangular.cellCount cellCount place natural position cellPlace cellAt firstEntry otherEntries leastFrom least lows extent extents indices count vector allIterations rectangular.inside inside isIteration indexCount widths boxShape boxCourse course crossed readsOutside badBox positionOf courseOf iterationOf readsOf firsts distanceIn distanceOf
-    sizesOf offsetOf offsetsOf partOf capacitiesOf orderOf trimmed numberOf verdictNumber firstOf
+    sizesOf groundOf dimsOf offsetOf offsetsOf partOf capacitiesOf orderOf trimmed numberOf verdictNumber firstOf
     badDims badSizes badGrid badCount repeats noIteration needsCentre lacksCentre notFinite badFactor tooLarge twice badOrder windowChecks kernelChecks chainChecks valueChecks judged judgeChain
     insert falling whichOf authorsOrder sorted distances trimmedRequest judgeRequest
 table = refl

@@ -13,7 +13,7 @@ use Rattle.model.specs.Grounds.{cellCount, inside, cellPlace, position, 
 use Rattle.model.specs.Courses.{count, vector, allIterations}
 use Rattle.model.specs.Geometry.{indices}
 use Rattle.model.specs.Boxes.{indexCount, widths, boxShape, boxCourse, course, crossed, readsOutside, badBox}
-use Rattle.model.specs.Values.{sizesOf, offsetOf, offsetsOf, partOf, capacitiesOf, orderOf, trimmed, boundsOf, chainOf}
+use Rattle.model.specs.Values.{sizesOf, offsetOf, offsetsOf, partOf, capacitiesOf, orderOf, trimmed, boundsOf, chainOf, groundOf, dimsOf, gridOf}
 use Rattle.model.specs.Iterations.{cellsOf, positionOf, courseOf, iterationsOf, iterationOf, readsOf, firsts, distanceIn, distanceOf}
 use Rattle.model.specs.Answers.{numberOf, verdictNumber, firstOf}
 use Rattle.model.specs.Judging.{badDims, badSizes, badGrid, badCount, repeats, noIteration, needsCentre, lacksCentre, notFinite, badFactor, tooLarge, twice, badOrder, windowChecks, kernelChecks, chainChecks, valueChecks, judged, judgeChain}
@@ -140,7 +140,7 @@ pub table : (all planRight plans && all runRight runs) ≡ true
 unfolding bytesIn plans runs sameBytes planRight runRight flatMap ofBits toBits add sub mul
     tabulate upTo without sum product greatest all any someBelow same above plus equal before isZero
     rectangular.cellCount cellCount place natural position cellPlace cellAt firstEntry otherEntries leastFrom least lows extent extents indices count vector allIterations rectangular.inside inside isIteration indexCount widths boxShape boxCourse course crossed readsOutside badBox cellsOf positionOf courseOf iterationsOf iterationOf readsOf firsts distanceIn distanceOf
-    sizesOf offsetOf offsetsOf partOf capacitiesOf orderOf chainOf boundsOf numberOf verdictNumber firstOf
+    sizesOf groundOf dimsOf offsetOf offsetsOf partOf capacitiesOf orderOf chainOf gridOf boundsOf numberOf verdictNumber firstOf
     badDims badSizes badGrid badCount repeats noIteration needsCentre lacksCentre notFinite badFactor tooLarge twice badOrder windowChecks kernelChecks chainChecks valueChecks judged judgeChain
     insert falling whichOf authorsOrder distances trimmedRequest judgeRequest sorted trimmed plannedChain
     sumFrom sumOf centreOf wordsAt terms squared difference scaled blend written width

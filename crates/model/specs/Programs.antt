@@ -45,7 +45,7 @@ firingsText size index (suc n) words = framed (firingLine index (take size words
 unfoldable pub planText : (input : List ℕ) → List ℕ
 planText input =
     let r = readRequest input in
-    let sheet = sheetOf (plannedChain (r .request)) in
+    let sheet = sheetOf (plannedChain (r .request) []) in
     byVerdict (r .verdict) sheet refusalText
 
 -- "`run` reads a chain sheet followed by `05` lines": the lines of the sheet, to its `04`, and the lines behind it.
@@ -100,11 +100,11 @@ unfoldable pub runText : (input : List ℕ) → List ℕ
 runText input =
     let p = sheetAndBehind start (linesOf input) in
     let chain = p .step .reading .chain in
-    let t = trimmed chain in
+    let t = trimmed chain [] in
     let e = wholeRun t (cellsIn (p .behind)) in
     let done = e .standing .done in
     let text = firingsText (widthOf t) 0 (done .firings) (e .standing .output) ++ endText (e .ending) (done .clocks) (behindCells (p .behind)) in
-    byVerdict (endVerdict (p .step) (judgeChain chain)) text refusalText
+    byVerdict (endVerdict (p .step) (judgeChain chain [])) text refusalText
 
 -- No firing writes more words, and no `10` line has more characters.
 abbrev pub mostWords : ℕ

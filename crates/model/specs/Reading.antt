@@ -136,7 +136,7 @@ lineVerdict chainSheet r l = firstOf (lineChecks chainSheet r l)
 -- What a line with the bytes x adds. An `01` line: the grid.
 unfoldable pub withGrid : Reading → List ℕ → Reading
 withGrid r x =
-    record { last = stood.Grid; given = r .given; chain = setGrid (record { dims = byteAt x 1; sizes = sizesIn x }) (r .chain) }
+    record { last = stood.Grid; given = r .given; chain = setGrid (record { skewed = false; rows = 0; dims = byteAt x 1; sizes = sizesIn x }) (r .chain) }
 
 -- The entries on an `02` line, 0 past its end.
 unfoldable pub entriesIn : List ℕ → List ℤ
@@ -245,13 +245,13 @@ endVerdict s judged =
 unfoldable pub readChain : List ℕ → ReadChain
 readChain sheet =
     let s = readLines true start (linesOf sheet) in
-    let v = endVerdict s (judgeChain (s .reading .chain)) in
+    let v = endVerdict s (judgeChain (s .reading .chain) []) in
     record { verdict = v; chain = byVerdict v (s .reading .chain) (λ x. blankChain) }
 
 unfoldable pub readRequest : List ℕ → ReadRequest
 readRequest sheet =
     let s = readLines false start (linesOf sheet) in
-    let v = endVerdict s (judgeRequest (requestOf (s .reading .chain))) in
+    let v = endVerdict s (judgeRequest (requestOf (s .reading .chain)) []) in
     record { verdict = v; request = requestOf (byVerdict v (s .reading .chain) (λ x. blankChain)) }
 
 -- Where a cell is wanted: 1 as on any line, then 2 for a line other than `05`; and the cell of an `05` line.

@@ -12,7 +12,7 @@ use Rattle.model.specs.Geometry as rectangular
 use Rattle.model.specs.Grounds.{cellCount, inside, cellPlace, position, cellAt, isIteration}
 use Rattle.model.specs.Courses.{count, vector, allIterations}
 use Rattle.model.specs.Boxes.{indexCount, widths, boxShape, boxCourse, course, crossed, readsOutside, badBox}
-use Rattle.model.specs.Values.{sizesOf, offsetOf, offsetsOf, partOf, capacitiesOf, orderOf, trimmed}
+use Rattle.model.specs.Values.{sizesOf, offsetOf, offsetsOf, partOf, capacitiesOf, orderOf, trimmed, groundOf, dimsOf}
 use Rattle.model.specs.Iterations.{cellsOf, positionOf, courseOf, iterationsOf, iterationOf, readsOf, firsts, distanceIn}
 use Rattle.model.specs.Answers.{firstOf}
 use Rattle.model.specs.Judging.{badDims, badSizes, badGrid, badCount, repeats, noIteration, needsCentre, lacksCentre, badFactor, tooLarge, twice, badOrder, windowChecks, kernelChecks, chainChecks, valueChecks}
@@ -42,7 +42,7 @@ pub record Case : Type 0 where
   pub leaves : Run
 
 unfoldable pub answered : Case → Run
-answered c = runOf (c .chain) (c .state) (c .store) (c .lent) (c .output) (c .allowance)
+answered c = runOf (c .chain) [] (c .state) (c .store) (c .lent) (c .output) (c .allowance)
 
 unfoldable pub expected : Case → Run
 expected c = c .leaves
@@ -51,7 +51,7 @@ expected c = c .leaves
 -- whose lines are absent, by 15 and 14.
 abbrev chain : ℕ → List ℤ → List ℕ → Chain
 chain size offsets capacities = record {
-  grid = record { dims = 1; sizes = size ∷ 0 ∷ 0 ∷ 0 ∷ [] };
+  grid = record { skewed = false; rows = 0; dims = 1; sizes = size ∷ 0 ∷ 0 ∷ 0 ∷ [] };
   window = record { count = length offsets; offsets = flatMap (λ (x : ℤ). let offset : List ℤ = x ∷ x ∷ x ∷ x ∷ [] in offset) offsets };
   bounds = record { stood = false; lowest = pos 9 ∷ []; highest = pos 8 ∷ [] };
   capacities = capacities ++ (99999 ∷ []);
@@ -179,7 +179,7 @@ pub table : AsExpected places × AsExpected looks × AsExpected refusals
 unfolding answered expected places looks refusals flatMap
     tabulate upTo sum product greatest all any someBelow same above plus equal isZero
     rectangular.cellCount cellCount place natural position cellPlace cellAt firstEntry otherEntries leastFrom least lows extent extents indices count vector allIterations rectangular.inside inside isIteration indexCount widths boxShape boxCourse course crossed readsOutside badBox cellsOf positionOf courseOf iterationsOf iterationOf readsOf firsts distanceIn
-    sizesOf offsetOf offsetsOf partOf capacitiesOf orderOf trimmed firstOf
+    sizesOf groundOf dimsOf offsetOf offsetsOf partOf capacitiesOf orderOf trimmed firstOf
     badDims badSizes badGrid badCount repeats noIteration needsCentre lacksCentre badFactor tooLarge twice badOrder windowChecks kernelChecks chainChecks valueChecks
     wordsAt terms written width centreOf turn limit turns ready fires next moves firstPlace placeIn presented stored
     layout countersOf withCounters outcomeOf words clocked look call shortStore notPast badCounter badFifo badFilters badState judgeRun begun filtersOf termsOf writesOf writtenBy widthOf ended runTrimmed runOf

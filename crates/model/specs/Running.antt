@@ -216,5 +216,5 @@ module _ (t : Trimmed) (s : State) (store lent output : List ℕ) (allowance : �
       byVerdict (judgeRun t s store) es (λ r. [])
 
 -- A run call. What of the chain plays a part is what is left of it trimmed.
-unfoldable pub runOf : Chain → State → (store lent output : List ℕ) → (allowance : ℕ) → Run
-runOf c s store lent output allowance = runTrimmed (trimmed c) s store lent output allowance
+unfoldable pub runOf : Chain → (numbers : List ℕ) → State → (store lent output : List ℕ) → (allowance : ℕ) → Run
+runOf c numbers s store lent output allowance = runTrimmed (trimmed c numbers) s store lent output allowance

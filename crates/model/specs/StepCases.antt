@@ -1,5 +1,6 @@
 -- The three steps of planning on grids and windows (document 003, section 3.3): one table, computed, the expected side worked out by hand.
 use Prim.Native.Nat.{ℕ, _-_}
+use mathlib.Core.Bool.{false}
 use mathlib.Core.List.{List, [], _∷_, map}
 use mathlib.Core.Path.{_≡_, refl}
 use lib.IntN.{ℤ, pos}
@@ -13,7 +14,7 @@ use Rattle.model.specs.Grounds.{cellCount, inside, cellPlace, position, 
 use Rattle.model.specs.Courses.{count, vector, allIterations}
 use Rattle.model.specs.Boxes.{Part, indexCount, widths, boxShape, boxCourse, course, crossed, readsOutside, badBox}
 use Rattle.model.specs.Boxes.Part.{whole, box}
-use Rattle.model.specs.Values.{sizesOf, offsetOf, offsetsOf, partOf, windowOf, boundsOf}
+use Rattle.model.specs.Values.{sizesOf, offsetOf, offsetsOf, partOf, windowOf, boundsOf, groundOf, dimsOf}
 use Rattle.model.specs.Iterations.{positionOf, courseOf, iterationOf, readsOf, firsts, distanceIn, distanceOf}
 use Rattle.model.specs.Answers.{numberOf, verdictNumber, firstOf}
 use Rattle.model.specs.Judging.{badDims, badSizes, badGrid, badCount, repeats, noIteration, needsCentre, lacksCentre, notFinite, badFactor, tooLarge, twice, badOrder, windowChecks, kernelChecks, chainChecks, valueChecks, judged}
@@ -48,11 +49,11 @@ pub record Answers : Type 0 where
 
 unfoldable pub answered : Case → Answers
 answered c =
-    let g : Grid = record { dims = length (c .sizes); sizes = c .sizes } in
+    let g : Grid = record { skewed = false; rows = 0; dims = length (c .sizes); sizes = c .sizes } in
     let w : Window = windowOf (length (c .given)) (c .given) in
-    let s = stepsOf g w (boundsOf (c .part)) in
+    let s = stepsOf g [] w (boundsOf (c .part)) in
     record {
-      request = verdictNumber (judgeRequest (record { grid = g; window = w; bounds = boundsOf (c .part); kernel = c .kernel }));
+      request = verdictNumber (judgeRequest (record { grid = g; window = w; bounds = boundsOf (c .part); kernel = c .kernel }) []);
       results = record {
         number = verdictNumber (s .verdict);
         offsets = offsetsOf (g .dims) (s .window);
@@ -122,7 +123,7 @@ cases =
 pub table : map answered cases ≡ map expected cases
 unfolding answered expected cases ofBits tabulate sum product greatest all any someBelow same above plus equal before isZero
     rectangular.cellCount cellCount place natural position cellPlace cellAt firstEntry otherEntries leastFrom least lows extent extents indices count vector allIterations rectangular.inside inside isIteration indexCount widths boxShape boxCourse course crossed readsOutside badBox positionOf courseOf iterationOf readsOf firsts distanceIn distanceOf
-    sizesOf offsetOf offsetsOf partOf boundsOf numberOf verdictNumber firstOf
+    sizesOf groundOf dimsOf offsetOf offsetsOf partOf boundsOf numberOf verdictNumber firstOf
     badDims badSizes badGrid badCount repeats noIteration needsCentre lacksCentre notFinite badFactor tooLarge twice badOrder windowChecks kernelChecks chainChecks valueChecks judged
     insert falling whichOf authorsOrder sorted distances total stepsOf trimmedRequest judgeRequest
 table = refl

@@ -4,10 +4,10 @@ use mathlib.Core.Bool.{Bool, true, false, cond}
 use mathlib.Core.List.{List, []}
 use mathlib.Core.Path.{_≡_}
 use lib.IntN.{ℤ, pos}
-use lib.ListN.{getD, replicate}
+use lib.ListN.{length, getD, replicate}
 use lib.Seq.{sets}
 use Rattle.model.specs.Lists.{tabulate}
-use Rattle.model.specs.Grounds.{Row, Ground, groundSizes}
+use Rattle.model.specs.Grounds.{Row, Ground}
 use Rattle.model.specs.Grounds.Ground.{rectangle, rows}
 use Rattle.model.specs.Boxes.{Part}
 use Rattle.model.specs.Boxes.Part.{whole, box}
@@ -26,6 +26,13 @@ sizesOf g = tabulate (g .dims) (λ d. getD (g .sizes) d 0)
 -- Rows that are lent beside a value, so many of them: row i's start is number 2 i and its length number 2 i + 1; where there are too few numbers, a row has no cells.
 unfoldable pub rowsOf : (count : ℕ) → List ℕ → List Row
 rowsOf count numbers = tabulate count (λ i. record { start = getD numbers (2 * i) 0; length = getD numbers (2 * i + 1) 0 })
+
+-- The cells of a grid, whose rows, where it is skewed, are lent beside it; and how many dimensions it has.
+unfoldable pub groundOf : Grid → (numbers : List ℕ) → Ground
+groundOf g numbers = cond (g .skewed) (rows (rowsOf (g .rows) numbers)) (rectangle (sizesOf g))
+
+unfoldable pub dimsOf : Grid → ℕ
+dimsOf g = cond (g .skewed) 2 (g .dims)
 
 -- Entry d of reference k's offset.
 abbrev pub entryOf : Window → ℕ → ℕ → ℤ
@@ -65,32 +72,45 @@ pub record Trimmed : Type 0 where
   pub kernel : Kernel
 
 -- A grid, a window, bounds, capacities, an order, which stood or did not, and a kernel: what of them plays a part.
-abbrev pub trimmedOf : Grid → Window → Bounds → (capacities : List ℕ) → (ordered : Bool) (order : List ℕ) → Kernel → Trimmed
-trimmedOf g w b capacities ordered order k = record {
-  dims = g .dims;
-  ground = rectangle (sizesOf g);
+abbrev pub trimmedOf : Grid → (numbers : List ℕ) → Window → Bounds → (capacities : List ℕ) → (ordered : Bool) (order : List ℕ) → Kernel → Trimmed
+trimmedOf g numbers w b capacities ordered order k = record {
+  dims = dimsOf g;
+  ground = groundOf g numbers;
   count = w .count;
-  offsets = offsetsOf (g .dims) w;
-  part = partOf (g .dims) b;
+  offsets = offsetsOf (dimsOf g) w;
+  part = partOf (dimsOf g) b;
   capacities = capacities;
   ordered = ordered;
   order = order;
   kernel = k;
 }
 
-unfoldable pub trimmed : Chain → Trimmed
-trimmed c = trimmedOf (c .grid) (c .window) (c .bounds) (capacitiesOf c) (c .order .stood) (orderOf (c .window .count) (c .order)) (c .kernel)
+unfoldable pub trimmed : Chain → (numbers : List ℕ) → Trimmed
+trimmed c numbers = trimmedOf (c .grid) numbers (c .window) (c .bounds) (capacitiesOf c) (c .order .stood) (orderOf (c .window .count) (c .order)) (c .kernel)
 
--- Two chains are the same.
-abbrev pub Same : Chain → Chain → Type 0
-Same c d = trimmed c ≡ trimmed d
+-- Two chains, each with its rows, are the same.
+abbrev pub Same : Chain → (numbers : List ℕ) → Chain → (numbers : List ℕ) → Type 0
+Same c ns d ms = trimmed c ns ≡ trimmed d ms
 
 -- A window on a grid as a value, with no capacities and no order, and raw.
-abbrev pub onGrid : Grid → Window → Bounds → Trimmed
-onGrid g w b = trimmedOf g w b [] false [] kernel.Raw
+abbrev pub onGrid : Grid → (numbers : List ℕ) → Window → Bounds → Trimmed
+onGrid g numbers w b = trimmedOf g numbers w b [] false [] kernel.Raw
 
--- A window on rows as a value, likewise.
-abbrev pub onRows : (count : ℕ) → List ℕ → Window → Bounds → Trimmed
+-- The same on a rectangle, and on rows.
+abbrev pub onRectangle : Grid → Window → Bounds → Trimmed
+onRectangle g w b = record {
+  dims = g .dims;
+  ground = rectangle (sizesOf g);
+  count = w .count;
+  offsets = offsetsOf (g .dims) w;
+  part = partOf (g .dims) b;
+  capacities = [];
+  ordered = false;
+  order = [];
+  kernel = kernel.Raw;
+}
+
+abbrev pub onRows : (count : ℕ) → (numbers : List ℕ) → Window → Bounds → Trimmed
 onRows count numbers w b = record {
   dims = 2;
   ground = rows (rowsOf count numbers);
@@ -124,10 +144,21 @@ unfoldable pub boundsOf : Part → Bounds
 boundsOf whole = noBounds
 boundsOf (box lowest highest) = record { stood = true; lowest = indexArray lowest; highest = indexArray highest }
 
--- The chain of which this plays a part, with 0 past its counts: a chain's normal form.
+-- A grid's normal form: of a rectangle the sizes, with 0 past the last; of rows how many there are, and two dimensions.
+abbrev pub sizeArray : List ℕ → List ℕ
+sizeArray sizes = tabulate 4 (λ d. getD sizes d 0)
+
+unfoldable pub gridOf : (dims : ℕ) → Ground → Grid
+gridOf dims (rectangle sizes) = record { skewed = false; rows = 0; dims = dims; sizes = sizeArray sizes }
+gridOf dims (rows rs) = record { skewed = true; rows = length rs; dims = dims; sizes = sizeArray [] }
+
+abbrev pub normalGrid : Grid → Grid
+normalGrid g = record { skewed = g .skewed; rows = cond (g .skewed) (g .rows) 0; dims = dimsOf g; sizes = sizeArray (cond (g .skewed) [] (sizesOf g)) }
+
+-- The chain of which this plays a part, with 0 past its counts: a chain's normal form. Its rows are lent beside it.
 unfoldable pub chainOf : Trimmed → Chain
 chainOf t = record {
-  grid = record { dims = t .dims; sizes = tabulate 4 (λ d. getD (groundSizes (t .ground)) d 0) };
+  grid = gridOf (t .dims) (t .ground);
   window = windowOf (t .count) (t .offsets);
   bounds = boundsOf (t .part);
   capacities = capacityArray (t .capacities);
@@ -146,10 +177,14 @@ withReference w entries = record { count = w .count + 1; offsets = sets (w .offs
 abbrev pub noOrder : Order
 noOrder = record { stood = false; filters = replicate 32 0 }
 
+-- A rectangle without dimensions.
+abbrev pub blankGrid : Grid
+blankGrid = record { skewed = false; rows = 0; dims = 0; sizes = replicate 4 0 }
+
 -- What a refusal hands back in place of a chain: all counts and entries 0, no box, no order, and raw.
 abbrev pub blankChain : Chain
 blankChain = record {
-  grid = record { dims = 0; sizes = replicate 4 0 };
+  grid = blankGrid;
   window = blankWindow;
   bounds = noBounds;
   capacities = replicate 31 0;

@@ -21,9 +21,9 @@ module _ (t : Trimmed) (stream : ℕ → ℕ) where
   wordsFrom j (suc n) = wordsOf j ++ wordsFrom (suc j) n
 
 -- "the author's own loop": the kernel over the request's references in the request's order (document 02, request 2).
-module _ (r : Request) (stream : ℕ → ℕ) where
+module _ (r : Request) (numbers : List ℕ) (stream : ℕ → ℕ) where
   abbrev t : Trimmed
-  t = trimmedRequest r
+  t = trimmedRequest r numbers
 
   -- What it writes in iteration j: the words are those of the author's references 0, 1, 2, .., of which one is the centre, and terms are added in this order. "raw outputs
   -- keep chain order": the references as their offsets fall.

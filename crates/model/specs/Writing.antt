@@ -17,7 +17,8 @@ use Rattle.model.specs.declared.Verdict.{Verdict}
 use Rattle.model.specs.declared.Verdict.the-variants as verdict
 use Rattle.model.specs.declared.Wrote.{Wrote}
 use Rattle.model.specs.Lists.{upTo}
-use Rattle.model.specs.Values.{sizesOf, offsetsOf, capacitiesOf, orderOf}
+use Rattle.model.specs.Grounds.{groundSizes}
+use Rattle.model.specs.Values.{groundOf, dimsOf, offsetsOf, capacitiesOf, orderOf}
 use Rattle.model.specs.Answers.{check, firstOf, byVerdict}
 use Rattle.model.specs.Judging.{judgeChain}
 use Rattle.model.specs.Frames.{framed}
@@ -25,7 +26,7 @@ use Rattle.model.specs.Numbers.{halfBytes, wordBytes, pattern, wordPatte
 
 -- "`01` dimension count (1 byte), then each size (4 bytes)"
 unfoldable pub gridLine : Grid → List ℕ
-gridLine g = 1 ∷ g .dims ∷ flatMap wordBytes (sizesOf g)
+gridLine g = 1 ∷ dimsOf g ∷ flatMap wordBytes (groundSizes (groundOf g []))
 
 -- "`02` one offset, 2 bytes an entry, two's complement"
 unfoldable pub offsetLine : List ℤ → List ℕ
@@ -57,7 +58,7 @@ kernelLine (kernel.Blend g) = 4 ∷ 3 ∷ (wordBytes (toBits binary32 (g .a)) ++
 unfoldable pub chainLines : Chain → List (List ℕ)
 chainLines c =
     gridLine (c .grid)
-    ∷ (map offsetLine (offsetsOf (c .grid .dims) (c .window)) ++ (boxLines (c .grid .dims) (c .bounds) ++ (map capacityLine (capacitiesOf c) ++ (orderLines (c .window .count) (c .order) ++ (kernelLine (c .kernel) ∷ [])))))
+    ∷ (map offsetLine (offsetsOf (dimsOf (c .grid)) (c .window)) ++ (boxLines (dimsOf (c .grid)) (c .bounds) ++ (map capacityLine (capacitiesOf c) ++ (orderLines (c .window .count) (c .order) ++ (kernelLine (c .kernel) ∷ [])))))
 
 unfoldable pub sheetOf : Chain → List ℕ
 sheetOf c = flatMap framed (chainLines c)
@@ -70,7 +71,7 @@ longestSheet = 1141
 unfoldable pub writeVerdict : Chain → (room : ℕ) → Verdict
 writeVerdict c room =
     let last = firstOf (check (ltb room (length (sheetOf c))) refusal.ShortOutput ∷ []) in
-    byVerdict (judgeChain c) last verdict.Refused
+    byVerdict (judgeChain c []) last verdict.Refused
 
 -- What a write call answers, and the output as it leaves it.
 pub record Written : Type 0 where

@@ -6,8 +6,10 @@ pub struct CellsPassed(pub u32);
 // Firings made: the output counter, one for all filters.
 pub struct FiringsMade(pub u32);
 
-// A rectangular grid: the first `dims` sizes, slowest dimension first.
+// A grid: a rectangle by its first `dims` sizes, slowest dimension first; where it is skewed, `rows` rows, which are lent beside it, each by its start and its length.
 pub struct Grid {
+    pub skewed: bool,
+    pub rows: u32,
     pub dims: u8,
     pub sizes: [u32; 4],
 }

@@ -164,8 +164,8 @@ sizeOf x = x % 4294967296
 unfoldable pub gridOf : Loops → Grid
 gridOf l =
     cond (eqb (l .dims) 2)
-    (record { dims = 2; sizes = sizeOf (l .rows) ∷ sizeOf (l .columns) ∷ 0 ∷ 0 ∷ [] })
-    (record { dims = 3; sizes = sizeOf (l .planes) ∷ sizeOf (l .rows) ∷ sizeOf (l .columns) ∷ 0 ∷ [] })
+    (record { skewed = false; rows = 0; dims = 2; sizes = sizeOf (l .rows) ∷ sizeOf (l .columns) ∷ 0 ∷ 0 ∷ [] })
+    (record { skewed = false; rows = 0; dims = 3; sizes = sizeOf (l .planes) ∷ sizeOf (l .rows) ∷ sizeOf (l .columns) ∷ 0 ∷ [] })
 
 -- An entry of an offset by its character, and the entries with those of reference k, where z is no entry of a grid of two dimensions.
 unfoldable pub entryOf : ℕ → ℤ

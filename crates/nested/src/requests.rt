@@ -19,11 +19,15 @@ fn grid(l: Loops) -> Grid
 {
     if l.dims == 2 {
         return Grid {
+            skewed: false,
+            rows: 0,
             dims: 2,
             sizes: [size(l.rows), size(l.columns), 0, 0],
         };
     }
     Grid {
+        skewed: false,
+        rows: 0,
         dims: 3,
         sizes: [size(l.planes), size(l.rows), size(l.columns), 0],
     }

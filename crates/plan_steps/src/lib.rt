@@ -9,16 +9,18 @@ use model::Refusal;
 use model::Steps;
 use model::Verdict;
 use model::Window;
+ghost use mathlib.Core.Bool.{true, false};
+ghost use mathlib.Core.List.{[]};
 ghost use mathlib.Core.Path.{_≡_};
 ghost use Rattle.model.specs.Judging.{judgeWindow};
 ghost use Rattle.model.specs.Steps.{refusedSteps, stepsOf};
 ghost use Rattle.model.specs.declared.Verdict.the-variants.{Accepted};
 ghost use Rattle.plan_steps.specs.Order.{FirstPositions};
 
-// The steps of a grid, a window and a box that 3 to 6 and 15 let pass, where `at` has the position that each reference reads in the first iteration that is covered.
+// The results of a rectangle, a window and a box that 3 to 6 and 15 let pass, where `at` has the position that each reference reads in the first iteration that is covered.
 fn taken(grid: Grid, window: Window, bounds: Bounds, at: &[u32; 32]) -> Steps
-    requires { ⌜ (judgeWindow grid window bounds ≡ Accepted) × FirstPositions grid window bounds (now at) ⌝ }
-    ensures { λ r. ⌜ r ≡ stepsOf grid window bounds ⌝ }
+    requires { ⌜ (grid .skewed ≡ false) × (judgeWindow grid [] window bounds ≡ Accepted) × FirstPositions grid window bounds (now at) ⌝ }
+    ensures { λ r. ⌜ r ≡ stepsOf grid [] window bounds ⌝ }
 {
     let dims = grid.dims;
     let count = window.count;
@@ -31,6 +33,28 @@ fn taken(grid: Grid, window: Window, bounds: Bounds, at: &[u32; 32]) -> Steps
     // the distances of neighbours;
     let distances = distances::distances(at, &order, n);
     // section 3.3.3: their sum.
+    let total = total::total(&distances, count);
+    Steps {
+        verdict: Verdict::Accepted,
+        window: sorted,
+        filters,
+        distances,
+        total,
+    }
+}
+
+// The same of rows.
+fn taken_on_rows(grid: Grid, rows: &[u32], window: Window, bounds: Bounds) -> Steps
+    requires { ⌜ (grid .skewed ≡ true) × (judgeWindow grid (now rows) window bounds ≡ Accepted) ⌝ }
+    ensures { λ r. ⌜ r ≡ stepsOf grid (now (rows .entry)) window bounds ⌝ }
+{
+    let count = window.count;
+    let n = count as usize;
+    let offsets = window.offsets;
+    let order = sorting::order_of(&offsets, n, 2);
+    let sorted = sorting::arranged(2, window, &order);
+    let filters = sorting::held_by(&order, n);
+    let distances = row_courses::distances(grid.rows, rows, sorted, bounds);
     let total = total::total(&distances, count);
     Steps {
         verdict: Verdict::Accepted,
@@ -57,9 +81,9 @@ fn refused(x: Refusal) -> Steps
     }
 }
 
-// The three results, of every grid, window and box that 3 to 6 and 15 let pass, also of those that 7, 8 or 9 turns back with a kernel; else the first of these that refuses.
-pub fn steps(grid: Grid, window: Window, bounds: Bounds) -> Steps
-    ensures { λ r. ⌜ r ≡ stepsOf grid window bounds ⌝ }
+fn on_rectangle(grid: Grid, window: Window, bounds: Bounds) -> Steps
+    requires { ⌜ grid .skewed ≡ false ⌝ }
+    ensures { λ r. ⌜ r ≡ stepsOf grid [] window bounds ⌝ }
 {
     let survey = shape::survey_of(grid, window, bounds);
     let verdict = survey.verdict;
@@ -71,4 +95,26 @@ pub fn steps(grid: Grid, window: Window, bounds: Bounds) -> Steps
             taken(grid, window, bounds, &at)
         }
     }
+}
+
+fn on_rows(grid: Grid, rows: &[u32], window: Window, bounds: Bounds) -> Steps
+    requires { ⌜ grid .skewed ≡ true ⌝ }
+    ensures { λ r. ⌜ r ≡ stepsOf grid (now (rows .entry)) window bounds ⌝ }
+{
+    let survey = rows::survey(grid.rows, rows, window, bounds);
+    let verdict = survey.verdict;
+    match verdict {
+        Verdict::Refused(x) => refused(x),
+        Verdict::Accepted => taken_on_rows(grid, rows, window, bounds),
+    }
+}
+
+// The three results, of every grid, window and box that 3 (on rows 16) to 6 and 15 let pass, also of those that 7, 8 or 9 turns back with a kernel; else the first of these that refuses.
+pub fn steps(grid: Grid, rows: &[u32], window: Window, bounds: Bounds) -> Steps
+    ensures { λ r. ⌜ r ≡ stepsOf grid (now (rows .entry)) window bounds ⌝ }
+{
+    if grid.skewed {
+        return on_rows(grid, rows, window, bounds);
+    }
+    on_rectangle(grid, window, bounds)
 }

@@ -1,12 +1,12 @@
 -- Laws that lead from the steps to the plan.
 use Prim.Native.Nat.{ℕ, _≤_}
-use mathlib.Core.Bool.{Bool, true, false}
-use mathlib.Core.List.{List}
+use mathlib.Core.Bool.{Bool, true, false, cond}
+use mathlib.Core.List.{List, []}
 use mathlib.Core.Path.{_≡_, refl, sym, _∙_, ap}
 use lib.IntN.{ℤ, pos}
-use lib.ListN.{getD, List·getD-eq-default}
+use lib.ListN.{getD, replicate, List·getD-eq-default}
 use Rattle.model.specs.Lists.{tabulate}
-use Rattle.model.specs.Values.{sizesOf, offsetsOf, partOf, indexArray, noBounds, boundsOf}
+use Rattle.model.specs.Values.{sizesOf, groundOf, dimsOf, offsetsOf, partOf, onGrid, indexArray, noBounds, boundsOf, sizeArray, normalGrid}
 use Rattle.model.specs.Answers.{byVerdict}
 use Rattle.model.specs.Judging.{centred, judgeWindow, judgeBehind}
 use Rattle.model.specs.Steps.{stepsOf}
@@ -21,16 +21,17 @@ use Rattle.model.specs.declared.Steps.{Steps}
 use Rattle.model.specs.declared.Verdict.{Verdict}
 use Rattle.model.specs.declared.Verdict.the-variants as verdict
 use Rattle.model.proofs.ListLaws.{length-tabulate, getD-tabulate}
-use Rattle.model.proofs.CheckLaws.{few-dims}
+use Rattle.model.proofs.ChainLaws.{ground-dims}
+use Rattle.model.proofs.CheckLaws.{WindowPasses, few-dims, few-references}
 use Rattle.model.proofs.StepLaws.{steps-verdict, passed, judged-by-steps, request-passes, chain-by-steps}
 use Rattle.geometry.specs.Parts.{numberAt, Filled}
 use Rattle.geometry.specs.Windows.{hasCentre}
 use Rattle.geometry.proofs.FillLaws.{filled-all}
-use Rattle.shape.proofs.Answers.{has-centre-is}
+use Rattle.geometry.proofs.OffsetLaws.{has-centre-is}
 use Rattle.planner.specs.Plans.{refusedPlan}
 
 -- The sizes with 0 past the last.
-pub sizes-are : (g : Grid) (ys : List ℕ) → Filled 4 0 (numberAt (g .sizes)) (g .dims) ys → ys ≡ tabulate 4 (λ d. getD (sizesOf g) d 0)
+sizes-are : (g : Grid) (ys : List ℕ) → Filled 4 0 (numberAt (g .sizes)) (g .dims) ys → ys ≡ sizeArray (sizesOf g)
 unfolding sizesOf
 sizes-are g ys r =
     filled-all 4 0 (numberAt (g .sizes)) (λ d. getD (sizesOf g) d 0) (g .dims) ys (λ d h. sym (getD-tabulate (g .dims) (numberAt (g .sizes)) d 0 h))
@@ -51,36 +52,49 @@ pub no-box-is : (dims : ℕ) (b : Bounds) → b .stood ≡ false → noBounds �
 unfolding boundsOf partOf
 no-box-is dims b e = rw e
 
-module _ (r : Request) (s : Steps) (d : s ≡ stepsOf (r .grid) (r .window) (r .bounds)) where
+pub flat-grid : (g : Grid) (ys : List ℕ) → g .skewed ≡ false → Filled 4 0 (numberAt (g .sizes)) (g .dims) ys → record { skewed = false; rows = 0; dims = g .dims; sizes = ys } ≡ normalGrid g
+unfolding dimsOf
+flat-grid g ys flat r =
+    ap (λ (zs : List ℕ). record { skewed = false; rows = 0; dims = g .dims; sizes = zs }) (sizes-are g ys r)
+    ∙ ap (λ (t : Bool). record { skewed = t; rows = cond t (g .rows) 0; dims = cond t 2 (g .dims); sizes = sizeArray (cond t [] (sizesOf g)) }) (sym flat)
+
+pub skewed-grid : (g : Grid) → g .skewed ≡ true → record { skewed = true; rows = g .rows; dims = 2; sizes = replicate 4 0 } ≡ normalGrid g
+unfolding dimsOf tabulate
+skewed-grid g skewed = rw skewed
+
+module _ (r : Request) (numbers : List ℕ) (s : Steps) (d : s ≡ stepsOf (r .grid) numbers (r .window) (r .bounds)) where
   -- What is found before the steps, then 7 and 8, then 9 by their total.
   abbrev judged : Verdict
-  judged = byVerdict (s .verdict) (judgeBehind (r .kernel) (hasCentre (r .grid .dims) (r .window)) (s .total)) verdict.Refused
+  judged = byVerdict (s .verdict) (judgeBehind (r .kernel) (hasCentre (dimsOf (r .grid)) (r .window)) (s .total)) verdict.Refused
 
-  found : s .verdict ≡ judgeWindow (r .grid) (r .window) (r .bounds)
-  found = ap (λ (t : Steps). t .verdict) d ∙ steps-verdict (r .grid) (r .window) (r .bounds)
+  found : s .verdict ≡ judgeWindow (r .grid) numbers (r .window) (r .bounds)
+  found = ap (λ (t : Steps). t .verdict) d ∙ steps-verdict (r .grid) numbers (r .window) (r .bounds)
 
-  pub verdict-is : judged ≡ judgeRequest r
-  verdict-is = go (s .verdict) refl ∙ ap (λ (t : Steps). byVerdict (t .verdict) (judgeBehind (r .kernel) (centred (offsetsOf (r .grid .dims) (r .window))) (t .total)) verdict.Refused) d ∙ sym (judged-by-steps r)
+  low : WindowPasses (onGrid (r .grid) numbers (r .window) (r .bounds)) → dimsOf (r .grid) ≤ 4
+  low p = few-dims (dimsOf (r .grid)) (groundOf (r .grid) numbers) (ground-dims (r .grid) numbers) (p .grid)
+
+  pub verdict-is : judged ≡ judgeRequest r numbers
+  verdict-is = go (s .verdict) refl ∙ ap (λ (t : Steps). byVerdict (t .verdict) (judgeBehind (r .kernel) (centred (offsetsOf (dimsOf (r .grid)) (r .window))) (t .total)) verdict.Refused) d ∙ sym (judged-by-steps r numbers)
     where
-      go : (v : Verdict) → s .verdict ≡ v → judged ≡ byVerdict (s .verdict) (judgeBehind (r .kernel) (centred (offsetsOf (r .grid .dims) (r .window))) (s .total)) verdict.Refused
+      go : (v : Verdict) → s .verdict ≡ v → judged ≡ byVerdict (s .verdict) (judgeBehind (r .kernel) (centred (offsetsOf (dimsOf (r .grid)) (r .window))) (s .total)) verdict.Refused
       go verdict.Accepted e =
-          let p = passed (r .grid) (r .window) (r .bounds) (sym found ∙ e) in
-          ap (λ (b : Bool). byVerdict (s .verdict) (judgeBehind (r .kernel) b (s .total)) verdict.Refused) (has-centre-is (r .grid) (r .window) (p .grid) (p .count))
+          let p = passed (r .grid) numbers (r .window) (r .bounds) (sym found ∙ e) in
+          ap (λ (b : Bool). byVerdict (s .verdict) (judgeBehind (r .kernel) b (s .total)) verdict.Refused) (has-centre-is (dimsOf (r .grid)) (r .window) (low p) (few-references (r .window .count) (p .count)))
       go (verdict.Refused x) e = rw e
 
-  pub refused-plan : (x : Refusal) → judged ≡ verdict.Refused x → refusedPlan x ≡ planOf r
+  pub refused-plan : (x : Refusal) → judged ≡ verdict.Refused x → refusedPlan x ≡ planOf r numbers
   unfolding planOf
   refused-plan x e = sym (rw (sym verdict-is ∙ e))
 
   module _ (e : judged ≡ verdict.Accepted) where
-    let-pass : judgeWindow (r .grid) (r .window) (r .bounds) ≡ verdict.Accepted
-    let-pass = request-passes r (sym verdict-is ∙ e)
+    let-pass : judgeWindow (r .grid) numbers (r .window) (r .bounds) ≡ verdict.Accepted
+    let-pass = request-passes r numbers (sym verdict-is ∙ e)
 
-    pub few-dimensions : r .grid .dims ≤ 4
-    few-dimensions = few-dims (r .grid .dims) (sizesOf (r .grid)) (passed (r .grid) (r .window) (r .bounds) let-pass .grid)
+    pub few-dimensions : dimsOf (r .grid) ≤ 4
+    few-dimensions = low (passed (r .grid) numbers (r .window) (r .bounds) let-pass)
 
-    pub planned-by : (c : Chain) → c ≡ chainBy (r .grid) (r .bounds) (r .kernel) s → _≡_ {A = Planned} (record { verdict = verdict.Accepted; chain = c }) (planOf r)
+    pub planned-by : (c : Chain) → c ≡ chainBy (r .grid) (r .bounds) (r .kernel) s → _≡_ {A = Planned} (record { verdict = verdict.Accepted; chain = c }) (planOf r numbers)
     unfolding planOf
     planned-by c f =
-        ap (λ (c : Chain). record { verdict = verdict.Accepted; chain = c }) (f ∙ ap (chainBy (r .grid) (r .bounds) (r .kernel)) d ∙ sym (chain-by-steps r let-pass))
-        ∙ ap (λ (v : Verdict). byVerdict v (record { verdict = verdict.Accepted; chain = plannedChain r }) (λ x. refusedPlan x)) (sym e ∙ verdict-is)
+        ap (λ (c : Chain). record { verdict = verdict.Accepted; chain = c }) (f ∙ ap (chainBy (r .grid) (r .bounds) (r .kernel)) d ∙ sym (chain-by-steps r numbers let-pass))
+        ∙ ap (λ (v : Verdict). byVerdict v (record { verdict = verdict.Accepted; chain = plannedChain r numbers }) (λ x. refusedPlan x)) (sym e ∙ verdict-is)

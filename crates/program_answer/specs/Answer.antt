@@ -1,6 +1,6 @@
 -- What the program `plan` writes at the end of its input.
 use Prim.Native.Nat.{ℕ}
-use mathlib.Core.List.{List}
+use mathlib.Core.List.{List, []}
 use Rattle.model.specs.declared.Arriving.{Arriving}
 use Rattle.model.specs.Answers.{byVerdict}
 use Rattle.model.specs.Planning.{judgeRequest, plannedChain}
@@ -15,5 +15,5 @@ unfoldable pub planAnswer : Arriving → List ℕ
 planAnswer a =
     let s = finished a in
     let request = requestOf (s .reading .chain) in
-    let sheet = sheetOf (plannedChain request) in
-    byVerdict (endVerdict s (judgeRequest request)) sheet refusalText
+    let sheet = sheetOf (plannedChain request []) in
+    byVerdict (endVerdict s (judgeRequest request [])) sheet refusalText

@@ -7,7 +7,7 @@ ghost use mathlib.Core.Path.{_≡_};
 ghost use Rattle.program_lines.specs.Texts.{laid, laidIfFits, Within};
 ghost use Rattle.program_answer.specs.Answer.{planAnswer};
 
-// The chain sheet of the request that arrived, or its refusal, where that fits; how many characters it has.
+// The chain sheet of the request that arrived, planned with no rows beside it, or its refusal, where that fits; how many characters it has.
 pub fn plan_answer(a: Arriving, text: &mut [u8]) -> usize
     ensures { λ r. ⌜ laid r (now (text .exit)) ≡ laidIfFits (planAnswer a) (now (text .entry)) ⌝ }
     ensures { λ r. ⌜ Within r (now (text .exit)) ⌝ }
@@ -22,7 +22,7 @@ pub fn plan_answer(a: Arriving, text: &mut [u8]) -> usize
                 return program_lines::put_refusal(Refusal::Misplaced, text);
             }
             let chain = r.chain;
-            let p = planner::plan(request_of(chain));
+            let p = planner::plan(request_of(chain), &[]);
             let judged = p.verdict;
             match judged {
                 Verdict::Refused(n) => program_lines::put_refusal(n, text),

@@ -50,12 +50,12 @@ counts-back Stalled c = refl
 counts-back Full c = refl
 
 pub lent-at-most : (c : Chain) (s : State) (store lent output : List ℕ) (allowance : ℕ)
-    → answerCounts (runOf c s store lent output allowance .answer) .cells ≤ length lent
+    → answerCounts (runOf c [] s store lent output allowance .answer) .cells ≤ length lent
 unfolding runOf runTrimmed answerCounts ended begun
-lent-at-most c s store lent output allowance = go (judgeRun (trimmed c) s store) refl
+lent-at-most c s store lent output allowance = go (judgeRun (trimmed c []) s store) refl
   where
-    go : (v : Verdict) → judgeRun (trimmed c) s store ≡ v → answerCounts (runOf c s store lent output allowance .answer) .cells ≤ length lent
+    go : (v : Verdict) → judgeRun (trimmed c []) s store ≡ v → answerCounts (runOf c [] s store lent output allowance .answer) .cells ≤ length lent
     go (verdict.Refused x) e = rw e (omega arith)
     go verdict.Accepted e =
-        rw (e, counts-back (ended (trimmed c) s store lent output allowance .ending) (ended (trimmed c) s store lent output allowance .standing .done))
-        (no-more (layout (trimmed c)) (writtenBy (trimmed c)) (widthOf (trimmed c)) lent allowance (begun (trimmed c) s store output) (omega arith))
+        rw (e, counts-back (ended (trimmed c []) s store lent output allowance .ending) (ended (trimmed c []) s store lent output allowance .standing .done))
+        (no-more (layout (trimmed c [])) (writtenBy (trimmed c [])) (widthOf (trimmed c [])) lent allowance (begun (trimmed c []) s store output) (omega arith))

@@ -31,20 +31,20 @@ middle (suc f) (suc t) (x ∷ xs) h =
 -- Where the first `places` words were lent, which now are `part`.
 pub part-run : (r : Ran) (store part words output : List ℕ) (places : ℕ) (c : Chain) (s : State) (before cells : List ℕ) (from to : ℕ)
     → length part ≡ length (take places words) → places ≤ length words → from ≤ to
-    → ranOf r store part ≡ runOf c s before (take (to - from) (drop from cells)) (take places words) 4294967295 → output ≡ (part ++ drop places words)
+    → ranOf r store part ≡ runOf c [] s before (take (to - from) (drop from cells)) (take places words) 4294967295 → output ≡ (part ++ drop places words)
     → (partLeft r store output places ≡ partRun c s before cells words from to places) × KeptBehind places words output
 part-run r store part words output places c s before cells from to kept fit h e o =
     let t : take places output ≡ part = ap (take places) o ∙ take-at part (drop places words) places (kept ∙ length-take-le places words fit) in (
-      ap (ranOf r store) t ∙ e ∙ ap (λ x. runOf c s before x (take places words) 4294967295) (middle from to cells h),
+      ap (ranOf r store) t ∙ e ∙ ap (λ x. runOf c [] s before x (take places words) 4294967295) (middle from to cells h),
       o ∙ ap (λ x. x ++ drop places words) (sym t),
     )
 
 -- The cells taken are among those that were lent.
 pub within : (r : Ran) (after output store cells words : List ℕ) (c : Chain) (s : State) (from to allowance : ℕ)
-    → ranOf r after output ≡ runOf c s store (drop from (take to cells)) words allowance → from ≤ to → to ≤ length cells
+    → ranOf r after output ≡ runOf c [] s store (drop from (take to cells)) words allowance → from ≤ to → to ≤ length cells
     → from + answerCounts (r .answer) .cells ≤ to
 within r after output store cells words c s from to allowance e f t =
-    let a : r .answer ≡ runOf c s store (drop from (take to cells)) words allowance .answer = ap (λ (x : Run). x .answer) e in
+    let a : r .answer ≡ runOf c [] s store (drop from (take to cells)) words allowance .answer = ap (λ (x : Run). x .answer) e in
     let h = lent-at-most c s store (drop from (take to cells)) words allowance in
     omega (arith, ap (λ (x : Answer). answerCounts x .cells) a, h, length-slice from to cells t)
 

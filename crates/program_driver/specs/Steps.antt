@@ -1,7 +1,7 @@
 -- A step of the program `run`.
 use Prim.Native.Nat.{ℕ, _+_, _%_, _^_, min}
 use mathlib.Core.Bool.{true}
-use mathlib.Core.List.{List, _++_}
+use mathlib.Core.List.{List, [], _++_}
 use mathlib.Core.Path.{_≡_}
 use lib.ListN.{length, take, drop}
 use Rattle.model.specs.declared.Answer.{Answer}
@@ -74,9 +74,9 @@ cellsRead j block at store cells words text =
 abbrev pub LeavesCells : Step → Job → (block : List ℕ) → (at : ℕ) → (before after : List ℕ) → Type 0
 LeavesCells s j block at before after = (store words text : List ℕ) → left s store after words text ≡ cellsRead j block at store before words text
 
--- The call: it is lent the cells from `from` to before `to`, and the first `places` words as its output.
+-- The call: it is lent no rows, the cells from `from` to before `to`, and the first `places` words as its output.
 abbrev pub partRun : Chain → State → (store cells words : List ℕ) → (from to places : ℕ) → Run
-partRun c s store cells words from to places = runOf c s store (drop from (take to cells)) (take places words) 4294967295
+partRun c s store cells words from to places = runOf c [] s store (drop from (take to cells)) (take places words) 4294967295
 
 -- What it leaves, where `store` and `words` are as it left them.
 abbrev pub partLeft : Ran → (store words : List ℕ) → (places : ℕ) → Run

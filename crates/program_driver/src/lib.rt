@@ -76,7 +76,7 @@ fn firing_size(chain: Chain) -> usize
     kernel::width(kernel, window.count as usize)
 }
 
-// A run call over the cells from `from` to before `to`, with the first `places` words as its output.
+// A run call with no rows beside the chain, over the cells from `from` to before `to`, with the first `places` words as its output.
 fn run_part(
     chain: Chain,
     state: State,
@@ -93,6 +93,7 @@ fn run_part(
 {
     runner::run(
         chain,
+        &[],
         state,
         store,
         &cells[from..to],

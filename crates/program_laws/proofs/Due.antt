@@ -44,7 +44,7 @@ chainOf j = j .arriving .reading .chain
 module _ (input : List ℕ) where
   -- Behind the sheet, with these cells at hand: all cells, the verdict behind them, and where the run over them stands.
   pub record Runs (j : Job) (rest store written hand : List ℕ) : Type 0 where
-    pub ok : judgeChain (chainOf j) ≡ verdict.Accepted
+    pub ok : judgeChain (chainOf j) [] ≡ verdict.Accepted
     pub all : List ℕ
     pub behind : Verdict
     pub later : List ℕ
@@ -53,8 +53,8 @@ module _ (input : List ℕ) where
     pub cells : cellsIn (splitOf input .behind) ≡ all
     pub stands : Stands (chainOf j) ok all (j .state) store (j .clocks) written hand later
     pub due : runText input
-        ≡ firingsText (widthOf (trimmed (chainOf j))) 0 (wholeRun (trimmed (chainOf j)) all .standing .done .firings) (wholeRun (trimmed (chainOf j)) all .standing .output)
-        ++ endText (wholeRun (trimmed (chainOf j)) all .ending) (wholeRun (trimmed (chainOf j)) all .standing .done .clocks) behind
+        ≡ firingsText (widthOf (trimmed (chainOf j) [])) 0 (wholeRun (trimmed (chainOf j) []) all .standing .done .firings) (wholeRun (trimmed (chainOf j) []) all .standing .output)
+        ++ endText (wholeRun (trimmed (chainOf j) []) all .ending) (wholeRun (trimmed (chainOf j) []) all .standing .done .clocks) behind
 
   pub record InSheet (j : Job) (rest written : List ℕ) : Type 0 where
     pub midway : Midway input (j .arriving) rest
@@ -65,7 +65,7 @@ module _ (input : List ℕ) where
 
   pub record InCells (j : Job) (rest store written : List ℕ) : Type 0 where
     pub run : Runs j rest store written []
-    pub left : countersOf (trimmed (chainOf j) .count) (j .state) .fired < layout (trimmed (chainOf j)) .iterations
+    pub left : countersOf (trimmed (chainOf j) [] .count) (j .state) .fired < layout (trimmed (chainOf j) []) .iterations
 
   pub record InClocks (j : Job) (rest store cells written : List ℕ) : Type 0 where
     pub run : Runs j rest store written (drop (j .from) (take (j .count) cells))
@@ -82,30 +82,30 @@ module _ (input : List ℕ) where
 
   -- Where a run over all cells stops, its text is what was written and its last line.
   pub run-stops : (j : Job) (rest store written hand : List ℕ) (r : Runs j rest store written hand)
-      → goesOn (layout (trimmed (chainOf j))) (length (r .all)) (countersOf (trimmed (chainOf j) .count) (j .state)) ≡ false
-      → written ++ endText (endingAt (layout (trimmed (chainOf j))) (length (r .all)) (countersOf (trimmed (chainOf j) .count) (j .state))) (j .clocks) (r .behind) ≡ runText input
+      → goesOn (layout (trimmed (chainOf j) [])) (length (r .all)) (countersOf (trimmed (chainOf j) [] .count) (j .state)) ≡ false
+      → written ++ endText (endingAt (layout (trimmed (chainOf j) [])) (length (r .all)) (countersOf (trimmed (chainOf j) [] .count) (j .state))) (j .clocks) (r .behind) ≡ runText input
   run-stops j rest store written hand r stop =
-      ap (λ (x : List ℕ). x ++ endText (endingAt (layout (trimmed (chainOf j))) (length (r .all)) (countersOf (trimmed (chainOf j) .count) (j .state))) (j .clocks) (r .behind)) (r .stands .text)
-      ∙ sym (whole-text (chainOf j) (r .ok) (r .all) (j .clocks) (countersOf (trimmed (chainOf j) .count) (j .state)) (r .behind) (r .stands .gone) stop)
+      ap (λ (x : List ℕ). x ++ endText (endingAt (layout (trimmed (chainOf j) [])) (length (r .all)) (countersOf (trimmed (chainOf j) [] .count) (j .state))) (j .clocks) (r .behind)) (r .stands .text)
+      ∙ sym (whole-text (chainOf j) (r .ok) (r .all) (j .clocks) (countersOf (trimmed (chainOf j) [] .count) (j .state)) (r .behind) (r .stands .gone) stop)
       ∙ sym (r .due)
 
 -- Before the first call.
-stands-fresh : (c : Chain) (ok : judgeChain c ≡ verdict.Accepted) (all store : List ℕ) → mostPlaces ≤ length store → Stands c ok all fresh store 0 [] [] all
+stands-fresh : (c : Chain) (ok : judgeChain c [] ≡ verdict.Accepted) (all store : List ℕ) → mostPlaces ≤ length store → Stands c ok all fresh store 0 [] [] all
 unfolding countersOf firingsText
 stands-fresh c ok all store long = record {
   es = [];
-  reached = fresh-reached (settingOf c ok all) _ (record { counters = fresh-counters (trimmed c) });
-  gone = subst (λ (s : Counters). Gone (layout (trimmed c)) (length all) (clock.fresh (layout (trimmed c))) 0 s) (sym (fresh-counters (trimmed c))) still;
+  reached = fresh-reached (settingOf c ok all) _ (record { counters = fresh-counters (trimmed c []) });
+  gone = subst (λ (s : Counters). Gone (layout (trimmed c [])) (length all) (clock.fresh (layout (trimmed c []))) 0 s) (sym (fresh-counters (trimmed c []))) still;
   count = refl;
   text = refl;
   long = long;
   taken = [];
   split = refl;
-  position = sym (none-passed (trimmed c));
+  position = sym (none-passed (trimmed c []));
 }
 
 -- Cells that come later may be at hand.
-stands-regrouped : {c : Chain} {ok : judgeChain c ≡ verdict.Accepted} {all : List ℕ} {state : State} {store : List ℕ} {clocks : ℕ} {written hand later hand′ later′ : List ℕ}
+stands-regrouped : {c : Chain} {ok : judgeChain c [] ≡ verdict.Accepted} {all : List ℕ} {state : State} {store : List ℕ} {clocks : ℕ} {written hand later hand′ later′ : List ℕ}
     → hand ++ later ≡ hand′ ++ later′ → Stands c ok all state store clocks written hand later → Stands c ok all state store clocks written hand′ later′
 stands-regrouped e a = record {
   es = a .es;
@@ -129,13 +129,13 @@ unfolding sheetStage
 stage-back a x e = rw e
 
 stage-whole : (a : Arriving) → a .verdict ≡ verdict.Accepted → complete (a .reading) ≡ true
-    → sheetStage a ≡ byVerdict (judgeChain (a .reading .chain)) stage.Cells stage.Refusing
+    → sheetStage a ≡ byVerdict (judgeChain (a .reading .chain) []) stage.Cells stage.Refusing
 unfolding sheetStage
 stage-whole a e s = rw (e, s)
 
 module _ (input : List ℕ) (j : Job) (rest store cells written : List ℕ) (long : mostPlaces ≤ length store)
     (state : j .state ≡ fresh) (clocks : j .clocks ≡ 0) (line : j .line ≡ newLine) (nothing : written ≡ []) where
-  run-begins : (ok : judgeChain (chainOf j) ≡ verdict.Accepted) → complete (j .arriving .reading) ≡ true
+  run-begins : (ok : judgeChain (chainOf j) [] ≡ verdict.Accepted) → complete (j .arriving .reading) ≡ true
       → splitOf input ≡ record { step = record { verdict = verdict.Accepted; reading = j .arriving .reading }; behind = linesOf rest }
       → InCells input j rest store written
   unfolding feeds some infront layout countersOf
@@ -151,7 +151,7 @@ module _ (input : List ℕ) (j : Job) (rest store cells written : List ℕ) (lon
       stands = rw (state, clocks, nothing) (stands-fresh (chainOf j) ok (cellsIn (linesOf rest)) store long);
       due = run-text input _ due ∙ chain-runs (j .arriving .reading) (linesOf rest) s ok;
     };
-    left = rw state (accepted-chain (chainOf j) ok .iterates);
+    left = rw state (accepted-chain (chainOf j) [] ok .iterates);
   }
 
   -- The stage that the sheet leaves.
@@ -159,35 +159,35 @@ module _ (input : List ℕ) (j : Job) (rest store cells written : List ℕ) (lon
   sheet-due (further m) =
       rw (stage-further input (j .arriving) rest m) (record { midway = m; state = state; clocks = clocks; line = line; nothing = nothing })
   sheet-due (back x e due) = rw (stage-back (j .arriving) x e, nothing) (sym due)
-  sheet-due (whole e s due) = rw (stage-whole (j .arriving) e s) (go (judgeChain (chainOf j)) refl)
+  sheet-due (whole e s due) = rw (stage-whole (j .arriving) e s) (go (judgeChain (chainOf j) []) refl)
     where
-      go : (v : Verdict) → judgeChain (chainOf j) ≡ v → Due input (byVerdict v stage.Cells stage.Refusing) j rest store cells written
+      go : (v : Verdict) → judgeChain (chainOf j) [] ≡ v → Due input (byVerdict v stage.Cells stage.Refusing) j rest store cells written
       go verdict.Accepted ok = run-begins ok s due
       go (verdict.Refused x) no-good = rw nothing (sym (run-text input _ due ∙ chain-back (j .arriving .reading) (linesOf rest) x s no-good))
 
 -- Where every cell is taken and none comes later, the run is starved.
 module _ (input : List ℕ) (j : Job) (rest store written : List ℕ) (i : InCells input j rest store written) (none : i .run .later ≡ []) where
-  stops : (goesOn (layout (trimmed (chainOf j))) (length (i .run .all)) (countersOf (trimmed (chainOf j) .count) (j .state)) ≡ false)
-      × (endingAt (layout (trimmed (chainOf j))) (length (i .run .all)) (countersOf (trimmed (chainOf j) .count) (j .state)) ≡ Starved)
+  stops : (goesOn (layout (trimmed (chainOf j) [])) (length (i .run .all)) (countersOf (trimmed (chainOf j) [] .count) (j .state)) ≡ false)
+      × (endingAt (layout (trimmed (chainOf j) [])) (length (i .run .all)) (countersOf (trimmed (chainOf j) [] .count) (j .state)) ≡ Starved)
   stops =
       let r = i .run in
-      let s = countersOf (trimmed (chainOf j) .count) (j .state) in
+      let s = countersOf (trimmed (chainOf j) [] .count) (j .state) in
       let all-taken : length (r .all) ≤ first (s .passed) = omega (
         arith,
         ap length (r .stands .split ∙ ap (λ (xs : List ℕ). r .stands .taken ++ xs) none ∙ append-nil (r .stands .taken)),
         r .stands .position,
       ) in
-      starved-stops (layout (trimmed (chainOf j))) (length (r .all)) s (i .left) all-taken
+      starved-stops (layout (trimmed (chainOf j) [])) (length (r .all)) s (i .left) all-taken
 
   pub starved-due : written ++ endText Starved (j .clocks) (i .run .behind) ≡ runText input
   starved-due =
       ap (λ (e : Ending). written ++ endText e (j .clocks) (i .run .behind)) (sym (stops .1)) ∙ run-stops input j rest store written [] (i .run) (stops .0)
 
-  pub starved-run : wholeRun (trimmed (splitOf input .step .reading .chain)) (cellsIn (splitOf input .behind)) .ending ≡ Starved
+  pub starved-run : wholeRun (trimmed (splitOf input .step .reading .chain) []) (cellsIn (splitOf input .behind)) .ending ≡ Starved
   starved-run =
       let r = i .run in
-      ap₂ (λ (c : Chain) (cs : List ℕ). wholeRun (trimmed c) cs .ending) (r .chain) (r .cells)
-      ∙ whole-ending (chainOf j) (r .ok) (r .all) (j .clocks) (countersOf (trimmed (chainOf j) .count) (j .state)) (r .stands .gone) (stops .0) ∙ stops .1
+      ap₂ (λ (c : Chain) (cs : List ℕ). wholeRun (trimmed c []) cs .ending) (r .chain) (r .cells)
+      ∙ whole-ending (chainOf j) (r .ok) (r .all) (j .clocks) (countersOf (trimmed (chainOf j) [] .count) (j .state)) (r .stands .gone) (stops .0) ∙ stops .1
 
 -- The job after `05` lines: with the line and the cells that were read.
 abbrev pub withLine : Job → Stage → CellLine → (from count : ℕ) → Job

@@ -4,9 +4,7 @@ use mathlib.Core.Bool.{Bool, true, false, cond}
 use mathlib.Core.List.{List, [], _∷_, _++_, flatten}
 use mathlib.Core.Path.{_≡_, refl, sym, _∙_, ap}
 use native.Mathlib.Omega.{arith}
-use lib.Dec.{eqb, ltb}
 use lib.ListN.{length}
-use borrow.Author.Tests.{ltb-false}
 use Rattle.model.specs.declared.Arriving.{Arriving}
 use Rattle.model.specs.declared.Chain.{Chain}
 use Rattle.model.specs.declared.LineStep.{LineStep}
@@ -15,18 +13,17 @@ use Rattle.model.specs.declared.Request.{Request}
 use Rattle.model.specs.declared.Verdict.{Verdict}
 use Rattle.model.specs.declared.Verdict.the-variants as verdict
 use Rattle.model.specs.Answers.{byVerdict}
-use Rattle.model.specs.Values.{sizesOf, trimmed, blankChain, requestOf}
+use Rattle.model.specs.Values.{blankChain, requestOf}
 use Rattle.model.specs.Lines.{linesOf}
-use Rattle.model.specs.Judging.{badDims, badSizes, badGrid, judgeChain}
+use Rattle.model.specs.Judging.{judgeChain}
 use Rattle.model.specs.Planning.{judgeRequest, plannedChain, planOf}
 use Rattle.model.specs.Reading.{start, complete, readLines, endVerdict, readRequest}
 use Rattle.model.specs.Writing.{sheetOf, longestSheet}
 use Rattle.model.specs.Arriving.{opened, arrive, finished}
 use Rattle.model.specs.Programs.{refusalText, planText}
-use Rattle.model.proofs.Tests.{neither}
-use Rattle.model.proofs.CheckLaws.{value-passes}
+use Rattle.model.proofs.ChainLaws.{dims-flat}
 use Rattle.sheet_laws.proofs.SheetLength.{sheet-length}
-use Rattle.run_laws.proofs.Accepts.{accepted-chain}
+use Rattle.sheet_laws.proofs.AcceptedChains.{accepted-chain}
 use Rattle.run_laws.proofs.Plans.{plan-accepted}
 use Rattle.sheet_trips.proofs.AsItArrives.{as-it-arrives, in-pieces, stays}
 use Rattle.program_answer.specs.Answer.{planAnswer}
@@ -48,37 +45,34 @@ all-taken a (b ∷ bs) = go (arrive false a b .verdict) refl (all-taken (arrive 
 answered : (input : List ℕ) → planAnswer (arrive false opened input) ≡ planText input
 unfolding planAnswer planText readRequest
 answered input =
-    ap (λ (s : LineStep). byVerdict (endVerdict s (judgeRequest (requestOf (s .reading .chain)))) (sheetOf (plannedChain (requestOf (s .reading .chain)))) refusalText)
+    ap (λ (s : LineStep). byVerdict (endVerdict s (judgeRequest (requestOf (s .reading .chain)) [])) (sheetOf (plannedChain (requestOf (s .reading .chain)) [])) refusalText)
     (as-it-arrives false input)
-    ∙ go (endVerdict s (judgeRequest (requestOf (s .reading .chain))))
+    ∙ go (endVerdict s (judgeRequest (requestOf (s .reading .chain)) []))
   where
     s : LineStep
     s = readLines false start (linesOf input)
 
-    go : (v : Verdict) → byVerdict v (sheetOf (plannedChain (requestOf (s .reading .chain)))) refusalText
-        ≡ byVerdict v (sheetOf (plannedChain (requestOf (byVerdict v (s .reading .chain) (λ x. blankChain))))) refusalText
+    go : (v : Verdict) → byVerdict v (sheetOf (plannedChain (requestOf (s .reading .chain)) [])) refusalText
+        ≡ byVerdict v (sheetOf (plannedChain (requestOf (byVerdict v (s .reading .chain) (λ x. blankChain))) [])) refusalText
     go verdict.Accepted = refl
     go (verdict.Refused x) = refl
 
 -- It fits.
-chain-fits : (c : Chain) → judgeChain c ≡ verdict.Accepted → length (sheetOf c) ≤ longestSheet
-unfolding judgeChain badGrid badDims trimmed
+chain-fits : (c : Chain) → judgeChain c [] ≡ verdict.Accepted → length (sheetOf c) ≤ longestSheet
 chain-fits c e =
     let a = accepted-chain c e in
-    let grid = value-passes (trimmed c) (a .checks) .window .grid in
-    let dims = neither (badDims (c .grid .dims)) (badSizes (sizesOf (c .grid))) grid .0 in
-    sheet-length c (ltb-false 4 (c .grid .dims) (neither (eqb (c .grid .dims) 0) (ltb 4 (c .grid .dims)) dims .1)) (a .few)
+    sheet-length c (omega (arith, dims-flat (c .grid) (a .flat), a .few-dims)) (a .few)
 
-planned-fits : (r : Request) → judgeRequest r ≡ verdict.Accepted → length (sheetOf (plannedChain r)) ≤ longestSheet
+planned-fits : (r : Request) → judgeRequest r [] ≡ verdict.Accepted → length (sheetOf (plannedChain r [])) ≤ longestSheet
 unfolding planOf
-planned-fits r e = chain-fits (plannedChain r) (rw e at (plan-accepted r e))
+planned-fits r e = chain-fits (plannedChain r []) (rw e at (plan-accepted r [] e))
 
-text-fits : (s : LineStep) (r : Request) → length (byVerdict (endVerdict s (judgeRequest r)) (sheetOf (plannedChain r)) refusalText) ≤ longestSheet
+text-fits : (s : LineStep) (r : Request) → length (byVerdict (endVerdict s (judgeRequest r [])) (sheetOf (plannedChain r [])) refusalText) ≤ longestSheet
 unfolding endVerdict
-text-fits s r = go (s .verdict) (complete (s .reading)) (judgeRequest r) refl
+text-fits s r = go (s .verdict) (complete (s .reading)) (judgeRequest r []) refl
   where
-    go : (v : Verdict) (b : Bool) (w : Verdict) → judgeRequest r ≡ w
-        → length (byVerdict (byVerdict v (cond b w (verdict.Refused refusal.Misplaced)) verdict.Refused) (sheetOf (plannedChain r)) refusalText) ≤ longestSheet
+    go : (v : Verdict) (b : Bool) (w : Verdict) → judgeRequest r [] ≡ w
+        → length (byVerdict (byVerdict v (cond b w (verdict.Refused refusal.Misplaced)) verdict.Refused) (sheetOf (plannedChain r [])) refusalText) ≤ longestSheet
     go (verdict.Refused x) b w e = omega (arith, refusal-length x)
     go verdict.Accepted false w e = omega (arith, refusal-length refusal.Misplaced)
     go verdict.Accepted true (verdict.Refused x) e = omega (arith, refusal-length x)

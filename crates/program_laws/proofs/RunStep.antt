@@ -1,6 +1,6 @@
 -- A step of the program `run` that is a run call.
 use Prim.Native.Nat.{ℕ, _+_, _*_, _-_, _%_, _^_, _≤_, _<_, min}
-use mathlib.Core.List.{List, _++_}
+use mathlib.Core.List.{List, [], _++_}
 use mathlib.Core.Path.{_≡_, refl, sym, _∙_, ap, ap₂, subst}
 use native.Mathlib.Nat.{min-eq-left, mod-eq-of-lt, min-le-left, min-le-right, le-min}
 use native.Mathlib.Omega.{arith}
@@ -83,13 +83,13 @@ result l size places r s c clocks =
     (r .store) (l .cells) (r .output ++ drop places (l .words)) (t .output)
 
 module _ (input : List ℕ) (l : Loop) (h : Holds input l) (i : InClocks input (l .job) (restOf l) (l .store) (l .cells) (l .written))
-    (places : ℕ) (fits : places ≤ length (l .words)) (lines : places ≤ roomFor (widthOf (trimmed (chainOf (l .job)))) (length (l .text)))
+    (places : ℕ) (fits : places ≤ length (l .words)) (lines : places ≤ roomFor (widthOf (trimmed (chainOf (l .job)) [])) (length (l .text)))
     (r : Run) (w : Went (chainOf (l .job)) (i .run .ok) (i .run .all) (i .run .stands) (take places (l .words)) 4294967295 r) where
   abbrev j : Job
   j = l .job
 
   abbrev size : ℕ
-  size = widthOf (trimmed (chainOf (l .job)))
+  size = widthOf (trimmed (chainOf (l .job)) [])
 
   abbrev ran : Left
   ran = result l size places r (stageOf (w .ending)) (w .counts) (l .job .clocks + w .counts .clocks)
@@ -101,13 +101,13 @@ module _ (input : List ℕ) (l : Loop) (h : Holds input l) (i : InClocks input (
   output-length = omega (arith, length-append (r .output) (drop places (l .words)), length-drop places (l .words), w .same-length, lent)
 
   -- The text of the call's firings.
-  laid : (take (ran .step .bytes) (ran .text) ≡ firingsText size (countersOf (trimmed (chainOf j) .count) (j .state) .fired) (w .counts .firings) (r .output))
+  laid : (take (ran .step .bytes) (ran .text) ≡ firingsText size (countersOf (trimmed (chainOf j) [] .count) (j .state) .fired) (w .counts .firings) (r .output))
       × (length (l .text) ≤ length (ran .text))
   unfolding countersOf
   laid =
       let f = j .state .fired .0 in
       let n = w .counts .firings in
-      let wide = some-width (trimmed (chainOf j)) (accepted-chain (chainOf j) (i .run .ok)) in
+      let wide = some-width (trimmed (chainOf j) []) (accepted-chain (chainOf j) [] (i .run .ok)) in
       let few = fired-few (chainOf j) (i .run .ok) (i .run .all) (w .stands) in
       let put = firings-laid size f n (r .output ++ drop places (l .words)) (l .text) (wide .0) (wide .1) (omega (arith, w .fits, lent, output-length)) (omega (arith, w .fits, lent))
       (omega (arith, w .fired)) in (
@@ -154,7 +154,7 @@ module _ (input : List ℕ) (l : Loop) (h : Holds input l) (i : InClocks input (
   DueAfter e = Due input (stageOf e) (result l size places r (stageOf e) (w .counts) (j .clocks + w .counts .clocks) .step .job) (restOf l) (r .store) (l .cells) written
 
   due-after : (e : Ending)
-      → Stopped (chainOf j) (i .run .ok) (i .run .all) (take places (l .words)) 4294967295 (w .counts .clocks) (countersOf (trimmed (chainOf j) .count) (r .state))
+      → Stopped (chainOf j) (i .run .ok) (i .run .all) (take places (l .words)) 4294967295 (w .counts .clocks) (countersOf (trimmed (chainOf j) [] .count) (r .state))
       (drop (w .counts .cells) (drop (j .from) (take (j .count) (l .cells)))) e
       → DueAfter e
   unfolding stageOf runs-on
@@ -162,12 +162,15 @@ module _ (input : List ℕ) (l : Loop) (h : Holds input l) (i : InClocks input (
       ap (λ (e : Ending). written ++ endText e (j .clocks + w .counts .clocks) (i .run .behind)) (sym x) ∙ run-stops input _ (restOf l) (r .store) written _ (runs-on (stage.Ending doneByte)) stop
   due-after Stalled (at-stalled stop x) =
       ap (λ (e : Ending). written ++ endText e (j .clocks + w .counts .clocks) (i .run .behind)) (sym x) ∙ run-stops input _ (restOf l) (r .store) written _ (runs-on (stage.Ending stalledByte)) stop
-  due-after Starved (at-starved more none) = record { run = rw (← none) (runs-on stage.Cells); left = more }
+  due-after Starved (at-starved more none) = record {
+    run = subst (λ (hand : List ℕ). Runs input (result l size places r stage.Cells (w .counts) (j .clocks + w .counts .clocks) .step .job) (restOf l) (r .store) written hand) none (runs-on stage.Cells);
+    left = more;
+  }
   due-after Spent (at-spent made) = on-clocks
   due-after Full (at-full made) = on-clocks
 
   nearer-after : size ≤ places → (e : Ending)
-      → Stopped (chainOf j) (i .run .ok) (i .run .all) (take places (l .words)) 4294967295 (w .counts .clocks) (countersOf (trimmed (chainOf j) .count) (r .state))
+      → Stopped (chainOf j) (i .run .ok) (i .run .all) (take places (l .words)) 4294967295 (w .counts .clocks) (countersOf (trimmed (chainOf j) [] .count) (r .state))
       (drop (w .counts .cells) (drop (j .from) (take (j .count) (l .cells)))) e
       → 3 * (33554432 - (j .clocks + w .counts .clocks)) + rank (stageOf e) < 3 * (33554432 - j .clocks) + 3
   unfolding stageOf
@@ -197,13 +200,13 @@ module _ (input : List ℕ) (l : Loop) (h : Holds input l) (e : l .job .stage �
   i = due-at input l h stage.Clocks e
 
   abbrev width-of : ℕ
-  width-of = widthOf (trimmed (chainOf (l .job)))
+  width-of = widthOf (trimmed (chainOf (l .job)) [])
 
   places-of : ℕ
   places-of = min (length (l .words)) (roomFor width-of (length (l .text)))
 
   run-of : Run
-  run-of = runOf (chainOf (l .job)) (l .job .state) (l .store) (drop (l .job .from) (take (l .job .count) (l .cells))) (take places-of (l .words)) 4294967295
+  run-of = runOf (chainOf (l .job)) [] (l .job .state) (l .store) (drop (l .job .from) (take (l .job .count) (l .cells))) (take places-of (l .words)) 4294967295
 
   went-so : Went (chainOf (l .job)) (i .run .ok) (i .run .all) (i .run .stands) (take places-of (l .words)) 4294967295 run-of
   unfolding run-of
@@ -218,7 +221,7 @@ module _ (input : List ℕ) (l : Loop) (h : Holds input l) (e : l .job .stage �
   unfolding places-of
   run-step =
       let w = went-so in
-      let wide = some-width (trimmed (chainOf (l .job))) (accepted-chain (chainOf (l .job)) (i .run .ok)) in
+      let wide = some-width (trimmed (chainOf (l .job)) []) (accepted-chain (chainOf (l .job)) [] (i .run .ok)) in
       let few = clocks-few (chainOf (l .job)) (i .run .ok) (i .run .all) (w .stands) in
       let enough : width-of ≤ places-of = le-min (omega (arith, h .words)) (room-enough width-of (length (l .text)) (wide .1) (h .text)) in
       let small : l .job .clocks + w .counts .clocks < 2 ^ 32 = omega arith in

@@ -31,11 +31,11 @@ use Rattle.sheet_trips.proofs.AsItArrives.{infront, whole-line, last-line, one-
 unfoldable pub textBehind : Split → List ℕ
 textBehind p =
     let chain = p .step .reading .chain in
-    let t = trimmed chain in
+    let t = trimmed chain [] in
     let e = wholeRun t (cellsIn (p .behind)) in
     let done = e .standing .done in
     let text = firingsText (widthOf t) 0 (done .firings) (e .standing .output) ++ endText (e .ending) (done .clocks) (behindCells (p .behind)) in
-    byVerdict (endVerdict (p .step) (judgeChain chain)) text refusalText
+    byVerdict (endVerdict (p .step) (judgeChain chain [])) text refusalText
 
 -- The sheet's last step and the lines behind it, of a whole input.
 abbrev pub splitOf : (input : List ℕ) → Split
@@ -187,15 +187,15 @@ sheet-unended input a m = go (m .chars) (m .due)
         ∙ ap (λ (s : LineStep). complete (s .reading)) cut ∙ m .unended
 
 -- Behind the `04`: the chain is judged, and an accepted one is run.
-pub chain-back : (r : Reading) (ls : List Line) (x : Refusal) → complete r ≡ true → judgeChain (r .chain) ≡ verdict.Refused x
+pub chain-back : (r : Reading) (ls : List Line) (x : Refusal) → complete r ≡ true → judgeChain (r .chain) [] ≡ verdict.Refused x
     → textBehind (record { step = record { verdict = verdict.Accepted; reading = r }; behind = ls }) ≡ refusalText x
 unfolding textBehind endVerdict
 chain-back r ls x s e = rw (s, e)
 
-pub chain-runs : (r : Reading) (ls : List Line) → complete r ≡ true → judgeChain (r .chain) ≡ verdict.Accepted
+pub chain-runs : (r : Reading) (ls : List Line) → complete r ≡ true → judgeChain (r .chain) [] ≡ verdict.Accepted
     → textBehind (record { step = record { verdict = verdict.Accepted; reading = r }; behind = ls })
-    ≡ firingsText (widthOf (trimmed (r .chain))) 0 (wholeRun (trimmed (r .chain)) (cellsIn ls) .standing .done .firings) (wholeRun (trimmed (r .chain)) (cellsIn ls) .standing .output)
-    ++ endText (wholeRun (trimmed (r .chain)) (cellsIn ls) .ending) (wholeRun (trimmed (r .chain)) (cellsIn ls) .standing .done .clocks) (behindCells ls)
+    ≡ firingsText (widthOf (trimmed (r .chain) [])) 0 (wholeRun (trimmed (r .chain) []) (cellsIn ls) .standing .done .firings) (wholeRun (trimmed (r .chain) []) (cellsIn ls) .standing .output)
+    ++ endText (wholeRun (trimmed (r .chain) []) (cellsIn ls) .ending) (wholeRun (trimmed (r .chain) []) (cellsIn ls) .standing .done .clocks) (behindCells ls)
 unfolding textBehind endVerdict
 chain-runs r ls s e = rw (s, e)
 

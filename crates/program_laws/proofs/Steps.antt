@@ -1,7 +1,7 @@
 -- One step of the program `run`, stage by stage: it keeps what is due, and brings the end nearer.
 use Prim.Native.Nat.{ℕ, _+_, _*_, _-_, _≤_, _<_}
 use mathlib.Core.Bool.{Bool, true, false, cond}
-use mathlib.Core.List.{List, _++_, append-nil, flatten}
+use mathlib.Core.List.{List, [], _++_, append-nil, flatten}
 use mathlib.Core.Path.{_≡_, refl, sym, _∙_, ap, subst}
 use native.Mathlib.Omega.{arith}
 use lib.Dec.{ltb}
@@ -99,7 +99,7 @@ module _ (input : List ℕ) (l : Loop) (h : Holds input l) where
 
   rank-sheet : (a : Arriving) → rank (sheetStage a) ≤ 2
   unfolding sheetStage
-  rank-sheet a = go (a .verdict) (complete (a .reading)) (judgeChain (a .reading .chain))
+  rank-sheet a = go (a .verdict) (complete (a .reading)) (judgeChain (a .reading .chain) [])
     where
       go : (v : Verdict) (b : Bool) (w : Verdict) → rank (byVerdict v (cond b (byVerdict w stage.Cells stage.Refusing) stage.Sheet) stage.Refusing) ≤ 2
       go (verdict.Refused x) b w = omega arith

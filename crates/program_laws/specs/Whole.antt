@@ -167,7 +167,7 @@ WritesFirst = (past further : List (List ℕ)) → NonEmpty (past ++ further) �
 abbrev pub StarvedAt : (input : List ℕ) → Type 0
 StarvedAt input =
     let p = sheetAndBehind start (linesOf input) in
-    complete (p .step .reading) ≡ true → wholeRun (trimmed (p .step .reading .chain)) (cellsIn (p .behind)) .ending ≡ Starved
+    complete (p .step .reading) ≡ true → wholeRun (trimmed (p .step .reading .chain) []) (cellsIn (p .behind)) .ending ≡ Starved
 
 abbrev pub ReadsStarved : Type 0
 ReadsStarved = (past further : List (List ℕ)) → NonEmpty (past ++ further) → (lent : Lent) (n : ℕ)

@@ -1,6 +1,7 @@
 -- Each way through the choice of a job's next stage.
 use Prim.Native.Nat.{ℕ, zero, suc, _≤_, _<_}
 use mathlib.Core.Bool.{true, false, false≢true}
+use mathlib.Core.List.{[]}
 use mathlib.Core.Path.{_≡_, refl, sym, _∙_, ap}
 use native.Mathlib.Omega.{arith}
 use lib.IntN.{ℤ, pos, negsuc}
@@ -31,12 +32,12 @@ pub sheet-open : (a : Arriving) → a .verdict ≡ verdict.Accepted → complete
 unfolding sheetStage
 sheet-open a e d = rw (e, d)
 
-pub chain-refused : (a : Arriving) (x : Refusal) → a .verdict ≡ verdict.Accepted → complete (a .reading) ≡ true → judgeChain (a .reading .chain) ≡ verdict.Refused x
+pub chain-refused : (a : Arriving) (x : Refusal) → a .verdict ≡ verdict.Accepted → complete (a .reading) ≡ true → judgeChain (a .reading .chain) [] ≡ verdict.Refused x
     → stage.Refusing x ≡ sheetStage a
 unfolding sheetStage
 chain-refused a x e d j = rw (e, d, j)
 
-pub chain-accepted : (a : Arriving) → a .verdict ≡ verdict.Accepted → complete (a .reading) ≡ true → judgeChain (a .reading .chain) ≡ verdict.Accepted → stage.Cells ≡ sheetStage a
+pub chain-accepted : (a : Arriving) → a .verdict ≡ verdict.Accepted → complete (a .reading) ≡ true → judgeChain (a .reading .chain) [] ≡ verdict.Accepted → stage.Cells ≡ sheetStage a
 unfolding sheetStage
 chain-accepted a e d j = rw (e, d, j)
 

@@ -80,7 +80,7 @@ pub fn staged(j: Job, stage: Stage) -> Job
     }
 }
 
-// Where the sheet has been read to: turned back, still open, or at its `04`, where the chain is judged.
+// Where the sheet has been read to: turned back, still open, or at its `04`, where the chain is judged, with no rows beside it.
 pub fn sheet_stage(a: Arriving) -> Stage
     ensures { λ r. ⌜ r ≡ sheetStage a ⌝ }
 {
@@ -93,7 +93,7 @@ pub fn sheet_stage(a: Arriving) -> Stage
                 return Stage::Sheet;
             }
             let chain = r.chain;
-            let judged = judging::judge_chain(chain);
+            let judged = judging::judge_chain(chain, &[]);
             match judged {
                 Verdict::Refused(n) => Stage::Refusing(n),
                 Verdict::Accepted => Stage::Cells,

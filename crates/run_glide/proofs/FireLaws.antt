@@ -21,20 +21,13 @@ use denote.Enum.Declared.{tagOf}
 use Rattle.loop_laws.specs.Passes.{Lent, lentOf, passing, passOf, InStore}
 use Rattle.loop_laws.proofs.FlowLaws.{length-flowed}
 use Rattle.loop_laws.proofs.CallLaws.{sets-part}
-use Rattle.run_glide.specs.Glides.{Blank, Fires, firedOf}
+use Rattle.run_glide.specs.Glides.{Blank, firedOf}
 
 pub part-all : (l : List ℕ) (o : ℕ) → take (length l - o) (drop o l) ≡ drop o l
 part-all l o = take-all (length l - o) (drop o l) (omega (arith, length-drop o l))
 
 pub part-length : (l : List ℕ) (o : ℕ) → length (take (length l - o) (drop o l)) ≡ length l - o
 part-length l o = ap length (part-all l o) ∙ length-drop o l
-
--- A word for each filter.
-pub passing-count : (n word : ℕ) (puts gets store : List ℕ) → 0 < n → InStore (n - 1) puts gets store → length (passing (n - 1) word puts gets store) ≡ n
-passing-count n word puts gets store some inside =
-    let lp : length (slice 0 (n - 1) puts) ≡ n - 1 = length-take-le (n - 1) puts (inside .puts-there) in
-    let lg : length (slice 0 (n - 1) gets) ≡ n - 1 = length-take-le (n - 1) gets (inside .gets-there) in
-    omega (arith, length-flowed word (slice 0 (n - 1) gets) (slice 0 (n - 1) puts) store (omega arith))
 
 -- A row that was written from its start: past the words it is 0.
 module _ (n : ℕ) (row vs : List ℕ) (B : Blank n row) (e : length vs ≡ n) (few : n ≤ 32) where
@@ -69,7 +62,7 @@ written-same (kernels.Scaled g) c ks us row vs f = rw (words-same ks row vs f)
 written-same (kernels.Blend g) c ks us row vs f = rw (f c, words-same ks row vs f)
 
 -- A kernel that is not raw writes no filter's word as it is.
-never-zero : OneOf (1 ∷ 2 ∷ 3 ∷ []) 0 → ⊥
+pub never-zero : OneOf (1 ∷ 2 ∷ 3 ∷ []) 0 → ⊥
 never-zero (inl e) = omega arith
 never-zero (inr (inl e)) = omega arith
 never-zero (inr (inr e)) = omega arith
@@ -95,42 +88,43 @@ module _ (k : Kernel) (other : OneOf (1 ∷ 2 ∷ 3 ∷ []) (tagOf the-type k)) 
       go (kernels.Scaled f) e = refl
       go (kernels.Blend g) e = refl
 
-module _ (kernel : Kernel) (centre n o : ℕ) (bases tops : List ℕ) (word : ℕ) (puts gets store row out ts : List ℕ) (F : Fires kernel centre n o puts gets store row out) where
+module _ (n o : ℕ) (bases tops : List ℕ) (word : ℕ) (puts gets store out : List ℕ) (some : 0 < n) (inside : InStore (n - 1) puts gets store) where
   vs : List ℕ
   vs = passing (n - 1) word puts gets store
 
+  -- A word for each filter.
   words-count : length vs ≡ n
   unfolding vs
-  words-count = passing-count n word puts gets store (F .some) (F .in-store)
+  words-count =
+      let lp : length (slice 0 (n - 1) puts) ≡ n - 1 = length-take-le (n - 1) puts (inside .puts-there) in
+      let lg : length (slice 0 (n - 1) gets) ≡ n - 1 = length-take-le (n - 1) gets (inside .gets-there) in
+      omega (arith, length-flowed word (slice 0 (n - 1) gets) (slice 0 (n - 1) puts) store (omega arith))
 
   -- Raw: the words go where they are written.
-  pub fires-raw : (puts′ gets′ store′ words words′ out′ : List ℕ) → kernel ≡ kernels.Raw
+  pub fires-raw : (puts′ gets′ store′ words words′ out′ : List ℕ)
       → lentOf puts′ gets′ store′ words′ ≡ passOf (n - 1) bases tops word (lentOf puts gets store words) → words ≡ drop o out
       → out′ ≡ take o out ++ (words′ ++ drop (length out - o) (drop o out))
-      → lentOf puts′ gets′ store′ out′ ≡ firedOf kernel centre ts n o bases tops word (lentOf puts gets store out)
+      → lentOf puts′ gets′ store′ out′ ≡ firedOf kernels.Raw 0 [] n o bases tops word (lentOf puts gets store out)
   unfolding vs written
-  fires-raw puts′ gets′ store′ words words′ out′ r e ep eo =
+  fires-raw puts′ gets′ store′ words words′ out′ e ep eo =
       let none : drop (length out - o) (drop o out) ≡ [] = rw (length-drop o out) at (drop-length (drop o out)) in
       let ew : words′ ≡ sets (drop o out) 0 vs = ap (λ (l : Lent). l .words) e ∙ rw ep in
-      let e₁ : out′ ≡ sets out o (written kernel centre ts (upTo n) vs) =
-      eo ∙ rw (none, append-nil, ew, sets-part out o 0 vs, add-zero, r, words-of-all vs n words-count) in
-      rw e₁ (ap (λ (l : Lent). lentOf (l .puts) (l .gets) (l .store) (sets out o (written kernel centre ts (upTo n) vs))) e)
+      let e₁ : out′ ≡ sets out o (wordsAt (upTo n) vs) =
+      eo ∙ rw (none, append-nil, ew, sets-part out o 0 vs, add-zero, words-of-all vs n words-count) in
+      rw e₁ (ap (λ (l : Lent). lentOf (l .puts) (l .gets) (l .store) (sets out o (wordsAt (upTo n) vs))) e)
 
   -- The other kernels: the words go to the row.
-  pub fires-kernel : (puts′ gets′ store′ row′ out′ : List ℕ) → lentOf puts′ gets′ store′ row′ ≡ passOf (n - 1) bases tops word (lentOf puts gets store row)
+  pub fires-kernel : (kernel : Kernel) (centre size : ℕ) (ts puts′ gets′ store′ row row′ out′ : List ℕ) → Blank n row → n ≤ 32 → size ≡ width kernel n → o + size ≤ length out
+      → lentOf puts′ gets′ store′ row′ ≡ passOf (n - 1) bases tops word (lentOf puts gets store row)
       → OneOf (1 ∷ 2 ∷ 3 ∷ []) (tagOf the-type kernel) → out′ ≡ applied kernel centre ts ts row′ o out
       → (lentOf puts′ gets′ store′ out′ ≡ firedOf kernel centre ts n o bases tops word (lentOf puts gets store out)) × Blank n row′
   unfolding vs
-  fires-kernel puts′ gets′ store′ row′ out′ e other eo =
+  fires-kernel kernel centre size ts puts′ gets′ store′ row row′ out′ blank few es fits e other eo =
       let er : row′ ≡ sets row 0 vs = ap (λ (l : Lent). l .words) e in
-      let room : o + width kernel (length ts) ≤ length out = rw (one-width kernel other (length ts) n) (F .room) in
+      let room : o + width kernel (length ts) ≤ length out = rw (one-width kernel other (length ts) n, ← es) fits in
       let w : written kernel centre ts ts row′ ≡ written kernel centre ts (upTo n) vs =
-      ap (λ (r : List ℕ). written kernel centre ts ts r) er ∙ written-same kernel centre ts ts (sets row 0 vs) vs (entry n row vs (F .blank) words-count (F .few))
+      ap (λ (r : List ℕ). written kernel centre ts ts r) er ∙ written-same kernel centre ts ts (sets row 0 vs) vs (entry n row vs blank words-count few)
       ∙ no-writes kernel other centre ts ts (upTo n) vs in
       let e₁ : out′ ≡ sets out o (written kernel centre ts (upTo n) vs) =
       eo ∙ applied-fits kernel centre ts ts row′ o out room ∙ ap (λ (ws : List ℕ). sets out o ws) w in
-      (rw e₁ (ap (λ (l : Lent). lentOf (l .puts) (l .gets) (l .store) (sets out o (written kernel centre ts (upTo n) vs))) e), rw er (blank-on n row vs (F .blank) words-count (F .few)))
-
-  pub raw-room : kernel ≡ kernels.Raw → n ≤ length out - o
-  unfolding width
-  raw-room r = let h = rw r at (F .room) in omega arith
+      (rw e₁ (ap (λ (l : Lent). lentOf (l .puts) (l .gets) (l .store) (sets out o (written kernel centre ts (upTo n) vs))) e), rw er (blank-on n row vs blank words-count few))

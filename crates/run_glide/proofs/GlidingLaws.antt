@@ -12,7 +12,7 @@ use Rattle.model.specs.Clock.{Layout}
 use Rattle.model.specs.Running.{Done, Spent, Starved, Full}
 use Rattle.model.specs.declared.Kernel.{Kernel}
 use Rattle.flow.proofs.Invariant.{first-wanted}
-use Rattle.loop_laws.specs.Passes.{of, ahead, Lent, lentOf, passing, passOf, heads}
+use Rattle.loop_laws.specs.Passes.{of, ahead, Lent, lentOf, passing, heads}
 use Rattle.loop_laws.specs.Standings.{counting, stand, endedAt}
 use Rattle.loop_laws.specs.Tables.{walked}
 use Rattle.loop_laws.proofs.FillLaws.{first-take}
@@ -29,7 +29,7 @@ use Rattle.loop_laws.proofs.GlideLaws.{
   ends-done,
 }
 use Rattle.run_glide.proofs.RingLaws.{caps-at, puts-at, gets-at}
-use Rattle.run_glide.specs.Glides.{firedOf, passesOf, firesOf, Starts, Glides, calls, GoodPlaces, InRows, InRings, Sound}
+use Rattle.run_glide.specs.Glides.{firedOf, passesOf, firesOf, Starts, Glides, calls, GoodPlaces, Sound}
 
 -- The terms and the width of a firing, by other names.
 pub named : (L : Layout) (write : List ℕ → List ℕ) (kernel : Kernel) (ts ts′ : List ℕ) (n row iterations cells centre w w′ fired dims : ℕ) (at wants caps bases tops spans strides passed us gs store : List ℕ) → ts ≡ ts′ → w ≡ w′
@@ -116,13 +116,6 @@ module _ (L : Layout) (write : List ℕ → List ℕ) (kernel : Kernel) (ts : Li
       due-after : fired < iterations → wait ≤ 0 → fired + 1 < iterations → getD passed 0 0 + (taken + 1) ≤ getD at 0 0 + walked spans strides dims 0 (fired + 1)
       due-after = due-next _ _ _ _ _ _ _ _ _ _ _ _ _ _ _ _ _ _ _ _ (G .tables) (G .stands) (G .rows) (G .rings) _ _ _ _ _ _ _ _ _ s
 
-      glide-waits : (us′ gs′ store′ words words′ : List ℕ) (x : ℕ) → lentOf us′ gs′ store′ words′ ≡ passOf (n - 1) bases tops x (lentOf us gs store words)
-          → x ≡ getD lent taken 0 → fired < iterations → (taken ≡ allowance → ⊥) → taken < length lent → 0 < wait
-          → Glide us′ gs′ store′ out fired (wait - 1) left (taken + 1) o
-      glide-waits us′ gs′ store′ words words′ x e ex fl al tl wl =
-          gliding-waits _ _ _ _ _ _ _ _ _ _ _ _ _ _ _ _ _ _ _ _ (G .tables) (G .stands) (G .rows) (G .rings) _ _ _ _ _ _ _ _ _ s us′ gs′ store′ x
-          (ap (λ (l : Lent). l .puts) e) (ap (λ (l : Lent). l .gets) e) (ap (λ (l : Lent). l .store) e) ex fl al tl wl
-
       -- A firing.
       module _ (us′ gs′ store′ out′ : List ℕ) (x : ℕ) (e : lentOf us′ gs′ store′ out′ ≡ firedOf kernel centre ts n o bases tops x (lentOf us gs store out))
           (ex : x ≡ getD lent taken 0) (fl : fired < iterations) (al : taken ≡ allowance → ⊥) (tl : taken < length lent) (wl : wait ≤ 0) (r : size ≤ length out - o) where
@@ -161,15 +154,15 @@ module _ (L : Layout) (write : List ℕ → List ℕ) (kernel : Kernel) (ts : Li
     module _ (us gs store out : List ℕ) (fired wait left taken o : ℕ) (s : Glide us gs store out fired wait left taken o) where
       -- So many clocks without a firing.
       glide-passes : (words : List ℕ) (m : ℕ) → fired < iterations → m ≤ wait → taken + m ≤ allowance → taken + m ≤ length lent
-          → let l = passesOf n bases tops lent taken m (lentOf us gs store words) in Glide (l .puts) (l .gets) (l .store) out fired (wait - m) left (taken + m) o
-      unfolding passesOf
+          → let l = passesOf n 0 bases tops lent taken 0 m (lentOf us gs store words) in Glide (l .puts) (l .gets) (l .store) out fired (wait - m) left (taken + m) o
+      unfolding firesOf
       glide-passes words zero fl wl al tl = rw (sub-zero wait, add-zero taken) s
       glide-passes words (suc i) fl wl al tl =
-          let l = passesOf n bases tops lent taken i (lentOf us gs store words) in
+          let l = passesOf n 0 bases tops lent taken 0 i (lentOf us gs store words) in
           let h = glide-passes words i fl (omega arith) (omega arith) (omega arith) in
-          let l′ = passOf (n - 1) bases tops (getD lent (taken + i) 0) l in
-          let g = glide-waits (l .puts) (l .gets) (l .store) out fired (wait - i) left (taken + i) o h (l′ .puts) (l′ .gets) (l′ .store) (l .words) (l′ .words) (getD lent (taken + i) 0)
-          refl refl fl (omega arith) (omega arith) (omega arith) in
+          let l′ = passesOf n 0 bases tops lent taken 0 (suc i) (lentOf us gs store words) in
+          let g = gliding-waits _ _ _ _ _ _ _ _ _ _ _ _ _ _ _ _ _ _ _ _ (G .tables) (G .stands) (G .rows) (G .rings) _ _ _ _ _ _ _ _ _ h (l′ .puts) (l′ .gets) (l′ .store)
+          (getD lent (taken + i) 0) refl refl refl refl fl (omega arith) (omega arith) (omega arith) in
           let e₁ : wait - suc i ≡ wait - i - 1 = omega arith in
           let e₂ : taken + suc i ≡ taken + i + 1 = omega arith in
           rw (e₁, e₂) g
@@ -230,7 +223,7 @@ module _ (L : Layout) (write : List ℕ → List ℕ) (kernel : Kernel) (ts : Li
               rw (ap (λ (l : Lent). l .puts) e, ap (λ (l : Lent). l .gets) e, ap (λ (l : Lent). l .store) e, ap (λ (l : Lent). l .words) e)
               (glide-fires-out full first position wait₀ left₀ S m ml ll le il al tl r w′ f)
 
-      pub glide-waited : (us′ gs′ store′ words words′ : List ℕ) (m : ℕ) → lentOf us′ gs′ store′ words′ ≡ passesOf n bases tops lent taken m (lentOf us gs store words) → fired < iterations
+      pub glide-waited : (us′ gs′ store′ words words′ : List ℕ) (m : ℕ) → lentOf us′ gs′ store′ words′ ≡ passesOf n 0 bases tops lent taken 0 m (lentOf us gs store words) → fired < iterations
           → m ≤ wait → taken + m ≤ allowance → taken + m ≤ length lent → Glide us′ gs′ store′ out fired (wait - m) left (taken + m) o
       glide-waited us′ gs′ store′ words words′ m e fl wl al tl =
           rw (ap (λ (l : Lent). l .puts) e, ap (λ (l : Lent). l .gets) e, ap (λ (l : Lent). l .store) e) (glide-passes words m fl wl al tl)

@@ -1,24 +1,24 @@
--- Words that pass and firings that are made one after the other: the places stay in their rings.
-use Prim.Native.Nat.{ℕ, zero, suc, _+_, _-_, _*_, _/_, _^_, _≤_, _<_, min}
+-- Passes and firings one after the other: the places stay in their rings.
+use Prim.Native.Nat.{ℕ, zero, suc, _+_, _-_, _*_, _/_, _≤_, _<_}
 use mathlib.Core.List.{List}
-use mathlib.Core.Path.{_≡_, refl, sym, _∙_, ap}
+use mathlib.Core.Path.{_≡_, refl, _∙_, ap}
 use native.Mathlib.Nat.{suc-mul, mul-le-mul-right, le-div-iff-mul-le, add-zero, zero-mul}
 use native.Mathlib.Numerals.{add-one}
 use native.Mathlib.Omega.{arith}
 use native.Mathlib.Decide.{ℕ-discrete}
 use lib.ListN.{length, getD, set}
 use lib.Seq.{slice, length-sets, getD-set-same, getD-set-other}
-use mir.Syntax.{w64}
-use mir.Val.{Fits}
 use Rattle.model.specs.Lists.{upTo}
-use Rattle.model.specs.Kernels.{written, width}
+use Rattle.model.specs.Kernels.{wordsAt, written, width}
 use Rattle.model.specs.declared.Kernel.{Kernel}
 use Rattle.model.specs.declared.Kernel.the-variants as kernels
-use Rattle.loop_laws.specs.Passes.{step, flow, stepped, Lent, lentOf, passing, passOf, InStore}
+use Rattle.model.proofs.ListLaws.{length-tabulate}
+use Rattle.kernel.proofs.SumLaws.{words-count}
+use Rattle.loop_laws.specs.Passes.{step, flow, stepped, Lent, lentOf, passing, InStore}
 use Rattle.loop_laws.proofs.FlowLaws.{length-flow}
 use Rattle.loop_laws.proofs.PassLaws.{step-back, step-up, length-stepped}
-use Rattle.run_glide.specs.Glides.{Blank, Fires, firedOf, GoodPlaces, Rung, passesOf, firesOf}
-use Rattle.run_glide.proofs.FireLaws.{passing-count, blank-on}
+use Rattle.run_glide.specs.Glides.{Blank, firedOf, GoodPlaces, Rung, passesOf, firesOf}
+use Rattle.run_glide.proofs.FireLaws.{blank-on}
 
 -- ---- a step in a ring
 
@@ -51,9 +51,6 @@ module _ (n room : ℕ) (bases tops us gs store : List ℕ) (r : Rung n room bas
     in-gets = λ i h. let g = r .rings .each i (omega arith) in omega (arith, g .2, g .3, r .room-is);
   }
 
-  pub row-there : (row : List ℕ) → Blank n row → n ≤ length row
-  row-there row b = omega (arith, b .there, r .rings .few)
-
   rung-on : (us′ gs′ store′ : List ℕ) (x : ℕ) → us′ ≡ stepped bases tops (n - 1) us → gs′ ≡ stepped bases tops (n - 1) gs
       → store′ ≡ flow x (slice 0 (n - 1) gs) (slice 0 (n - 1) us) store → Rung n room bases tops us′ gs′ store′
   rung-on us′ gs′ store′ x eu eg es = record {
@@ -74,79 +71,75 @@ module _ (n room : ℕ) (bases tops us gs store : List ℕ) (r : Rung n room bas
             g .3,
           )
 
--- ---- many passes
+-- ---- many clocks
 
-module _ (n from count : ℕ) (bases tops cells us₀ gs₀ store₀ words₀ : List ℕ) where
-  pub record Passed (us gs store words : List ℕ) (i : ℕ) : Type 0 where
-    pub most : i ≤ count
-    pub left : lentOf us gs store words ≡ passesOf n bases tops cells from i (lentOf us₀ gs₀ store₀ words₀)
-    pub rung : Rung n (length store₀) bases tops us gs store
-    pub blank : Blank n words
-
-  pub passed-none : Rung n (length store₀) bases tops us₀ gs₀ store₀ → Blank n words₀ → Passed us₀ gs₀ store₀ words₀ 0
-  unfolding passesOf
-  passed-none r b = record { most = omega arith; left = refl; rung = r; blank = b }
-
-  module _ (us gs store words : List ℕ) (i : ℕ) (s : Passed us gs store words i) where
-    pub passed-more : (us′ gs′ store′ words′ : List ℕ) (x : ℕ) → i < count → x ≡ getD cells (from + i) 0
-        → lentOf us′ gs′ store′ words′ ≡ passOf (n - 1) bases tops x (lentOf us gs store words) → Passed us′ gs′ store′ words′ (i + 1)
-    unfolding passesOf
-    passed-more us′ gs′ store′ words′ x h ex e = record {
-      most = omega arith;
-      left = rw (add-one i) (e ∙ ap (λ (y : ℕ). passOf (n - 1) bases tops y (lentOf us gs store words)) ex ∙ ap (λ (l : Lent). passOf (n - 1) bases tops (getD cells (from + i) 0) l) (s .left));
-      rung = rung-on n (length store₀) bases tops us gs store (s .rung) us′ gs′ store′ x (ap (λ (l : Lent). l .puts) e) (ap (λ (l : Lent). l .gets) e) (ap (λ (l : Lent). l .store) e);
-      blank = rw (ap (λ (l : Lent). l .words) e) (blank-on n words (passing (n - 1) x us gs store) (s .blank)
-          (passing-count n x us gs store (s .rung .rings .some) (in-store n (length store₀) bases tops us gs store (s .rung))) (s .rung .rings .few));
-    }
-
-    pub passed-all : count ≤ i → lentOf us gs store words ≡ passesOf n bases tops cells from count (lentOf us₀ gs₀ store₀ words₀)
-    passed-all h = let e : count ≡ i = omega (arith, s .most) in rw e (s .left)
-
--- ---- many firings
-
-module _ (kernel : Kernel) (centre n size from o count : ℕ) (bases tops cells us₀ gs₀ store₀ row₀ out₀ ts : List ℕ) where
-  pub record Fired (us gs store row out : List ℕ) (at i : ℕ) : Type 0 where
+module _ (kernel : Kernel) (centre n size from o count : ℕ) (bases tops cells us₀ gs₀ store₀ out₀ ts : List ℕ) where
+  pub record Fired (us gs store out : List ℕ) (at i : ℕ) : Type 0 where
     pub most : i ≤ count
     pub at-is : at ≡ o + i * size
     pub left : lentOf us gs store out ≡ firesOf kernel centre ts n size bases tops cells from o i (lentOf us₀ gs₀ store₀ out₀)
     pub rung : Rung n (length store₀) bases tops us gs store
-    pub blank : Blank n row
     pub out-length : length out ≡ length out₀
 
-  pub fired-none : Rung n (length store₀) bases tops us₀ gs₀ store₀ → Blank n row₀ → Fired us₀ gs₀ store₀ row₀ out₀ o 0
+  pub fired-none : Rung n (length store₀) bases tops us₀ gs₀ store₀ → Fired us₀ gs₀ store₀ out₀ o 0
   unfolding firesOf
-  fired-none r b = record { most = omega arith; at-is = rw (zero-mul size, add-zero o); left = refl; rung = r; blank = b; out-length = refl }
+  fired-none r = record { most = omega arith; at-is = rw (zero-mul size, add-zero o); left = refl; rung = r; out-length = refl }
 
-  module _ (us gs store row out : List ℕ) (at i : ℕ) (s : Fired us gs store row out at i) (fits : o + count * size ≤ length out₀) where
-    -- There is room for one more.
-    pub fired-room : i < count → at + size ≤ length out
-    fired-room h = let m : suc i * size ≤ count * size = mul-le-mul-right size (omega arith) in omega (arith, m, suc-mul i size, s .at-is, s .out-length)
+  module _ (us gs store out : List ℕ) (at i : ℕ) (s : Fired us gs store out at i) where
+    -- There is room for one more, and for the rest behind it.
+    pub fired-room : (rest : ℕ) → o + count * size + rest ≤ length out₀ → i < count → at + size + rest ≤ length out
+    fired-room rest fits h = let m : suc i * size ≤ count * size = mul-le-mul-right size (omega arith) in omega (arith, m, suc-mul i size, s .at-is, s .out-length)
 
-    pub may-fire : i < count → size ≡ width kernel n → Fires kernel centre n at us gs store row out
-    may-fire h e = record {
-      some = s .rung .rings .some;
-      few = s .rung .rings .few;
-      blank = s .blank;
-      in-store = in-store n (length store₀) bases tops us gs store (s .rung);
-      room = rw (← e) (fired-room h);
-    }
-
-    pub fired-more : (us′ gs′ store′ row′ out′ : List ℕ) (x : ℕ) → i < count → x ≡ getD cells (from + i) 0
-        → lentOf us′ gs′ store′ out′ ≡ firedOf kernel centre ts n at bases tops x (lentOf us gs store out) → Blank n row′ → Fired us′ gs′ store′ row′ out′ (at + size) (i + 1)
+    pub fired-more : (us′ gs′ store′ out′ : List ℕ) (x : ℕ) → i < count → x ≡ getD cells (from + i) 0
+        → lentOf us′ gs′ store′ out′ ≡ firedOf kernel centre ts n at bases tops x (lentOf us gs store out) → Fired us′ gs′ store′ out′ (at + size) (i + 1)
     unfolding firesOf
-    fired-more us′ gs′ store′ row′ out′ x h ex e b = record {
+    fired-more us′ gs′ store′ out′ x h ex e = record {
       most = omega arith;
       at-is = rw (add-one i, suc-mul i size) (omega (arith, s .at-is));
       left = rw (add-one i) (e ∙ ap (λ (y : ℕ). firedOf kernel centre ts n at bases tops y (lentOf us gs store out)) ex
           ∙ ap (λ (z : ℕ). firedOf kernel centre ts n z bases tops (getD cells (from + i) 0) (lentOf us gs store out)) (s .at-is)
           ∙ ap (λ (l : Lent). firedOf kernel centre ts n (o + i * size) bases tops (getD cells (from + i) 0) l) (s .left));
       rung = rung-on n (length store₀) bases tops us gs store (s .rung) us′ gs′ store′ x (ap (λ (l : Lent). l .puts) e) (ap (λ (l : Lent). l .gets) e) (ap (λ (l : Lent). l .store) e);
-      blank = b;
       out-length = ap (λ (l : Lent). length (l .words)) e ∙ length-sets out at (written kernel centre ts (upTo n) (passing (n - 1) x us gs store)) ∙ s .out-length;
     }
 
     pub fired-all : count ≤ i → lentOf us gs store out ≡ firesOf kernel centre ts n size bases tops cells from o count (lentOf us₀ gs₀ store₀ out₀)
     fired-all h = let e : count ≡ i = omega (arith, s .most) in rw e (s .left)
+
+-- ---- raw firings
+
+-- They have no centre and no terms.
+raw-same : (centre : ℕ) (ts : List ℕ) (n size : ℕ) (bases tops cells : List ℕ) (from o i : ℕ) (l : Lent)
+    → passesOf n size bases tops cells from o i l ≡ firesOf kernels.Raw centre ts n size bases tops cells from o i l
+unfolding firesOf written
+raw-same centre ts n size bases tops cells from o zero l = refl
+raw-same centre ts n size bases tops cells from o (suc i) l =
+    ap (λ (z : Lent). firedOf kernels.Raw centre ts n (o + i * size) bases tops (getD cells (from + i) 0) z) (raw-same centre ts n size bases tops cells from o i l)
+
+-- They are passes, whose words stand side by side.
+pub raw-passes : (kernel : Kernel) (centre n size : ℕ) (bases tops cells ts : List ℕ) (from o i : ℕ) (l l′ : Lent) → kernel ≡ kernels.Raw → size ≡ width kernel n
+    → l′ ≡ passesOf n n bases tops cells from o i l → l′ ≡ firesOf kernel centre ts n size bases tops cells from o i l
+unfolding width
+raw-passes kernel centre n size bases tops cells ts from o i l l′ r w e = rw (w, r) (e ∙ raw-same centre ts n n bases tops cells from o i l)
+
+pub raw-room : (kernel : Kernel) (n size o count len : ℕ) → kernel ≡ kernels.Raw → size ≡ width kernel n → o + count * size ≤ len → o + count * n + (n - n) ≤ len
+unfolding width
+raw-room kernel n size o count len r w h = let e : size ≡ n = w ∙ rw r in let f = rw e at h in omega arith
+
+-- ---- passes whose words all go to the start of a row
+
+blank-passed : (n : ℕ) (bases tops cells : List ℕ) (from i : ℕ) (l : Lent) → n ≤ 32 → Blank n (l .words) → Blank n (passesOf n 0 bases tops cells from 0 i l .words)
+unfolding firesOf written upTo
+blank-passed n bases tops cells from zero l few b = b
+blank-passed n bases tops cells from (suc i) l few b =
+    let z : 0 + i * 0 ≡ 0 = omega arith in
+    let p = passesOf n 0 bases tops cells from 0 i l in
+    let ws = passing (n - 1) (getD cells (from + i) 0) (p .puts) (p .gets) (p .store) in
+    rw z (blank-on n (p .words) (wordsAt (upTo n) ws) (blank-passed n bases tops cells from i l few b) (words-count (upTo n) ws ∙ length-tabulate n (λ k. k)) few)
+
+-- Past the words it stays 0.
+pub blank-after : (n : ℕ) (bases tops cells : List ℕ) (from i : ℕ) (l l′ : Lent) → n ≤ 32 → Blank n (l .words) → l′ ≡ passesOf n 0 bases tops cells from 0 i l → Blank n (l′ .words)
+blank-after n bases tops cells from i l l′ few b e = rw (ap (λ (z : Lent). z .words) e) (blank-passed n bases tops cells from i l few b)
 
 -- ---- how many
 

@@ -1,24 +1,16 @@
 -- The loop over the clocks of aligned filters, whatever its tables say: the places stay in their rings, and no number gets out of its range.
-use Prim.Native.Nat.{ℕ, zero, suc, _+_, _-_, _*_, _/_, _%_, _^_, _≤_, _<_}
+use Prim.Native.Nat.{ℕ, _+_, _-_, _*_, _/_, _%_, _^_, _≤_, _<_}
 use mathlib.Core.Bool.{Bool, true, false}
 use mathlib.Core.List.{List}
-use mathlib.Core.Path.{_≡_, refl, sym, _∙_, ap}
+use mathlib.Core.Path.{_≡_, refl, _∙_, ap}
 use native.Mathlib.Nat.{mod-lt, mod-le, div-le-self, mul-le-mul}
-use native.Mathlib.Numerals.{add-one}
 use native.Mathlib.Omega.{arith}
 use native.Mathlib.Decide.{ℕ-discrete, decLt}
-use lib.ListN.{length, getD, set, replicate, length-replicate, getD-replicate, List·getD-eq-default}
-use lib.Seq.{slice, sets, length-sets, getD-set-same, getD-set-other}
+use lib.ListN.{length, getD, replicate, length-replicate, getD-replicate, List·getD-eq-default}
 use mir.Syntax.{w64}
 use mir.Val.{Fits}
-use Rattle.model.specs.Lists.{upTo}
-use Rattle.model.specs.Kernels.{written, width, terms}
-use Rattle.model.specs.declared.Kernel.{Kernel}
-use Rattle.loop_laws.specs.Passes.{step, flow, stepped, Lent, lentOf, passing, passOf, heads, InStore}
-use Rattle.loop_laws.proofs.FlowLaws.{length-flow}
-use Rattle.loop_laws.proofs.PassLaws.{step-back, step-up, length-stepped}
+use Rattle.loop_laws.specs.Passes.{heads}
 use Rattle.run_glide.specs.Glides.{Blank, GoodPlaces, InRings, InRows, Rung}
-use Rattle.run_glide.proofs.FireLaws.{passing-count, blank-on}
 
 -- ---- a walk
 

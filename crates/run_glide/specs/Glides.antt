@@ -1,17 +1,18 @@
 -- The clocks of aligned filters: what they are handed, what they leave, and the test of what they are handed.
 use Prim.Native.Nat.{ℕ, zero, suc, _+_, _-_, _*_, _%_, _≤_, _<_}
 use mathlib.Core.Bool.{Bool, true}
-use mathlib.Core.List.{List}
+use mathlib.Core.List.{List, []}
 use mathlib.Core.Path.{_≡_}
 use lib.ListN.{length, getD, take}
 use lib.Seq.{slice, sets}
 use Rattle.model.specs.Lists.{upTo}
-use Rattle.model.specs.Kernels.{written, width}
+use Rattle.model.specs.Kernels.{written}
 use Rattle.model.specs.Clock.{Layout}
-use Rattle.model.specs.Running.{Ending, Done, Spent, Starved, Stalled, Full, Ended, call}
+use Rattle.model.specs.Running.{Ending, Done, Spent, Starved, Full, Ended, call}
 use Rattle.model.specs.declared.Kernel.{Kernel}
-use Rattle.loop_laws.specs.Passes.{ahead, flow, stepped, Lent, passing, passOf, FullFifos, InStore}
-use Rattle.loop_laws.specs.Standings.{counting, stand, endedAt}
+use Rattle.model.specs.declared.Kernel.the-variants as kernels
+use Rattle.loop_laws.specs.Passes.{ahead, flow, stepped, Lent, passing, FullFifos}
+use Rattle.loop_laws.specs.Standings.{stand, endedAt}
 use Rattle.loop_laws.specs.Tables.{walked, Tables, Stands, Rows, Rings}
 use Rattle.run_glide.specs.declared.Way.{Way}
 use Rattle.run_glide.specs.declared.Way.the-variants as way
@@ -27,15 +28,7 @@ pub record Blank (n : ℕ) (row : List ℕ) : Type 0 where
   pub there : length row ≡ 256
   pub rest : (k : ℕ) → n ≤ k → getD row k 0 ≡ 0
 
--- What a firing is handed: there is room for the words, and for what the kernel makes of them.
-pub record Fires (kernel : Kernel) (centre n o : ℕ) (puts gets store row out : List ℕ) : Type 0 where
-  pub some : 0 < n
-  pub few : n ≤ 32
-  pub blank : Blank n row
-  pub in-store : InStore (n - 1) puts gets store
-  pub room : o + width kernel n ≤ length out
-
--- What it leaves, where the kernel adds the words of filters `ts`.
+-- What a firing leaves, where the kernel adds the words of filters `ts` and writes from place o on.
 abbrev pub firedOf : (kernel : Kernel) (centre : ℕ) (ts : List ℕ) (n o : ℕ) (bases tops : List ℕ) (word : ℕ) → Lent → Lent
 firedOf kernel centre ts n o bases tops word l = record {
   puts = stepped bases tops (n - 1) (l .puts);
@@ -60,16 +53,15 @@ pub record Rung (n room : ℕ) (bases tops us gs store : List ℕ) : Type 0 wher
   pub rings : InRings n room bases tops us gs
   pub room-is : length store ≡ room
 
--- What the words of so many cells leave that pass one after the other, from place `from` of the cells on;
-unfoldable pub passesOf : (n : ℕ) (bases tops cells : List ℕ) (from : ℕ) → ℕ → Lent → Lent
-passesOf n bases tops cells from zero l = l
-passesOf n bases tops cells from (suc i) l = passOf (n - 1) bases tops (getD cells (from + i) 0) (passesOf n bases tops cells from i l)
-
--- and so many firings, each `size` places behind the one before.
+-- So many firings one after the other: of the cells from place `from` on, each `size` places behind the one before.
 unfoldable pub firesOf : (kernel : Kernel) (centre : ℕ) (ts : List ℕ) (n size : ℕ) (bases tops cells : List ℕ) (from o : ℕ) → ℕ → Lent → Lent
 firesOf kernel centre ts n size bases tops cells from o zero l = l
 firesOf kernel centre ts n size bases tops cells from o (suc i) l =
     firedOf kernel centre ts n (o + i * size) bases tops (getD cells (from + i) 0) (firesOf kernel centre ts n size bases tops cells from o i l)
+
+-- So many passes: the words are written as they are.
+abbrev pub passesOf : (n size : ℕ) (bases tops cells : List ℕ) (from o : ℕ) → ℕ → Lent → Lent
+passesOf n size bases tops cells from o i l = firesOf kernels.Raw 0 [] n size bases tops cells from o i l
 
 -- The call that a loop makes the clocks of, from its beginning.
 abbrev pub calls : (L : Layout) (write : List ℕ → List ℕ) (size n fired : ℕ) (passed store lent out : List ℕ) (allowance : ℕ) → Ended

@@ -4,14 +4,14 @@ use model::Order;
 ghost use mathlib.Core.List.{List};
 ghost use mathlib.Core.Path.{_≡_};
 ghost use mathlib.Core.Bool.{true, false};
-ghost use Prim.Native.Nat.{ℕ, suc, _+_, _-_, _*_, _%_, _<_, _≤_};
-ghost use lib.ListN.{length, getD};
+ghost use Prim.Native.Nat.{ℕ, _+_, _-_, _*_, _%_, _<_, _≤_};
+ghost use lib.ListN.{length};
 ghost use Rattle.model.specs.Kernels.{width as widthFor, terms as termsOf};
 ghost use Rattle.model.specs.Clock.{Layout};
 ghost use Rattle.kernel.specs.Tables.{filtersFor};
 ghost use Rattle.loop_laws.specs.Passes.{step, lentOf, passOf, heads, FullFifos, InStore};
 ghost use Rattle.loop_laws.specs.Tables.{walked};
-ghost use Rattle.run_glide.specs.Glides.{Walks, Blank, Fires, firedOf, Rung, passesOf, firesOf, Starts, Glides, GlidesTo, GoodPlaces, InRings, InRows, Sound, Left};
+ghost use Rattle.run_glide.specs.Glides.{Walks, Blank, Rung, passesOf, firesOf, Starts, Glides, GlidesTo, GoodPlaces, InRings, InRows, Sound, Left};
 
 // ---- a clock in which every filter moves
 
@@ -94,36 +94,7 @@ fn pass(
     words[m] = carry;
 }
 
-// A firing: what the kernel makes of the words that pass goes to `out` from place o on. `row` is room for the words, `terms` are the filters that the kernel adds.
-fn fire(
-    full: bool,
-    kernel: Kernel,
-    centre: u8,
-    n: usize,
-    bases: &[usize; 32],
-    tops: &[usize; 32],
-    puts: &mut [usize; 32],
-    gets: &mut [usize; 32],
-    store: &mut [u32],
-    word: u32,
-    row: &mut [u32; 256],
-    out: &mut [u32],
-    o: usize,
-    terms: &[u8],
-)
-    requires { ⌜ Fires kernel centre n o (now puts) (heads full (now puts) (now gets)) (now store) (now row) (now out) ⌝ }
-    ensures { λ _. ⌜ (lentOf (now (puts .exit)) (heads full (now (puts .exit)) (now (gets .exit))) (now (store .exit)) (now (out .exit))
-        ≡ firedOf kernel centre (now (terms .entry)) n o (now (bases .entry)) (now (tops .entry)) word (lentOf (now (puts .entry)) (heads full (now (puts .entry)) (now (gets .entry))) (now (store .entry)) (now (out .entry)))) × Blank n (now (row .exit)) ⌝ }
-{
-    if let Kernel::Raw = kernel {
-        pass(full, n, bases, tops, puts, gets, store, word, &mut out[o..]);
-        return;
-    }
-    pass(full, n, bases, tops, puts, gets, store, word, row);
-    kernel::apply(kernel, centre, terms, terms, row, out, o);
-}
-
-// The words of `count` cells from place `from` on pass every filter, one after the other.
+// Every filter moves `count` times: the cells from place `from` on come in, and the words of each pass go to `words`, from place o on and `step` places behind those of the pass before.
 fn pass_all(
     full: bool,
     n: usize,
@@ -135,23 +106,38 @@ fn pass_all(
     cells: &[u32],
     from: usize,
     count: usize,
-    words: &mut [u32; 256],
+    words: &mut [u32],
+    o: usize,
+    step: usize,
 )
-    requires { ⌜ Rung n (length (now store)) (now bases) (now tops) (now puts) (heads full (now puts) (now gets)) (now store) × Blank n (now words) × (from + count ≤ length (now cells)) ⌝ }
+    requires { ⌜ Rung n (length (now store)) (now bases) (now tops) (now puts) (heads full (now puts) (now gets)) (now store) × (from + count ≤ length (now cells)) ⌝ }
+    requires { ⌜ (step ≤ n) × (o + count * step + (n - step) ≤ length (now words)) ⌝ }
     ensures { λ _. ⌜ (lentOf (now (puts .exit)) (heads full (now (puts .exit)) (now (gets .exit))) (now (store .exit)) (now (words .exit))
-        ≡ passesOf n (now (bases .entry)) (now (tops .entry)) (now (cells .entry)) from count (lentOf (now (puts .entry)) (heads full (now (puts .entry)) (now (gets .entry))) (now (store .entry)) (now (words .entry))))
+        ≡ passesOf n step (now (bases .entry)) (now (tops .entry)) (now (cells .entry)) from o count (lentOf (now (puts .entry)) (heads full (now (puts .entry)) (now (gets .entry))) (now (store .entry)) (now (words .entry))))
         × Rung n (length (now (store .entry))) (now (bases .entry)) (now (tops .entry)) (now (puts .exit)) (heads full (now (puts .exit)) (now (gets .exit))) (now (store .exit))
-        × Blank n (now (words .exit)) ⌝ }
+        × (length (now (words .exit)) ≡ length (now (words .entry))) ⌝ }
 {
+    let mut at = o;
     let mut i = 0;
     while i < count {
         let word = cells[from + i];
-        pass(full, n, bases, tops, puts, gets, store, word, words);
+        pass(
+            full,
+            n,
+            bases,
+            tops,
+            puts,
+            gets,
+            store,
+            word,
+            &mut words[at..],
+        );
+        at += step;
         i += 1;
     }
 }
 
-// So many firings, each `width` places behind the one before.
+// So many firings: what the kernel makes of the words that pass goes to `out`, from place o on and `width` places behind that of the firing before. `row` is room for the words of a firing, `terms` are the filters that the kernel adds.
 fn fire_all(
     full: bool,
     kernel: Kernel,
@@ -178,26 +164,30 @@ fn fire_all(
         × Rung n (length (now (store .entry))) (now (bases .entry)) (now (tops .entry)) (now (puts .exit)) (heads full (now (puts .exit)) (now (gets .exit))) (now (store .exit))
         × Blank n (now (row .exit)) × (length (now (out .exit)) ≡ length (now (out .entry))) ⌝ }
 {
-    let mut at = o;
-    let mut i = 0;
-    while i < count {
-        let newest = cells[from + i];
-        fire(
+    if let Kernel::Raw = kernel {
+        pass_all(
             full,
-            kernel,
-            centre,
             n,
             bases,
             tops,
             puts,
             gets,
             store,
-            newest,
-            row,
+            cells,
+            from,
+            count,
             out,
-            at,
-            terms,
+            o,
+            n,
         );
+        return;
+    }
+    let mut at = o;
+    let mut i = 0;
+    while i < count {
+        let newest = cells[from + i];
+        pass(full, n, bases, tops, puts, gets, store, newest, row);
+        kernel::apply(kernel, centre, terms, terms, row, out, at);
         at += width;
         i += 1;
     }
@@ -436,6 +426,8 @@ fn slide(
                 taken,
                 waits,
                 &mut spare,
+                0,
+                0,
             );
             wait -= waits;
             taken += waits;

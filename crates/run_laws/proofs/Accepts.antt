@@ -1,16 +1,16 @@
 -- What an accepted value is: no number turns it back.
-use Prim.Native.Nat.{_-_}
+use Prim.Native.Nat.{ℕ, _-_}
 use mathlib.Core.List.{List, _++_}
 use mathlib.Core.Path.{_≡_}
 use borrow.Author.Tests.{ltb-false}
 use Rattle.model.specs.Lists.{sum}
-use Rattle.model.specs.Values.{Trimmed, trimmed, sizesOf, capacitiesOf}
+use Rattle.model.specs.Values.{Trimmed, dimsOf, trimmed, capacitiesOf}
 use Rattle.model.specs.Answers.{Check, firstOf}
 use Rattle.model.specs.Judging.{tooLarge, judged, judgeChain}
 use Rattle.model.specs.declared.Chain.{Chain}
 use Rattle.model.specs.declared.Verdict.the-variants as verdict
 use Rattle.model.proofs.ListLaws.{length-tabulate}
-use Rattle.model.proofs.ChainLaws.{length-order, offsets-count, offsets-sized, part-bounded}
+use Rattle.model.proofs.ChainLaws.{ground-dims, length-order, offsets-count, offsets-sized, part-bounded}
 use Rattle.model.proofs.Iterations.{few-cells, some-covered, fitting}
 use Rattle.model.proofs.CheckLaws.{then-checks, value-passes, some-references, few-references}
 use Rattle.model.specs.Sized.{Proper, Fitting}
@@ -21,13 +21,13 @@ pub first-append : (cs ds : List Check) → firstOf cs ≡ verdict.Accepted → 
 first-append cs ds e = rw e at (then-checks cs ds)
 
 -- A chain, trimmed, has them.
-pub trimmed-proper : (c : Chain) → Proper (trimmed c)
-unfolding trimmed capacitiesOf sizesOf
-trimmed-proper c = record {
-  references = offsets-count (c .grid .dims) (c .window);
-  dimensions = length-tabulate (c .grid .dims) _;
-  entries = offsets-sized (c .grid) (c .window);
-  bounded = part-bounded (c .grid) (c .bounds);
+pub trimmed-proper : (c : Chain) (numbers : List ℕ) → Proper (trimmed c numbers)
+unfolding trimmed capacitiesOf
+trimmed-proper c numbers = record {
+  references = offsets-count (dimsOf (c .grid)) (c .window);
+  dimensions = ground-dims (c .grid) numbers;
+  entries = offsets-sized (c .grid) numbers (c .window);
+  bounded = part-bounded (c .grid) numbers (c .bounds);
   fifos = length-tabulate (c .window .count - 1) _;
   terms = length-order (c .window .count) (c .order);
 }
@@ -46,9 +46,9 @@ accepted t proper e =
       places = ltb-false 16384 (sum (t .capacities)) (p .chain .places);
     }
 
-pub accepted-chain : (c : Chain) → judgeChain c ≡ verdict.Accepted → Accepted (trimmed c)
+pub accepted-chain : (c : Chain) (numbers : List ℕ) → judgeChain c numbers ≡ verdict.Accepted → Accepted (trimmed c numbers)
 unfolding judgeChain
-accepted-chain c e = accepted (trimmed c) (trimmed-proper c) e
+accepted-chain c numbers e = accepted (trimmed c numbers) (trimmed-proper c numbers) e
 
 -- What the laws of iterations ask of it.
 pub fitting-of : (t : Trimmed) → Proper t → Accepted t → Fitting t

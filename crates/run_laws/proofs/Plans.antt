@@ -1,13 +1,14 @@
 -- The planned chain of a request that no number turns back: what it is, and that it is accepted.
+use Prim.Native.Nat.{ℕ}
 use mathlib.Core.Bool.{false}
-use mathlib.Core.List.{[]}
+use mathlib.Core.List.{List, []}
 use mathlib.Core.Path.{_≡_, refl, _∙_, ap}
 use Rattle.model.specs.Vectors.{isZero}
 use Rattle.model.specs.Grounds.{dims}
 use Rattle.model.specs.Courses.{count}
 use Rattle.model.specs.Boxes.{course, badBox}
 use Rattle.model.specs.Boxes.Part.{whole}
-use Rattle.model.specs.Values.{Trimmed, trimmed, noOrder, sizesOf}
+use Rattle.model.specs.Values.{Trimmed, groundOf, dimsOf, trimmed, noOrder}
 use Rattle.model.specs.Answers.{firstOf}
 use Rattle.model.specs.Judging.{repeats, noIteration, badOrder, windowChecks, chainChecks, valueChecks, judged, judgeChain}
 use Rattle.model.specs.Steps.{falling, authorsOrder, distances, sorted}
@@ -19,7 +20,7 @@ use Rattle.model.proofs.SameCourses.{same-course}
 use Rattle.model.proofs.Iterations.{fitting}
 use Rattle.model.proofs.SameWindows.{fitting-too}
 use Rattle.model.proofs.SortLaws.{length-falling, falling-each, falling-no-other, sized-falling, any-falling, repeats-falling}
-use Rattle.model.proofs.ChainLaws.{trimmed-chain}
+use Rattle.model.proofs.ChainLaws.{ground-dims, ground-again, trimmed-chain}
 use Rattle.model.proofs.TermLaws.{length-authors, authors-good}
 use Rattle.model.proofs.CheckLaws.{value-passes, few-dims, some-references}
 use Rattle.model.specs.Sized.{Proper, Fitting}
@@ -59,10 +60,10 @@ pub no-repeats : (t : Trimmed) → judged t ≡ verdict.Accepted → repeats (t 
 unfolding judged
 no-repeats t e = value-passes t e .window .distinct
 
-pub request-proper : (r : Request) → Proper (trimmedRequest r)
+pub request-proper : (r : Request) (numbers : List ℕ) → Proper (trimmedRequest r numbers)
 unfolding trimmedRequest trimmed sorted distances
-request-proper r =
-    let p = trimmed-proper (record { grid = r .grid; window = r .window; bounds = r .bounds; capacities = []; order = noOrder; kernel = r .kernel }) in
+request-proper r numbers =
+    let p = trimmed-proper (record { grid = r .grid; window = r .window; bounds = r .bounds; capacities = []; order = noOrder; kernel = r .kernel }) numbers in
     record {
       references = p .references;
       dimensions = p .dimensions;
@@ -72,19 +73,19 @@ request-proper r =
       terms = refl;
     }
 
-module _ (r : Request) (ok : judgeRequest r ≡ verdict.Accepted) where
+module _ (r : Request) (numbers : List ℕ) (ok : judgeRequest r numbers ≡ verdict.Accepted) where
   -- The planned chain's lists are the request's, with the offsets sorted.
-  pub planned-lists : trimmed (plannedChain r) ≡ sorted (trimmedRequest r)
-  unfolding judgeRequest judged plannedChain trimmedRequest sorted sizesOf
+  pub planned-lists : trimmed (plannedChain r numbers) numbers ≡ sorted (trimmedRequest r numbers)
+  unfolding judgeRequest judged plannedChain trimmedRequest sorted
   planned-lists =
-      let p = sorted-proper (trimmedRequest r) (request-proper r) in
-      trimmed-chain (sorted (trimmedRequest r)) (sizesOf (r .grid)) refl (p .dimensions) (p .references) (p .entries) (p .bounded) (p .fifos) (p .terms)
-      (few-dims (r .grid .dims) (sizesOf (r .grid)) (value-passes (trimmedRequest r) ok .window .grid)) (accepted (trimmedRequest r) (request-proper r) ok .few)
+      let p = sorted-proper (trimmedRequest r numbers) (request-proper r numbers) in
+      trimmed-chain (sorted (trimmedRequest r numbers)) numbers (ground-again (r .grid) numbers) (p .dimensions) (p .references) (p .entries) (p .bounded) (p .fifos) (p .terms)
+      (few-dims (dimsOf (r .grid)) (groundOf (r .grid) numbers) (ground-dims (r .grid) numbers) (value-passes (trimmedRequest r numbers) ok .window .grid)) (accepted (trimmedRequest r numbers) (request-proper r numbers) ok .few)
 
-  pub planned-judged : judged (sorted (trimmedRequest r)) ≡ verdict.Accepted
+  pub planned-judged : judged (sorted (trimmedRequest r numbers)) ≡ verdict.Accepted
   unfolding judged judgeRequest
-  planned-judged = ap firstOf (same-checks (trimmedRequest r) (request-proper r) ok) ∙ ok
+  planned-judged = ap firstOf (same-checks (trimmedRequest r numbers) (request-proper r numbers) ok) ∙ ok
 
-  pub plan-accepted : judgeChain (planOf r .chain) ≡ verdict.Accepted
+  pub plan-accepted : judgeChain (planOf r numbers .chain) numbers ≡ verdict.Accepted
   unfolding planOf judgeChain
   plan-accepted = rw (ok, planned-lists) planned-judged

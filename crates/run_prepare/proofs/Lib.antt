@@ -7,3 +7,5 @@ pub mod PrepareGuards
 pub mod PrepareChains
 pub mod GridLaws
 pub mod ReadyLaws
+pub mod RowReadLaws
+pub mod RowsLaws

@@ -17,7 +17,7 @@ use Rattle.model.specs.Sized.{Proper}
 use Rattle.run_laws.specs.Accepted.{Accepted}
 use Rattle.run_laws.proofs.Guard.{good-invariant}
 use Rattle.run_laws.proofs.Layouts.{all-places}
-use Rattle.run_prepare.specs.Prepared.{numberAt, blank, Filled, Shaped, Capped, counterAt, Laid, TakenUp}
+use Rattle.run_prepare.specs.Prepared.{numberAt, blank, Filled, Counted, Capped, counterAt, Laid, TakenUp}
 use Rattle.run_prepare.proofs.PrepareFills.{filled-as, filled-list}
 use Rattle.run_prepare.proofs.PreparePlaces.{same-places}
 use Rattle.run_prepare.proofs.PrepareWants.{few-filters}
@@ -43,13 +43,13 @@ module _ {t : Trimmed} {n : ℕ} {caps : List ℕ} (capped : Capped t n caps) wh
         ap (ltb (length store)) (e ∙ places-are (n - 1) (omega (arith, ok .some)) ∙ ap (firstPlace (layout t .capacity)) last ∙ all-places t proper ok)
 
 -- The layout that 11 looks at.
-pub laid : {t : Trimmed} {dims n cells iterations : ℕ} {es ss at caps : List ℕ} → Shaped t dims n cells iterations es ss at → Capped t n caps
+pub laid : {t : Trimmed} {n cells iterations : ℕ} {caps : List ℕ} → Counted t n cells iterations → Capped t n caps
     → (fired : ℕ) (old wants old′ last : List ℕ) → Filled old (λ k. layout t .wants fired k) n wants → Filled old′ (λ k. layout t .wants (fired - 1) k) n last
     → Laid (layout t) n cells iterations fired caps wants last
 unfolding layout
-laid {t} shaped capped fired old wants old′ last r q = record {
-  cells-are = shaped .cells-are;
-  iterations-are = shaped .iterations-are;
+laid {t} counted capped fired old wants old′ last r q = record {
+  cells-are = counted .cells-are;
+  iterations-are = counted .iterations-are;
   capacity-is = λ k h. sym (capped .capacities-are k h);
   wanted = λ k h. sym (r .done k h);
   fired-last = λ f k e h. let before : f ≡ fired - 1 = omega arith in ap (λ (j : ℕ). layout t .wants j k) before ∙ sym (q .done k h);
@@ -76,16 +76,16 @@ within-cells L s inv = go (s .fired) 0 (L .cells) (s .passed) (omega arith) (inv
     go f k source (p ∷ ps) h held (suc i) l = go f (suc k) p ps (omega (arith, held .0 .sourced)) (held .1) i (omega arith)
 
 -- What the call that takes up a state has found.
-pub taken-up : {t : Trimmed} {dims n cells iterations : ℕ} {es ss at caps : List ℕ} → Shaped t dims n cells iterations es ss at → Capped t n caps
+pub taken-up : {t : Trimmed} {n cells iterations : ℕ} {caps : List ℕ} → Counted t n cells iterations → Capped t n caps
     → (s : State) (fired j : ℕ) (bad : Bool) (passed wants old last : List ℕ) → fired ≡ s .fired .0 → j ≡ fired - 1
     → Filled blank (counterAt (s .passed)) n passed → Filled blank (λ k. layout t .wants fired k) n wants → Filled old (λ k. layout t .wants j k) n last
     → ((L : Layout) → Laid L n cells iterations fired caps wants last → bad ≡ badState L (record { fired = fired; passed = take n passed }))
     → TakenUp t s n bad passed wants
-taken-up {t} {n = n} shaped capped s fired j bad passed wants old last e b p w l h = record {
+taken-up {t} {n = n} counted capped s fired j bad passed wants old last e b p w l h = record {
   bad-is =
-      h (layout t) (laid shaped capped fired blank wants old last w (filled-as refl (λ k g. ap (λ (i : ℕ). layout t .wants i k) b) l))
+      h (layout t) (laid counted capped fired blank wants old last w (filled-as refl (λ k g. ap (λ (i : ℕ). layout t .wants i k) b) l))
       ∙ ap (λ (f : ℕ). badState (layout t) (record { fired = f; passed = take n passed })) e
-      ∙ ap (badState (layout t)) (counters-are n s blank passed (omega (arith, few-filters shaped)) p);
+      ∙ ap (badState (layout t)) (counters-are n s blank passed (omega (arith, few-filters counted)) p);
   passed-are = p;
   wants-are = filled-as refl (λ k g. ap (λ (f : ℕ). layout t .wants f k) e) w;
 }

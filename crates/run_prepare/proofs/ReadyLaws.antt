@@ -8,7 +8,7 @@ use native.Mathlib.Omega.{arith}
 use lib.ListN.{length, take, drop}
 use borrow.Author.Tests.{ltb-false}
 use Rattle.model.specs.Lists.{sum, product}
-use Rattle.model.specs.Values.{sizesOf, trimmed}
+use Rattle.model.specs.Values.{sizesOf, groundOf, dimsOf, trimmed, setGrid}
 use Rattle.model.specs.Iterations.{iterationsOf, extentsOf}
 use Rattle.model.specs.Answers.{Check, firstOf}
 use Rattle.model.specs.Judging.{badGrid, badCount, valueChecks, judged, judgeChain}
@@ -33,7 +33,7 @@ use Rattle.geometry.proofs.PartLaws.{part-none, part-all, part-shift, part-same
 use Rattle.shape.proofs.Answers.{centre-is}
 use Rattle.loop_laws.specs.Standings.{counting}
 use Rattle.run_prepare.specs.Prepared.{numberAt, blank, Filled, Shaped, Capped, TakenUp}
-use Rattle.run_prepare.specs.Ready.{Prepared, Begins, Capable, Stored, Taken, Begun, Readied}
+use Rattle.run_prepare.specs.Ready.{flattened, Prepared, Begins, Stored, Taken, Readied}
 use Rattle.run_prepare.specs.declared.Ready.{Ready}
 use Rattle.run_prepare.proofs.GridLaws.{good-grid}
 use Rattle.run_prepare.proofs.PrepareGuards.{bases-are, counters-are, good-counters}
@@ -48,35 +48,35 @@ first-refused (c ∷ cs) ds x e = go (c .holds) (first-refused cs ds x) e
     go true rest e = e
     go false rest e = rest e
 
-module _ (c : Chain) (s : State) (store : List ℕ) where
-  -- 3 to 9.
-  pub judged-refused : (x : Refusal) → judgeChain c ≡ verdict.Refused x → judgeRun (trimmed c) s store ≡ verdict.Refused x
+module _ (c : Chain) (numbers : List ℕ) (s : State) (store : List ℕ) where
+  -- 3 to 9 and 14 to 16.
+  pub judged-refused : (x : Refusal) → judgeChain c numbers ≡ verdict.Refused x → judgeRun (trimmed c numbers) s store ≡ verdict.Refused x
   unfolding judgeChain judged judgeRun
-  judged-refused x e = first-refused (valueChecks (trimmed c)) _ x e
+  judged-refused x e = first-refused (valueChecks (trimmed c numbers)) _ x e
 
-  module _ (ok : Accepted (trimmed c)) where
+  module _ (ok : Accepted (trimmed c numbers)) where
     -- 10.
-    pub judged-short : shortStore (trimmed c) store ≡ true → judgeRun (trimmed c) s store ≡ verdict.Refused refusal.ShortStore
+    pub judged-short : shortStore (trimmed c numbers) store ≡ true → judgeRun (trimmed c numbers) s store ≡ verdict.Refused refusal.ShortStore
     unfolding judgeRun firstOf
-    judged-short e = first-append (valueChecks (trimmed c)) _ (ok .checks) ∙ rw e
+    judged-short e = first-append (valueChecks (trimmed c numbers)) _ (ok .checks) ∙ rw e
 
-    module _ (long : shortStore (trimmed c) store ≡ false) where
+    module _ (long : shortStore (trimmed c numbers) store ≡ false) where
       -- 11.
-      pub judged-bad : badState (layout (trimmed c)) (countersOf (c .window .count) s) ≡ true → judgeRun (trimmed c) s store ≡ verdict.Refused refusal.BadState
+      pub judged-bad : badState (layout (trimmed c numbers)) (countersOf (c .window .count) s) ≡ true → judgeRun (trimmed c numbers) s store ≡ verdict.Refused refusal.BadState
       unfolding judgeRun firstOf trimmed
-      judged-bad e = first-append (valueChecks (trimmed c)) _ (ok .checks) ∙ rw (long, e)
+      judged-bad e = first-append (valueChecks (trimmed c numbers)) _ (ok .checks) ∙ rw (long, e)
 
-      pub judged-fine : badState (layout (trimmed c)) (countersOf (c .window .count) s) ≡ false → judgeRun (trimmed c) s store ≡ verdict.Accepted
+      pub judged-fine : badState (layout (trimmed c numbers)) (countersOf (c .window .count) s) ≡ false → judgeRun (trimmed c numbers) s store ≡ verdict.Accepted
       unfolding judgeRun firstOf trimmed
-      judged-fine good = first-append (valueChecks (trimmed c)) _ (ok .checks) ∙ rw (long, good)
+      judged-fine good = first-append (valueChecks (trimmed c numbers)) _ (ok .checks) ∙ rw (long, good)
 
 -- The places and a store that 10 does not turn back.
-pub stored : (c : Chain) (caps bases tops store : List ℕ) → Accepted (trimmed c) → Capped (trimmed c) (c .window .count) caps → ((k : ℕ) → numberAt caps k < 4294967296)
+pub stored : (c : Chain) (numbers caps bases tops store : List ℕ) → Accepted (trimmed c numbers) → Capped (trimmed c numbers) (c .window .count) caps → ((k : ℕ) → numberAt caps k < 4294967296)
     → Filled blank (firstPlace (numberAt caps)) (c .window .count - 1) bases
     → Filled blank (λ k. firstPlace (numberAt caps) k + numberAt caps k) (c .window .count - 1) tops
-    → shortStore (trimmed c) store ≡ false → Stored c caps bases tops store
+    → shortStore (trimmed c numbers) store ≡ false → Stored c numbers caps bases tops store
 unfolding layout
-stored c caps bases tops store ok capped small b t long = record {
+stored c numbers caps bases tops store ok capped small b t long = record {
   capable = record { accepted = ok; capped = capped; small = small };
   bases-are = λ k h. bases-are capped blank bases b .done k (omega arith);
   tops-are = λ k h. t .done k (omega arith) ∙ ap (λ (x : ℕ). x + numberAt caps k) (sym (b .done k (omega arith)));
@@ -84,10 +84,10 @@ stored c caps bases tops store ok capped small b t long = record {
 }
 
 -- A state that 11 does not turn back.
-pub taken : (c : Chain) (s : State) (cells iterations : ℕ) (es ss at caps bases tops store passed wants : List ℕ) (bad : Bool) → Stored c caps bases tops store
-    → Shaped (trimmed c) (c .grid .dims) (c .window .count) cells iterations es ss at → length at ≡ 32
-    → TakenUp (trimmed c) s (c .window .count) bad passed wants → bad ≡ false → Taken c s cells iterations es ss at wants caps bases tops passed store
-unfolding trimmed
+pub taken : (c : Chain) (s : State) (cells iterations : ℕ) (es ss at caps bases tops store passed wants : List ℕ) (bad : Bool) → Stored (flattened c) [] caps bases tops store
+    → Shaped (trimmed (flattened c) []) (c .grid .dims) (c .window .count) cells iterations es ss at → length at ≡ 32
+    → TakenUp (trimmed (flattened c) []) s (c .window .count) bad passed wants → bad ≡ false → Taken c s cells iterations es ss at wants caps bases tops passed store
+unfolding trimmed groundOf dimsOf
 taken c s cells iterations es ss at caps bases tops store passed wants bad st sh a u e = record {
   stored = st;
   shaped = sh;
@@ -116,40 +116,40 @@ product-last (suc x ∷ xs) (suc d) h = omega (arith, product-last xs d (some (p
     some zero g = omega arith
     some (suc p) g = omega arith
 
-module _ (c : Chain) {cells iterations : ℕ} {es ss at : List ℕ} (S : Shaped (trimmed c) (c .grid .dims) (c .window .count) cells iterations es ss at) where
+module _ (c : Chain) {cells iterations : ℕ} {es ss at : List ℕ} (S : Shaped (trimmed (flattened c) []) (c .grid .dims) (c .window .count) cells iterations es ss at) where
   abbrev whole : List ℕ
-  whole = extentsOf (trimmed c)
+  whole = extentsOf (trimmed (flattened c) [])
 
-  unturned : (badGrid (c .grid .dims) (sizesOf (c .grid)) ≡ false) × (badCount (c .window .count) ≡ false)
-  unfolding trimmed
+  unturned : (badGrid (c .grid .dims) (sizesOf (flattened c .grid)) ≡ false) × (badCount (c .window .count) ≡ false)
+  unfolding trimmed groundOf dimsOf
   unturned =
-      let p = value-passes (trimmed c) (S .accepted .checks) .window in
+      let p = value-passes (trimmed (flattened c) []) (S .counted .accepted .checks) .window in
       (p .grid, p .count)
 
   pub some-dimensions : (0 < c .grid .dims) × (c .grid .dims ≤ 4)
-  unfolding trimmed
-  some-dimensions = let g = good-grid (trimmed c) (sizesOf (c .grid)) refl (S .accepted) in (g .some, g .few)
+  unfolding trimmed groundOf dimsOf
+  some-dimensions = let g = good-grid (trimmed (flattened c) []) (sizesOf (flattened c .grid)) refl (S .counted .accepted) in (g .some, g .few)
 
   pub few-references : c .window .count ≤ 32
-  unfolding trimmed
-  few-references = S .accepted .few
+  unfolding trimmed groundOf dimsOf
+  few-references = S .counted .accepted .few
 
   dimensions : length whole ≡ c .grid .dims
-  unfolding trimmed
-  dimensions = extents-count (trimmed c) (S .spaced .fitting) (sizesOf (c .grid)) refl ∙ S .spaced .dimensions
+  unfolding trimmed groundOf dimsOf
+  dimensions = extents-count (trimmed (flattened c) []) (S .spaced .fitting) (sizesOf (flattened c .grid)) refl ∙ S .spaced .dimensions
 
-  counted : iterationsOf (trimmed c) ≡ product whole
-  unfolding trimmed
-  counted = iterations-product (trimmed c) (S .spaced .fitting) (sizesOf (c .grid)) refl
+  counted : iterationsOf (trimmed (flattened c) []) ≡ product whole
+  unfolding trimmed groundOf dimsOf
+  counted = iterations-product (trimmed (flattened c) []) (S .spaced .fitting) (sizesOf (flattened c .grid)) refl
 
   behind : (d : ℕ) → part (numberAt es) d (c .grid .dims) ≡ drop d whole
-  unfolding trimmed
+  unfolding trimmed groundOf dimsOf
   behind d =
       part-same (numberAt es) (numberAt whole) d (c .grid .dims) (λ i _ h. S .spaced .extents-are i h)
       ∙ ap (part (numberAt whole) d) (sym dimensions) ∙ part-drop whole d
 
   iterates : 0 < product whole
-  iterates = omega (arith, counted, S .accepted .iterates)
+  iterates = omega (arith, counted, S .counted .accepted .iterates)
 
   pub extents-small : Small es (c .grid .dims)
   extents-small d =
@@ -158,15 +158,15 @@ module _ (c : Chain) {cells iterations : ℕ} {es ss at : List ℕ} (S : Shaped 
         ap product (behind d),
         product-last whole d iterates,
         counted,
-        at-most-cells (trimmed c) (S .spaced .fitting),
+        at-most-cells (trimmed (flattened c) []) (S .spaced .fitting),
         S .spaced .cells,
       )
 
 module _ {c : Chain} {s : State} {cells iterations : ℕ} {es ss at wants caps bases tops passed store : List ℕ} (T : Taken c s cells iterations es ss at wants caps bases tops passed store) where
   -- The tables that the clocks are handed.
   pub prepared : (spans : List ℕ) (row centre : ℕ) → ((d : ℕ) → d < c .grid .dims → numberAt spans d ≡ product (part (numberAt es) (d + 1) (c .grid .dims)))
-      → row ≡ numberAt es (c .grid .dims - 1) → centre ≡ centreIn (c .grid .dims) (c .window) → Prepared (trimmed c) row iterations cells centre at caps bases tops spans ss
-  unfolding trimmed
+      → row ≡ numberAt es (c .grid .dims - 1) → centre ≡ centreIn (c .grid .dims) (c .window) → Prepared (trimmed (flattened c) []) row iterations cells centre at caps bases tops spans ss
+  unfolding trimmed groundOf dimsOf
   prepared spans row centre b r m = record {
     accepted = T .stored .capable .accepted;
     rectangular = T .shaped .spaced .rectangular;
@@ -178,9 +178,9 @@ module _ {c : Chain} {s : State} {cells iterations : ℕ} {es ss at wants caps b
     spans-are = λ d h. let n : d + 1 ≡ suc d = omega arith in b d h ∙ ap product (ap (λ (i : ℕ). part (numberAt es) i (c .grid .dims)) n ∙ behind c (T .shaped) (suc d));
     strides-are = T .shaped .spaced .strides-are;
     row-is = r ∙ T .shaped .spaced .extents-are (c .grid .dims - 1) (omega (arith, some-dimensions c (T .shaped) .0));
-    iterations-are = sym (T .shaped .iterations-are);
-    cells-are = sym (T .shaped .cells-are);
-    centre-is = m ∙ centre-is (c .grid) (c .window) (unturned c (T .shaped) .0) (unturned c (T .shaped) .1);
+    iterations-are = sym (T .shaped .counted .iterations-are);
+    cells-are = sym (T .shaped .counted .cells-are);
+    centre-is = m ∙ centre-is (flattened c .grid) (c .window) (unturned c (T .shaped) .0) (unturned c (T .shaped) .1);
   }
 
   -- The counters of the state.
@@ -188,29 +188,37 @@ module _ {c : Chain} {s : State} {cells iterations : ℕ} {es ss at wants caps b
   unfolding countersOf
   counters-there fired e = λ i. record { fired = e i; passed = T .counters i }
 
-  pub begins : (fired : ℕ) → fired ≡ s .fired .0 → Begins (trimmed c) fired wants passed store
-  unfolding trimmed shortStore
+  pub begins : (fired : ℕ) → fired ≡ s .fired .0 → Begins (trimmed (flattened c) []) fired wants passed store
+  unfolding trimmed groundOf dimsOf shortStore
   begins fired e = record {
-    wants-are = λ k h. T .wants-are k h ∙ ap (λ (f : ℕ). layout (trimmed c) .wants f k) (sym e);
+    wants-are = λ k h. T .wants-are k h ∙ ap (λ (f : ℕ). layout (trimmed (flattened c) []) .wants f k) (sym e);
     there = T .there;
-    room = ltb-false (length store) (sum (trimmed c .capacities)) (T .stored .long);
-    holds = subst (Invariant (layout (trimmed c))) (sym (counters-there fired e)) (good-counters (trimmed c) s (T .good));
+    room = ltb-false (length store) (sum (trimmed (flattened c) [] .capacities)) (T .stored .long);
+    holds = subst (Invariant (layout (trimmed (flattened c) []))) (sym (counters-there fired e)) (good-counters (trimmed (flattened c) []) s (T .good));
   }
 
 -- A refusal says nothing of the tables.
-pub readied-refused : (c : Chain) (s : State) (r : Ready) (x : Refusal) (at wants caps bases tops spans strides passed store : List ℕ) → r .verdict ≡ verdict.Refused x
-    → judgeRun (trimmed c) s store ≡ verdict.Refused x → Readied c s r at wants caps bases tops spans strides passed store
-readied-refused c s r x at wants caps bases tops spans strides passed store e j = record {
+pub readied-refused : (c : Chain) (numbers : List ℕ) (s : State) (r : Ready) (x : Refusal) (at wants caps bases tops spans strides passed store : List ℕ) → r .verdict ≡ verdict.Refused x
+    → judgeRun (trimmed c numbers) s store ≡ verdict.Refused x → Readied c numbers s r at wants caps bases tops spans strides passed store
+readied-refused c numbers s r x at wants caps bases tops spans strides passed store e j = record {
   verdict-is = e ∙ sym j;
   begun = λ a. absurd (let z : _≡_ {A = Verdict} verdict.Accepted (verdict.Refused x) = sym a ∙ e in let y : _≡_ {A = ℕ} 0 1 = cc in omega arith);
 }
+
+-- A chain on a rectangle is as it was.
+pub readied-flat : (c : Chain) → c .grid .skewed ≡ false → (s : State) (r : Ready) (at wants caps bases tops spans strides passed store : List ℕ)
+    → Readied (flattened c) [] s r at wants caps bases tops spans strides passed store → Readied c [] s r at wants caps bases tops spans strides passed store
+readied-flat c flat s r at wants caps bases tops spans strides passed store d = subst (λ (c : Chain). Readied c [] s r at wants caps bases tops spans strides passed store) same d
+  where
+    same : flattened c ≡ c
+    same = λ i. setGrid (record { skewed = sym flat i; rows = c .grid .rows; dims = c .grid .dims; sizes = c .grid .sizes }) c
 
 -- No refusal: the tables are there.
 pub readied : {c : Chain} {s : State} {cells iterations : ℕ} {es ss at wants caps bases tops passed store : List ℕ} → Taken c s cells iterations es ss at wants caps bases tops passed store
     → (spans : List ℕ) (row centre fired : ℕ) → ((d : ℕ) → d < c .grid .dims → numberAt spans d ≡ product (part (numberAt es) (d + 1) (c .grid .dims)))
     → row ≡ numberAt es (c .grid .dims - 1) → centre ≡ centreIn (c .grid .dims) (c .window) → fired ≡ s .fired .0
-    → Readied c s (record { verdict = verdict.Accepted; row = row; iterations = iterations; cells = cells; centre = centre; fired = fired }) at wants caps bases tops spans ss passed store
+    → Readied (flattened c) [] s (record { verdict = verdict.Accepted; row = row; iterations = iterations; cells = cells; centre = centre; fired = fired }) at wants caps bases tops spans ss passed store
 readied {c} {s} {store = store} T spans row centre fired b r m f = record {
-  verdict-is = sym (judged-fine c s store (T .stored .capable .accepted) (T .stored .long) (T .good));
+  verdict-is = sym (judged-fine (flattened c) [] s store (T .stored .capable .accepted) (T .stored .long) (T .good));
   begun = λ _. record { tables = prepared T spans row centre b r m; begins = begins T fired f; fired-is = f; counters = T .counters };
 }

@@ -58,14 +58,18 @@ pub record Spaced (t : Trimmed) (dims : ℕ) (es ss : List ℕ) : Type 0 where
   pub extents-are : (d : ℕ) → d < dims → numberAt es d ≡ getD (extentsOf t) d 0
   pub strides-are : (d : ℕ) → d < dims → numberAt ss d ≡ cellCount (drop (suc d) (groundSizes (t .ground)))
 
--- Where the references of an accepted chain read: `at` has the positions of the first iteration.
-pub record Shaped (t : Trimmed) (dims n cells iterations : ℕ) (es ss at : List ℕ) : Type 0 where
+-- An accepted chain of n filters, its cells and its iterations counted.
+pub record Counted (t : Trimmed) (n cells iterations : ℕ) : Type 0 where
   pub proper : Proper t
   pub accepted : Accepted t
-  pub spaced : Spaced t dims es ss
   pub count-is : t .count ≡ n
   pub cells-are : cellsOf t ≡ cells
   pub iterations-are : iterationsOf t ≡ iterations
+
+-- Where its references read on a rectangle: `at` has the positions of the first iteration.
+pub record Shaped (t : Trimmed) (dims n cells iterations : ℕ) (es ss at : List ℕ) : Type 0 where
+  pub counted : Counted t n cells iterations
+  pub spaced : Spaced t dims es ss
   pub reads-are : (k : ℕ) → k < n → numberAt at k ≡ readsOf t 0 k
 
 -- The capacities of a chain's FIFOs.

@@ -1,7 +1,7 @@
 -- What a run call finds before its clocks: the verdict on it, and where it is not refused the tables of the call.
 use Prim.Native.Nat.{ℕ, suc, _+_, _-_, _≤_, _<_}
 use mathlib.Core.Bool.{false}
-use mathlib.Core.List.{List}
+use mathlib.Core.List.{List, []}
 use mathlib.Core.Path.{_≡_}
 use lib.ListN.{length, getD, take, drop}
 use Rattle.model.specs.Lists.{sum, product}
@@ -9,7 +9,7 @@ use Rattle.model.specs.Geometry.{cellCount}
 use Rattle.model.specs.Grounds.{groundSizes}
 use Rattle.model.specs.Grounds.Ground.{rectangle}
 use Rattle.model.specs.Kernels.{centreOf}
-use Rattle.model.specs.Values.{Trimmed, trimmed}
+use Rattle.model.specs.Values.{Trimmed, trimmed, setGrid}
 use Rattle.model.specs.Iterations.{cellsOf, iterationsOf, extentsOf, readsOf}
 use Rattle.model.specs.Store.{firstPlace}
 use Rattle.model.specs.Running.{layout, countersOf, shortStore, badState, judgeRun}
@@ -46,37 +46,41 @@ pub record Begins (t : Trimmed) (fired : ℕ) (wants passed store : List ℕ) : 
   pub room : sum (t .capacities) ≤ length store
   pub holds : Invariant (layout t) (counting fired (take (t .count) passed))
 
--- A chain that no number from 3 to 9 turns back, its capacities in an array.
-pub record Capable (c : Chain) (caps : List ℕ) : Type 0 where
-  pub accepted : Accepted (trimmed c)
-  pub capped : Capped (trimmed c) (c .window .count) caps
+-- A chain, its grid taken for a rectangle.
+abbrev pub flattened : Chain → Chain
+flattened c = setGrid (record { skewed = false; rows = c .grid .rows; dims = c .grid .dims; sizes = c .grid .sizes }) c
+
+-- A chain that no number from 3 to 9 and 14 to 16 turns back, its capacities in an array.
+pub record Capable (c : Chain) (numbers caps : List ℕ) : Type 0 where
+  pub accepted : Accepted (trimmed c numbers)
+  pub capped : Capped (trimmed c numbers) (c .window .count) caps
   pub small : (k : ℕ) → numberAt caps k < 4294967296
 
 -- Besides the places of its FIFOs, and a store that 10 does not turn back.
-pub record Stored (c : Chain) (caps bases tops store : List ℕ) : Type 0 where
-  pub capable : Capable c caps
-  pub bases-are : (k : ℕ) → suc k < c .window .count → numberAt bases k ≡ firstPlace (λ i. getD (trimmed c .capacities) i 0) k
+pub record Stored (c : Chain) (numbers caps bases tops store : List ℕ) : Type 0 where
+  pub capable : Capable c numbers caps
+  pub bases-are : (k : ℕ) → suc k < c .window .count → numberAt bases k ≡ firstPlace (λ i. getD (trimmed c numbers .capacities) i 0) k
   pub tops-are : (k : ℕ) → suc k < c .window .count → numberAt tops k ≡ numberAt bases k + numberAt caps k
-  pub long : shortStore (trimmed c) store ≡ false
+  pub long : shortStore (trimmed c numbers) store ≡ false
 
--- And a state that 11 does not turn back, its counters and the cells that its filters want next in arrays.
+-- On a rectangle: and a state that 11 does not turn back, its counters and the cells that its filters want next in arrays.
 pub record Taken (c : Chain) (s : State) (cells iterations : ℕ) (es ss at wants caps bases tops passed store : List ℕ) : Type 0 where
-  pub stored : Stored c caps bases tops store
-  pub shaped : Shaped (trimmed c) (c .grid .dims) (c .window .count) cells iterations es ss at
+  pub stored : Stored (flattened c) [] caps bases tops store
+  pub shaped : Shaped (trimmed (flattened c) []) (c .grid .dims) (c .window .count) cells iterations es ss at
   pub at-there : length at ≡ 32
-  pub wants-are : (k : ℕ) → k < c .window .count → numberAt wants k ≡ layout (trimmed c) .wants (s .fired .0) k
+  pub wants-are : (k : ℕ) → k < c .window .count → numberAt wants k ≡ layout (trimmed (flattened c) []) .wants (s .fired .0) k
   pub there : length passed ≡ 32
   pub counters : take (c .window .count) passed ≡ countersOf (c .window .count) s .passed
-  pub good : badState (layout (trimmed c)) (countersOf (c .window .count) s) ≡ false
+  pub good : badState (layout (trimmed (flattened c) [])) (countersOf (c .window .count) s) ≡ false
 
 -- Where a call is not refused: its tables, and its counters.
-pub record Begun (c : Chain) (s : State) (r : Ready) (at wants caps bases tops spans strides passed store : List ℕ) : Type 0 where
-  pub tables : Prepared (trimmed c) (r .row) (r .iterations) (r .cells) (r .centre) at caps bases tops spans strides
-  pub begins : Begins (trimmed c) (r .fired) wants passed store
+pub record Begun (c : Chain) (numbers : List ℕ) (s : State) (r : Ready) (at wants caps bases tops spans strides passed store : List ℕ) : Type 0 where
+  pub tables : Prepared (trimmed c numbers) (r .row) (r .iterations) (r .cells) (r .centre) at caps bases tops spans strides
+  pub begins : Begins (trimmed c numbers) (r .fired) wants passed store
   pub fired-is : r .fired ≡ s .fired .0
   pub counters : take (c .window .count) passed ≡ countersOf (c .window .count) s .passed
 
 -- The verdict is the call's, whatever it is handed.
-pub record Readied (c : Chain) (s : State) (r : Ready) (at wants caps bases tops spans strides passed store : List ℕ) : Type 0 where
-  pub verdict-is : r .verdict ≡ judgeRun (trimmed c) s store
-  pub begun : r .verdict ≡ verdict.Accepted → Begun c s r at wants caps bases tops spans strides passed store
+pub record Readied (c : Chain) (numbers : List ℕ) (s : State) (r : Ready) (at wants caps bases tops spans strides passed store : List ℕ) : Type 0 where
+  pub verdict-is : r .verdict ≡ judgeRun (trimmed c numbers) s store
+  pub begun : r .verdict ≡ verdict.Accepted → Begun c numbers s r at wants caps bases tops spans strides passed store

@@ -1,10 +1,13 @@
-// What a run call prepares before its clocks: the chain's numbers in arrays, and numbers 10 and 11 (document 01, "Running" and "Turned back on account of the state").
+// What a run call prepares before its clocks: the chain's numbers in arrays, and numbers 10 and 11 (document 01, "Running" and "Turned back on account of the state"). On rows: skewed.rt.
+pub mod skewed;
+
 use model::Chain;
 use model::Refusal;
 use model::State;
 use model::Verdict;
 use shape::Shape;
-ghost use mathlib.Core.List.{List};
+ghost use mathlib.Core.Bool.{false};
+ghost use mathlib.Core.List.{List, []};
 ghost use mathlib.Core.Path.{_≡_};
 ghost use Prim.Native.Nat.{ℕ, suc, _+_, _-_, _≤_, _<_};
 ghost use lib.Dec.{ltb};
@@ -13,7 +16,7 @@ ghost use lib.Seq.{slice};
 ghost use Rattle.model.specs.Lists.{product};
 ghost use Rattle.model.specs.Clock.{Layout};
 ghost use Rattle.model.specs.Store.{firstPlace};
-ghost use Rattle.model.specs.Values.{Trimmed, trimmed};
+ghost use Rattle.model.specs.Values.{Trimmed};
 ghost use Rattle.model.specs.Judging.{judgeChain};
 ghost use Rattle.model.specs.Running.{layout, badCounter, badFifo, badState};
 ghost use Rattle.model.specs.declared.Verdict.the-variants.{Accepted, Refused};
@@ -21,7 +24,7 @@ ghost use Rattle.geometry.specs.Parts.{part, Small};
 ghost use Rattle.geometry.specs.Windows.{centreIn};
 ghost use Rattle.shape.specs.Shapes.{chainShape};
 ghost use Rattle.run_prepare.specs.Prepared.{numberAt, blank, Filled, Widened, walkBy, Walks, Shaped, Capped, counterAt, Laid, TakenUp};
-ghost use Rattle.run_prepare.specs.Ready.{Capable, Stored, Readied};
+ghost use Rattle.run_prepare.specs.Ready.{flattened, Capable, Stored, Readied};
 
 fn wide(x: u32) -> usize
     ensures { λ r. ⌜ (r ≡ x) × (r < 4294967296) ⌝ }
@@ -332,7 +335,7 @@ fn refused(x: Refusal) -> Ready
     }
 }
 
-// The state and the shape of an accepted chain whose capacities are in an array: 11, or the tables.
+// The state and the shape of an accepted chain on a rectangle whose capacities are in an array: 11, or the tables.
 fn with_store(
     chain: Chain,
     shape: Shape,
@@ -345,10 +348,10 @@ fn with_store(
     strides: &mut [usize; 4],
     passed: &mut [usize; 32],
 ) -> Ready
-    requires { ⌜ (shape ≡ chainShape chain) × (centre ≡ centreIn (chain .grid .dims) (chain .window)) ⌝ }
-    requires { ⌜ Capable chain (now caps) ⌝ }
-    ensures { λ r. ⌜ ((bases tops store : List ℕ) → Stored chain (now (caps .entry)) bases tops store
-        → Readied chain state r (now (at .exit)) (now (wants .exit)) (now (caps .entry)) bases tops (now (spans .exit)) (now (strides .exit)) (now (passed .exit)) store) ⌝ }
+    requires { ⌜ (shape ≡ chainShape (flattened chain)) × (centre ≡ centreIn (chain .grid .dims) (chain .window)) ⌝ }
+    requires { ⌜ Capable (flattened chain) [] (now caps) ⌝ }
+    ensures { λ r. ⌜ ((bases tops store : List ℕ) → Stored (flattened chain) [] (now (caps .entry)) bases tops store
+        → Readied (flattened chain) [] state r (now (at .exit)) (now (wants .exit)) (now (caps .entry)) bases tops (now (spans .exit)) (now (strides .exit)) (now (passed .exit)) store) ⌝ }
 {
     let n = chain.window.count as usize;
     let dims = chain.grid.dims as usize;
@@ -388,7 +391,7 @@ fn with_store(
     }
 }
 
-// A chain that no number from 3 to 9 turns back: 10, 11, or the tables.
+// A chain on a rectangle that no number from 3 to 9, 14 and 15 turns back: 10, 11, or the tables.
 fn with_chain(
     chain: Chain,
     shape: Shape,
@@ -404,9 +407,9 @@ fn with_chain(
     strides: &mut [usize; 4],
     passed: &mut [usize; 32],
 ) -> Ready
-    requires { ⌜ judgeChain chain ≡ Accepted ⌝ }
-    requires { ⌜ (shape ≡ chainShape chain) × (centre ≡ centreIn (chain .grid .dims) (chain .window)) ⌝ }
-    ensures { λ r. ⌜ Readied chain state r (now (at .exit)) (now (wants .exit)) (now (caps .exit)) (now (bases .exit)) (now (tops .exit)) (now (spans .exit)) (now (strides .exit)) (now (passed .exit)) (now (store .entry)) ⌝ }
+    requires { ⌜ judgeChain (flattened chain) [] ≡ Accepted ⌝ }
+    requires { ⌜ (shape ≡ chainShape (flattened chain)) × (centre ≡ centreIn (chain .grid .dims) (chain .window)) ⌝ }
+    ensures { λ r. ⌜ Readied (flattened chain) [] state r (now (at .exit)) (now (wants .exit)) (now (caps .exit)) (now (bases .exit)) (now (tops .exit)) (now (spans .exit)) (now (strides .exit)) (now (passed .exit)) (now (store .entry)) ⌝ }
 {
     let n = chain.window.count as usize;
     let capacities = chain.capacities;
@@ -429,7 +432,7 @@ fn with_chain(
     )
 }
 
-// What a run call finds before its clocks: the chain is looked at first, then 10, then 11; then the tables are those of the call.
+// What a run call on a rectangle finds before its clocks: the chain is looked at first, then 10, then 11; then the tables are those of the call.
 pub fn prepare(
     chain: Chain,
     state: State,
@@ -443,7 +446,8 @@ pub fn prepare(
     strides: &mut [usize; 4],
     passed: &mut [usize; 32],
 ) -> Ready
-    ensures { λ r. ⌜ Readied chain state r (now (at .exit)) (now (wants .exit)) (now (caps .exit)) (now (bases .exit)) (now (tops .exit)) (now (spans .exit)) (now (strides .exit)) (now (passed .exit)) (now (store .entry)) ⌝ }
+    ensures { λ r. ⌜ (chain .grid .skewed ≡ false
+        → Readied chain [] state r (now (at .exit)) (now (wants .exit)) (now (caps .exit)) (now (bases .exit)) (now (tops .exit)) (now (spans .exit)) (now (strides .exit)) (now (passed .exit)) (now (store .entry))) ⌝ }
 {
     let found = judging::examine(chain);
     let verdict = found.verdict;

@@ -1,6 +1,10 @@
 pub mod FitLaws
 pub mod TableLaws
 pub mod PreparedLaws
+pub mod StretchingLaws
 pub mod ClocksLaws
+pub mod RowTableLaws
+pub mod RowCallLaws
 pub mod PrepareCounters
 pub mod RunLaws
+pub mod RowsBegunLaws

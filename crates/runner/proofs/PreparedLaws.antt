@@ -17,6 +17,7 @@ use Rattle.model.specs.Store.{firstPlace}
 use Rattle.model.specs.Running.{layout, filtersOf, termsOf, writesOf, writtenBy}
 use Rattle.model.proofs.Iterations.{iterations-product, extents-count, reads-from-first, at-most-cells}
 use Rattle.model.specs.Sized.{Proper, Fitting}
+use Rattle.run_laws.specs.Accepted.{Accepted}
 use Rattle.run_laws.proofs.Accepts.{fitting-of}
 use Rattle.run_laws.proofs.Held.{first-place-suc}
 use Rattle.run_laws.proofs.Layouts.{wants-read, lawful, all-places}
@@ -33,6 +34,12 @@ first-place-up capacity k (suc n) h = go (ℕ-discrete k (suc n)) (first-place-u
     go : Dec (k ≡ suc n) → (k ≤ n → firstPlace capacity k ≤ firstPlace capacity n) → firstPlace capacity k ≤ firstPlace capacity (suc n)
     go (yes e) ih = rw e (omega arith)
     go (no e) ih = omega (arith, ih (omega arith), first-place-suc capacity n)
+
+-- Every FIFO's places lie below the sum of the capacities.
+pub top : (t : Trimmed) → Proper t → Accepted t → (k : ℕ) → suc k < t .count → firstPlace (layout t .capacity) k + getD (t .capacities) k 0 ≤ sum (t .capacities)
+unfolding layout
+top t proper ok k h =
+    omega (arith, first-place-suc (layout t .capacity) k, first-place-up (layout t .capacity) (suc k) (t .count - 1) (omega arith), all-places t proper ok)
 
 factor-below : (a b : ℕ) → 0 < a * b → b ≤ a * b
 factor-below zero b h = absurd (let z : ⊥ = omega (arith, zero-mul b) in z)
@@ -104,11 +111,9 @@ module _ (t : Trimmed) (proper : Proper t) (row iterations cells centre : ℕ) (
       last-some [] h p = absurd (omega arith)
       last-some (x ∷ xs) h p = pos-of-dvd-of-pos (divides x xs) p
 
-  -- Every FIFO's places lie below the sum of the capacities.
-  top : (k : ℕ) → suc k < t .count → firstPlace (layout t .capacity) k + getD (t .capacities) k 0 ≤ sum (t .capacities)
+  pub tops-low : (k : ℕ) → suc k < t .count → getD tops k 0 ≤ 16384
   unfolding layout
-  top k h =
-      omega (arith, first-place-suc (layout t .capacity) k, first-place-up (layout t .capacity) (suc k) (t .count - 1) (omega arith), all-places t proper (P .accepted))
+  tops-low k h = omega (arith, P .tops-are k h, P .bases-are k h, P .caps-are k h, top t proper (P .accepted) k h, P .accepted .places)
 
   pub tables : Tables (layout t) (walked spans strides (t .dims) 0) (t .count) cells iterations at caps bases
   unfolding layout
@@ -121,7 +126,7 @@ module _ (t : Trimmed) (proper : Proper t) (row iterations cells centre : ℕ) (
     most = omega (arith, P .cells-are, good .cells);
     lawful = lawful t proper (P .accepted);
     reads = λ f k h g. reads f k h g;
-    small = λ k h. omega (arith, P .caps-are k h, top k h, P .accepted .places);
+    small = λ k h. omega (arith, P .caps-are k h, top t proper (P .accepted) k h, P .accepted .places);
     places = record { bases-are = P .bases-are; caps-are = P .caps-are };
   }
     where
@@ -135,7 +140,7 @@ module _ (t : Trimmed) (proper : Proper t) (row iterations cells centre : ℕ) (
   unfolding layout
   stands fired wants passed store B = record {
     there = B .there;
-    within = λ k h. omega (arith, P .bases-are k h, P .caps-are k h, top k h, B .room);
+    within = λ k h. omega (arith, P .bases-are k h, P .caps-are k h, top t proper (P .accepted) k h, B .room);
     holds = B .holds;
   }
 

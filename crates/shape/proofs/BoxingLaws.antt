@@ -40,7 +40,7 @@ use Rattle.model.proofs.ListLaws.{length-tabulate, getD-tabulate}
 use Rattle.model.proofs.IntegerLaws.{sub-small, sub-large, above-back, sum-above, sum-at-least, leZ-trans, not-ltZ, leZ-ltZ, above-order, above-chain}
 use Rattle.model.proofs.PlaceLaws.{Below, AtLeast}
 use Rattle.model.proofs.PlaceLaws.AtLeast.{none, next}
-use Rattle.model.proofs.ChainLaws.{offsets-count, offsets-sized}
+use Rattle.model.proofs.ChainLaws.{offsets-count, sizes-sized}
 use Rattle.model.proofs.BoxLaws.{index-count}
 use Rattle.model.proofs.RectangleBoxes.{within-fits, iteration-within, corners}
 use Rattle.model.proofs.RectangleCourses.{first-reads}
@@ -265,16 +265,16 @@ module _ (g : Grid) (w : Window) (x : Bounds) (a : badGrid (g .dims) (sizesOf g)
   -- 15 does not hold exactly if it does so in every dimension.
   lies-fits : ((d : ℕ) → d < g .dims → LiesIn (x .lowest) (x .highest) ls xs d) → badBox (rectangle sizes) offsets (box lowest highest) ≡ false
   lies-fits f =
-      within-fits sizes offsets (offsets-sized g w) some lowest highest boundedBy
+      within-fits sizes offsets (sizes-sized g w) some lowest highest boundedBy
       (uncrossed-by (g .dims) lowestIn highestIn (λ d h. leZ-ltZ (lowestIn d) (highestIn d) (lies d h (f d h) .rises)))
       (rw negated-lows (at-least-by (g .dims) (λ d. negℤ (lowIn d)) lowestIn (λ d h. lies d h (f d h) .low)))
       (rw (counted-from highestIn, extents-are) (below-by (g .dims) extentIn (λ d. above (highestIn d) (negℤ (lowIn d))) (λ d h. lies d h (f d h) .high)))
 
   fits-lies : badBox (rectangle sizes) offsets (box lowest highest) ≡ false → (d : ℕ) → d < g .dims → LiesIn (x .lowest) (x .highest) ls xs d
   fits-lies f d h =
-      let (p, q, r) = corners sizes offsets (offsets-sized g w) some lowest highest boundedBy .0 f in
-      let at-low = iteration-within sizes offsets (offsets-sized g w) some lowest highest boundedBy lowest q .0 in
-      let at-high = iteration-within sizes offsets (offsets-sized g w) some lowest highest boundedBy highest r .1 in
+      let (p, q, r) = corners sizes offsets (sizes-sized g w) some lowest highest boundedBy .0 f in
+      let at-low = iteration-within sizes offsets (sizes-sized g w) some lowest highest boundedBy lowest q .0 in
+      let at-high = iteration-within sizes offsets (sizes-sized g w) some lowest highest boundedBy highest r .1 in
       let low = each-at-least (g .dims) (λ i. negℤ (lowIn i)) lowestIn (rw negated-lows at at-low) d h in
       let high = each-below (g .dims) extentIn (λ i. above (highestIn i) (negℤ (lowIn i))) (rw (counted-from highestIn, extents-are) at at-high) d h in
       let up = not-ltZ (highestIn d) (lowestIn d) (each-uncrossed (g .dims) lowestIn highestIn p d h) in
@@ -313,7 +313,7 @@ module _ (g : Grid) (w : Window) (x : Bounds) (a : badGrid (g .dims) (sizesOf g)
     listed = course-some (rectangle sizes) offsets (box lowest highest) boundedBy fits (omega (arith, eqb-false (count (allIterations (rectangle sizes) offsets)) 0 (k .iterates)))
 
     suits : Suits (rectangle sizes) offsets (box lowest highest)
-    suits = record { some = some; entries = offsets-sized g w; bounded = boundedBy; fits = fits }
+    suits = record { some = some; entries = sizes-sized g w; bounded = boundedBy; fits = fits }
 
     -- Its widths in an array.
     width-is : (d : ℕ) → d < g .dims → numberAt (p .widths) d ≡ indexCount (lowestIn d) (highestIn d)

@@ -24,7 +24,7 @@ use Rattle.model.proofs.Rectangles as rectangle
 use Rattle.model.proofs.ListLaws.{length-tabulate, getD-tabulate}
 use Rattle.model.proofs.PlaceLaws.{first-indices}
 use Rattle.model.proofs.Distances.{reads-sum, below-cells}
-use Rattle.model.proofs.ChainLaws.{offsets-sized}
+use Rattle.model.proofs.ChainLaws.{sizes-sized}
 use Rattle.model.proofs.WholeLaws.{rectangle-count}
 use Rattle.geometry.specs.Parts.{part, numberAt, entryAt, entriesIn, Filled, Lows, placeBy, Small}
 use Rattle.shape.specs.Shapes.{sound, stride, shapeFor, wholeShape, blankShape, shapeOf}
@@ -142,12 +142,12 @@ module _ (g : Grid) (w : Window) (a : badGrid (g .dims) (sizesOf g) ≡ false) (
             omega (
               arith,
               counted-from-lows k h,
-              reads-sum (sizesOf g) (offsetsOf (g .dims) w) (offsets-sized g w) 0 k some (below k h),
+              reads-sum (sizesOf g) (offsetsOf (g .dims) w) (sizes-sized g w) 0 k some (below k h),
               first-indices (sizesOf g) (extents (sizesOf g) (offsetsOf (g .dims) w)),
             )
 
         pub place-small : (k : ℕ) → k < w .count → placeBy (g .dims) ls st (w .offsets) k ≤ mostCells
-        place-small k h = omega (arith, place-is k h, few-cells g a, below-cells (sizesOf g) (offsetsOf (g .dims) w) (offsets-sized g w) 0 k some (below k h))
+        place-small k h = omega (arith, place-is k h, few-cells g a, below-cells (sizesOf g) (offsetsOf (g .dims) w) (sizes-sized g w) 0 k some (below k h))
 
         pub places-are : (at : List ℕ) → Filled 32 0 (placeBy (g .dims) ls st (w .offsets)) (w .count) at
             → at ≡ tabulate 32 (λ k. reads (sizesOf g) (offsetsOf (g .dims) w) 0 k)

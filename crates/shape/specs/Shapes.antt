@@ -12,9 +12,9 @@ use Rattle.model.specs.Grounds.{groundSizes, position}
 use Rattle.model.specs.Grounds.Ground.{rectangle}
 use Rattle.model.specs.Courses.{Course, count, vector, allIterations}
 use Rattle.model.specs.Answers.{byVerdict}
-use Rattle.model.specs.Values.{sizesOf, offsetsOf, trimmed, onGrid}
+use Rattle.model.specs.Values.{sizesOf, offsetsOf, onRectangle}
 use Rattle.model.specs.Iterations.{courseOf}
-use Rattle.model.specs.Judging.{badGrid, badCount, repeats, noIteration, judgeWindow}
+use Rattle.model.specs.Judging.{badGrid, badCount, repeats, noIteration, judgeRectangle}
 use Rattle.model.specs.Kernels.{centreOf}
 use Rattle.model.specs.declared.Bounds.{Bounds}
 use Rattle.model.specs.declared.Chain.{Chain}
@@ -67,13 +67,13 @@ unsurveyedOf x = record { verdict = verdict.Refused x; centre = 0; shape = blank
 unfoldable pub surveyOf : Grid → Window → Bounds → Survey
 surveyOf g w b =
     let offsets = offsetsOf (g .dims) w in
-    byVerdict (judgeWindow g w b)
-    (record { verdict = verdict.Accepted; centre = centreOf offsets; shape = shapeFor (sizesOf g) offsets (courseOf (onGrid g w b)) })
+    byVerdict (judgeRectangle g w b)
+    (record { verdict = verdict.Accepted; centre = centreOf offsets; shape = shapeFor (sizesOf g) offsets (courseOf (onRectangle g w b)) })
     unsurveyedOf
 
 -- The shape of an accepted chain.
 unfoldable pub chainShape : Chain → Shape
-chainShape c = shapeFor (sizesOf (c .grid)) (offsetsOf (c .grid .dims) (c .window)) (courseOf (trimmed c))
+chainShape c = shapeFor (sizesOf (c .grid)) (offsetsOf (c .grid .dims) (c .window)) (courseOf (onRectangle (c .grid) (c .window) (c .bounds)))
 
 -- The centre and the shape of all iterations, of a grid and a window that 3 to 6 let pass.
 pub record Whole (g : Grid) (w : Window) (centre : ℕ) (s : Shape) : Type 0 where

@@ -1,7 +1,7 @@
 -- What a whole sheet gives, by the verdict at its end, and what a write call does, by the chain's verdict.
 use Prim.Native.Nat.{ℕ}
 use mathlib.Core.Bool.{true, false}
-use mathlib.Core.List.{List}
+use mathlib.Core.List.{List, []}
 use mathlib.Core.Path.{_≡_, sym}
 use Rattle.model.specs.declared.Chain.{Chain}
 use Rattle.model.specs.declared.LineStep.{LineStep}
@@ -33,17 +33,17 @@ module _ (s : LineStep) (judged : Verdict) where
     end-judged e v q = rw (lines, e) (sym q)
 
 module _ (sheet : List ℕ) (s : LineStep) (v : Verdict) where
-  pub chain-read : s ≡ readLines true start (linesOf sheet) → endVerdict s (judgeChain (s .reading .chain)) ≡ v
+  pub chain-read : s ≡ readLines true start (linesOf sheet) → endVerdict s (judgeChain (s .reading .chain) []) ≡ v
       → record { verdict = v; chain = byVerdict v (s .reading .chain) (λ x. blankChain) } ≡ readChain sheet
   unfolding readChain
   chain-read e q = rw (← e, q)
 
-  pub request-read : s ≡ readLines false start (linesOf sheet) → endVerdict s (judgeRequest (requestOf (s .reading .chain))) ≡ v
+  pub request-read : s ≡ readLines false start (linesOf sheet) → endVerdict s (judgeRequest (requestOf (s .reading .chain)) []) ≡ v
       → record { verdict = v; request = requestOf (byVerdict v (s .reading .chain) (λ x. blankChain)) } ≡ readRequest sheet
   unfolding readRequest
   request-read e q = rw (← e, q)
 
 module _ (c : Chain) (out : List ℕ) where
-  pub write-refused : (x : Refusal) → judgeChain c ≡ verdict.Refused x → written (record { verdict = verdict.Refused x; bytes = 0 }) out ≡ writeOf c out
+  pub write-refused : (x : Refusal) → judgeChain c [] ≡ verdict.Refused x → written (record { verdict = verdict.Refused x; bytes = 0 }) out ≡ writeOf c out
   unfolding writeOf writeVerdict
   write-refused x e = rw e

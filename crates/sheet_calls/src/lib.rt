@@ -1,4 +1,4 @@
-// Sheets read whole and judged, and chains judged and written.
+// Sheets read whole and judged, and chains judged and written. A sheet has no line for rows, so none are lent beside what is judged.
 use model::Chain;
 use model::ReadChain;
 use model::ReadRequest;
@@ -38,7 +38,7 @@ pub fn read_chain(text: &[u8]) -> ReadChain
                 return refused_chain(Refusal::Misplaced);
             }
             let chain = r.chain;
-            let judged = judging::judge_chain(chain);
+            let judged = judging::judge_chain(chain, &[]);
             match judged {
                 Verdict::Refused(n) => refused_chain(n),
                 Verdict::Accepted => ReadChain {
@@ -76,7 +76,7 @@ pub fn read_request(text: &[u8]) -> ReadRequest
             }
             let chain = r.chain;
             let request = request_of(chain);
-            let judged = planner::judge_request(request);
+            let judged = planner::judge_request(request, &[]);
             match judged {
                 Verdict::Refused(n) => refused_request(n),
                 Verdict::Accepted => ReadRequest {
@@ -88,11 +88,11 @@ pub fn read_request(text: &[u8]) -> ReadRequest
     }
 }
 
-// The sheet of a chain into the lent output: 3 to 9, 14 and 15 of the chain, then 12.
+// The sheet of a chain into the lent output: 3 to 9, 14 and 15 of the chain, 16 where it is skewed, then 12.
 pub fn write_chain(c: Chain, out: &mut [u8]) -> Wrote
     ensures { λ r. ⌜ written r (now (out .exit)) ≡ writeOf c (now (out .entry)) ⌝ }
 {
-    let judged = judging::judge_chain(c);
+    let judged = judging::judge_chain(c, &[]);
     match judged {
         Verdict::Refused(n) => Wrote {
             verdict: Verdict::Refused(n),

@@ -6,20 +6,23 @@ use mathlib.Core.Path.{_≡_, refl, sym, _∙_, ap}
 use native.Mathlib.Nat.{zero-add}
 use native.Mathlib.Omega.{arith}
 use lib.IntN.{ℤ}
-use lib.ListN.{length, getD, length-append}
+use lib.ListN.{length, length-append}
 use Rattle.model.specs.declared.Bounds.{Bounds}
 use Rattle.model.specs.declared.Chain.{Chain}
+use Rattle.model.specs.declared.Grid.{Grid}
 use Rattle.model.specs.declared.Kernel.{Kernel}
 use Rattle.model.specs.declared.Kernel.the-variants as kernel
 use Rattle.model.specs.declared.Order.{Order}
 use Rattle.model.specs.Lists.{tabulate, upTo}
-use Rattle.model.specs.Values.{sizesOf, entryOf, offsetOf, offsetsOf, capacityOf, capacitiesOf, orderOf}
+use Rattle.model.specs.Grounds.{groundSizes}
+use Rattle.model.specs.Grounds.Ground.{rectangle, rows}
+use Rattle.model.specs.Values.{sizesOf, rowsOf, groundOf, dimsOf, entryOf, offsetOf, offsetsOf, capacityOf, capacitiesOf, orderOf}
 use Rattle.model.specs.Lines.{lineFeed}
 use Rattle.model.specs.Frames.{digitsOf, framed}
 use Rattle.model.specs.Numbers.{halfBytes, wordBytes, pattern}
 use Rattle.model.specs.Writing.{gridLine, offsetLine, indexPair, boxLines, capacityLine, orderLines, kernelLine, chainLines, sheetOf, longestSheet}
 use Rattle.model.proofs.ListLaws.{length-tabulate}
-use Rattle.model.proofs.ChainLaws.{length-order}
+use Rattle.model.proofs.ChainLaws.{sizes-count, length-order}
 
 pub digits-length : (bs : List ℕ) → length (digitsOf bs) ≡ 2 * length bs
 unfolding digitsOf
@@ -103,12 +106,22 @@ kernel-length kernel.Difference = omega arith
 kernel-length (kernel.Scaled f) = omega arith
 kernel-length (kernel.Blend g) = omega arith
 
+-- A rectangle has a size for each dimension, and rows have none.
+ground-length : (g : Grid) → length (groundSizes (groundOf g [])) ≤ dimsOf g
+unfolding groundOf dimsOf
+ground-length g = go (g .skewed)
+  where
+    go : (skewed : Bool) → length (groundSizes (cond skewed (rows (rowsOf (g .rows) [])) (rectangle (sizesOf g)))) ≤ cond skewed 2 (g .dims)
+    go true = omega arith
+    go false = omega (arith, sizes-count g)
+
 -- An `01` line of 37 characters, 32 `02` lines of 19, an `08` line of 67, 31 `03` lines of 11, an `06` line of 67 and an `04` line of 21.
-pub sheet-length : (c : Chain) → c .grid .dims ≤ 4 → c .window .count ≤ 32 → length (sheetOf c) ≤ longestSheet
-unfolding sheetOf chainLines flatMap gridLine sizesOf offsetsOf offsetOf capacitiesOf
-sheet-length c dims count =
-    let offsets = map offsetLine (offsetsOf (c .grid .dims) (c .window)) in
-    let box = boxLines (c .grid .dims) (c .bounds) in
+pub sheet-length : (c : Chain) → dimsOf (c .grid) ≤ 4 → c .window .count ≤ 32 → length (sheetOf c) ≤ longestSheet
+unfolding sheetOf chainLines flatMap gridLine offsetsOf offsetOf capacitiesOf
+sheet-length c few count =
+    let dims : ℕ = dimsOf (c .grid) in
+    let offsets = map offsetLine (offsetsOf dims (c .window)) in
+    let box = boxLines dims (c .bounds) in
     let capacities = map capacityLine (capacitiesOf c) in
     let order = orderLines (c .window .count) (c .order) in
     let kernel = kernelLine (c .kernel) ∷ [] in
@@ -116,14 +129,14 @@ sheet-length c dims count =
       arith,
       length-append (framed (gridLine (c .grid))) (flatMap framed (offsets ++ (box ++ (capacities ++ (order ++ kernel))))),
       framed-length (gridLine (c .grid)),
-      words-length (sizesOf (c .grid)),
-      length-tabulate (c .grid .dims) (λ d. getD (c .grid .sizes) d 0),
+      words-length (groundSizes (groundOf (c .grid) [])),
+      ground-length (c .grid),
       flat-append framed offsets (box ++ (capacities ++ (order ++ kernel))),
       flat-append framed box (capacities ++ (order ++ kernel)),
       flat-append framed capacities (order ++ kernel),
       flat-append framed order kernel,
-      offsets-length (c .window .count) (offsetOf (c .grid .dims) (c .window)) (λ k. omega (arith, length-tabulate (c .grid .dims) (λ d. entryOf (c .window) k d))),
-      box-length (c .grid .dims) (c .bounds) dims,
+      offsets-length (c .window .count) (offsetOf dims (c .window)) (λ k. omega (arith, length-tabulate dims (λ d. entryOf (c .window) k d))),
+      box-length dims (c .bounds) few,
       capacities-length (c .window .count - 1) (λ k. capacityOf c k),
       order-length (c .window .count) (c .order) count,
       kernel-length (c .kernel),

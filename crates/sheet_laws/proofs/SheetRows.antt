@@ -1,4 +1,4 @@
--- The sheet of a chain is its lines from line 0 on.
+-- The sheet of a chain on a rectangle is its lines from line 0 on.
 use Prim.Native.Nat.{ℕ, zero, suc, _+_, _-_, _*_, _≤_, _<_}
 use mathlib.Core.Bool.{Bool, true, false, cond}
 use mathlib.Core.List.{List, [], _∷_, _++_, map, flatMap, append-assoc}
@@ -14,10 +14,12 @@ use Rattle.model.specs.declared.Grid.{Grid}
 use Rattle.model.specs.declared.Order.{Order}
 use Rattle.model.specs.declared.Window.{Window}
 use Rattle.model.specs.Lists.{tabulate, upTo}
+use Rattle.model.specs.Grounds.{Ground, groundSizes}
 use Rattle.model.specs.Values.{sizesOf, entryOf, offsetOf, offsetsOf, capacityOf, capacitiesOf, orderOf}
 use Rattle.model.specs.Frames.{framed}
 use Rattle.model.specs.Numbers.{halfBytes, wordBytes, pattern}
 use Rattle.model.specs.Writing.{gridLine, offsetLine, indexPair, boxLines, capacityLine, orderLines, kernelLine, chainLines, sheetOf}
+use Rattle.model.proofs.ChainLaws.{dims-flat, ground-flat}
 use Rattle.sheet_laws.specs.declared.Part.{Part}
 use Rattle.sheet_laws.specs.declared.Part.the-variants as part
 use Rattle.sheet_laws.specs.Rows.{gridRow, offsetRow, boxRow, orderRow, rowOf, lenOf, toCapacities, partBehind, partAt, linesBehind, lineAt, linesFrom}
@@ -53,12 +55,13 @@ four-pairs (suc (suc (suc zero))) b h = refl
 four-pairs (suc (suc (suc (suc zero)))) b h = refl
 four-pairs (suc (suc (suc (suc (suc d))))) b h = absurd (omega arith)
 
--- A line is the front of its row.
-pub grid-front : (g : Grid) → g .dims ≤ 4 → gridLine g ≡ take (2 + 4 * g .dims) (gridRow g)
+-- A line is the front of its row. The grid's is that of a rectangle.
+pub grid-front : (g : Grid) → g .skewed ≡ false → g .dims ≤ 4 → gridLine g ≡ take (2 + 4 * g .dims) (gridRow g)
 unfolding gridLine gridRow sizesOf
-grid-front g h =
+grid-front g flat h =
     let e : 2 + 4 * g .dims ≡ suc (suc (4 * g .dims)) = omega arith in
-    rw e (ap (λ t. 1 ∷ g .dims ∷ t) (four-words (g .dims) (λ d. getD (g .sizes) d 0) h))
+    ap₂ (λ (d : ℕ) (ground : Ground). 1 ∷ d ∷ flatMap wordBytes (groundSizes ground)) (dims-flat g flat) (ground-flat g flat [])
+    ∙ rw e (ap (λ t. 1 ∷ g .dims ∷ t) (four-words (g .dims) (λ d. getD (g .sizes) d 0) h))
 
 pub offset-front : (d : ℕ) (w : Window) (k : ℕ) → d ≤ 4 → offsetLine (offsetOf d w k) ≡ take (1 + 2 * d) (offsetRow w k)
 unfolding offsetLine offsetRow offsetOf
@@ -133,9 +136,9 @@ module _ (c : Chain) where
   unfolding lineAt
   line-of m p e = ap (λ (p : Part). take (lenOf c p) (rowOf c p)) e
 
-  pub line-grid : c .grid .dims ≤ 4 → lineAt c 0 ≡ take (2 + 4 * c .grid .dims) (gridRow (c .grid))
+  pub line-grid : c .grid .skewed ≡ false → c .grid .dims ≤ 4 → lineAt c 0 ≡ take (2 + 4 * c .grid .dims) (gridRow (c .grid))
   unfolding lineAt
-  line-grid few = grid-front (c .grid) few
+  line-grid flat few = grid-front (c .grid) flat few
 
   pub line-offset : (j : ℕ) → j < c .window .count → lineAt c (1 + j) ≡ take (1 + 2 * c .grid .dims) (offsetRow (c .window) j)
   unfolding lineAt lenOf rowOf partAt
@@ -292,11 +295,21 @@ module _ (c : Chain) (few : c .grid .dims ≤ 4) where
     unfolding flatMap linesFrom lineAt
     first-line ls k e = ap (λ t. framed (gridLine (c .grid)) ++ t) e
 
-    pub sheet-rows : sheetOf c ≡ linesFrom c 0 (linesBehind (c .bounds .stood) ordered n + 1)
-    unfolding sheetOf chainLines linesBehind
-    sheet-rows =
+    -- Of a rectangle the offsets' and the box's lines go by the grid's own dimension count.
+    flat-lines : c .grid .skewed ≡ false
+        → chainLines c
+        ≡ gridLine (c .grid) ∷ (map offsetLine (offsetsOf (c .grid .dims) (c .window)) ++ (boxLines (c .grid .dims) (c .bounds) ++ (map capacityLine (capacitiesOf c) ++ (orderLines n (c .order) ++ (kernelLine (c .kernel) ∷ [])))))
+    unfolding chainLines
+    flat-lines flat =
+        ap (λ (d : ℕ). gridLine (c .grid) ∷ (map offsetLine (offsetsOf d (c .window)) ++ (boxLines d (c .bounds) ++ (map capacityLine (capacitiesOf c) ++ (orderLines n (c .order) ++ (kernelLine (c .kernel) ∷ []))))))
+        (dims-flat (c .grid) flat)
+
+    pub sheet-rows : c .grid .skewed ≡ false → sheetOf c ≡ linesFrom c 0 (linesBehind (c .bounds .stood) ordered n + 1)
+    unfolding sheetOf linesBehind
+    sheet-rows flat =
         let e : suc (n + (boxes + (n - 1 + (orders + 1)))) ≡ ahead c + n + orders + 1 = omega arith in
-        first-line _ (n + (boxes + (n - 1 + (orders + 1))))
+        ap (flatMap framed) (flat-lines flat)
+        ∙ first-line _ (n + (boxes + (n - 1 + (orders + 1))))
         (sections-join c _ _ 1 n (boxes + (n - 1 + (orders + 1))) all-offsets
         (sections-join c _ _ (1 + n) boxes (n - 1 + (orders + 1)) box-line
         (sections-join c _ _ (1 + n + boxes) (n - 1) (orders + 1) all-capacities

@@ -1,4 +1,4 @@
--- A chain sheet by the numbers of its lines: line 0 is the grid's; behind it come sections of lines, the offsets', the box's, the capacities', the order's, and last the kernel's.
+-- The sheet of a chain on a rectangle by the numbers of its lines: line 0 is the grid's; behind it come sections of lines, the offsets', the box's, the capacities', the order's, and last the kernel's.
 use Prim.Native.Nat.{ℕ, zero, suc, _+_, _-_, _*_}
 use mathlib.Core.Bool.{Bool, cond, _&&_}
 use mathlib.Core.List.{List, [], _∷_, _++_}

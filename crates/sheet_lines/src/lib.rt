@@ -34,7 +34,12 @@ fn with_grid(r: Reading, x: [u8; KEPT]) -> Reading
     ensures { λ s. ⌜ s ≡ withGrid r x ⌝ }
 {
     let sizes = sheet_fields::sizes_in(x);
-    let grid = Grid { dims: x[1], sizes };
+    let grid = Grid {
+        skewed: false,
+        rows: 0,
+        dims: x[1],
+        sizes,
+    };
     Reading {
         last: Last::Grid,
         given: r.given,

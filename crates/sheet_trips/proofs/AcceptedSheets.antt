@@ -1,7 +1,7 @@
 -- What is known of a chain sheet that is accepted: every line is, none is missing, and the chain that was read is.
 use Prim.Native.Nat.{ℕ}
 use mathlib.Core.Bool.{true, false, cond}
-use mathlib.Core.List.{List}
+use mathlib.Core.List.{List, []}
 use mathlib.Core.Path.{_≡_, refl}
 use Rattle.model.specs.declared.LineStep.{LineStep}
 use Rattle.model.specs.declared.Refusal.the-variants as refusal
@@ -37,17 +37,17 @@ module _ (sheet : List ℕ) where
   read = readLines true start (linesOf sheet)
 
   pub accepted-sheet : readChain sheet .verdict ≡ verdict.Accepted
-      → (read .verdict ≡ verdict.Accepted) × ((complete (read .reading) ≡ true) × (judgeChain (read .reading .chain) ≡ verdict.Accepted))
+      → (read .verdict ≡ verdict.Accepted) × ((complete (read .reading) ≡ true) × (judgeChain (read .reading .chain) [] ≡ verdict.Accepted))
   unfolding readChain
-  accepted-sheet h = accepted-end read (judgeChain (read .reading .chain)) h
+  accepted-sheet h = accepted-end read (judgeChain (read .reading .chain) []) h
 
   pub accepted-read : readChain sheet .verdict ≡ verdict.Accepted → readChain sheet .chain ≡ read .reading .chain
   unfolding readChain
   accepted-read h = rw h
 
 -- And of a request sheet: the request that was read is accepted.
-pub accepted-request : (sheet : List ℕ) → readRequest sheet .verdict ≡ verdict.Accepted → judgeRequest (readRequest sheet .request) ≡ verdict.Accepted
+pub accepted-request : (sheet : List ℕ) → readRequest sheet .verdict ≡ verdict.Accepted → judgeRequest (readRequest sheet .request) [] ≡ verdict.Accepted
 unfolding readRequest
 accepted-request sheet h =
     let s = readLines false start (linesOf sheet) in
-    rw h (accepted-end s (judgeRequest (requestOf (s .reading .chain))) h .1 .1)
+    rw h (accepted-end s (judgeRequest (requestOf (s .reading .chain)) []) h .1 .1)

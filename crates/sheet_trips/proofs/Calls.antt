@@ -1,6 +1,6 @@
 -- Round trips of the calls (specs/RoundTrips).
 use Prim.Native.Nat.{ℕ}
-use mathlib.Core.List.{List, _++_}
+use mathlib.Core.List.{List, [], _++_}
 use mathlib.Core.Path.{_≡_, refl, _∙_, ap}
 use lib.ListN.{length, drop}
 use lib.Seq.{take-at}
@@ -19,8 +19,8 @@ use Rattle.sheet_trips.proofs.ReadWrite.{read-write}
 use Rattle.sheet_trips.proofs.WriteRead.{write-read}
 
 -- The chain of an accepted sheet is accepted.
-pub read-judged : (sheet : List ℕ) → readChain sheet .verdict ≡ verdict.Accepted → judgeChain (readChain sheet .chain) ≡ verdict.Accepted
-read-judged sheet h = ap judgeChain (accepted-read sheet h) ∙ accepted-sheet sheet h .1 .1
+pub read-judged : (sheet : List ℕ) → readChain sheet .verdict ≡ verdict.Accepted → judgeChain (readChain sheet .chain) [] ≡ verdict.Accepted
+read-judged sheet h = ap (λ (c : Chain). judgeChain c []) (accepted-read sheet h) ∙ accepted-sheet sheet h .1 .1
 
 module _ (c : Chain) (out : List ℕ) where
   -- What a write call leaves that is not refused.
@@ -39,11 +39,11 @@ module _ (c : Chain) (out : List ℕ) where
       go verdict.Accepted e = e
       go (verdict.Refused x) e = absurd (refused-accepted (rw e at h))
 
-  was-judged : writeVerdict c (length out) ≡ verdict.Accepted → judgeChain c ≡ verdict.Accepted
+  was-judged : writeVerdict c (length out) ≡ verdict.Accepted → judgeChain c [] ≡ verdict.Accepted
   unfolding writeVerdict
-  was-judged h = go (judgeChain c) refl
+  was-judged h = go (judgeChain c []) refl
     where
-      go : (v : Verdict) → judgeChain c ≡ v → judgeChain c ≡ verdict.Accepted
+      go : (v : Verdict) → judgeChain c [] ≡ v → judgeChain c [] ≡ verdict.Accepted
       go verdict.Accepted e = e
       go (verdict.Refused x) e = absurd (refused-accepted (rw e at h))
 

@@ -46,7 +46,7 @@ module _ (bs : List ℕ) (small : Small bs) where
   s : Small x
   s = small-padded small
 
-  pub grid-row : byteAt x 0 ≡ 1 → gridRow (record { dims = byteAt x 1; sizes = sizesIn x }) ≡ take 18 x
+  pub grid-row : byteAt x 0 ≡ 1 → gridRow (record { skewed = false; rows = 0; dims = byteAt x 1; sizes = sizesIn x }) ≡ take 18 x
   unfolding gridRow sizesIn upto
   grid-row e =
       rw (word-back x 2 s, word-back x 6 s, word-back x 10 s, word-back x 14 s) (ap (λ b. b ∷ upto x 1 17) (sym e) ∙ sym (firsts 18 bs (omega arith)))

@@ -249,7 +249,7 @@ module _ (name : ℕ) (sizes rest : List ℕ) (h : isName name ≡ true) (none-f
 -- What reading a request says of the end of its lines.
 answered : Verdict → Bool → Chain → ReadRequest
 answered v whole c =
-    let w = byVerdict v (cond whole (judgeRequest (requestOf c)) (verdict.Refused refusal.Misplaced)) verdict.Refused in
+    let w = byVerdict v (cond whole (judgeRequest (requestOf c) []) (verdict.Refused refusal.Misplaced)) verdict.Refused in
     record { verdict = w; request = requestOf (byVerdict w c (λ x. blankChain)) }
 
 requests-alike : (one other : List ℕ) → Alike (readLines false start (linesOf one)) (readLines false start (linesOf other)) → readRequest one ≡ readRequest other
@@ -262,6 +262,6 @@ by-its-name name sizes rest h n =
     let e = requests-alike _ _ (read-alike name sizes rest h n) in
     record {
       read = e;
-      plan = ap (λ r. planOf (r .request)) e;
-      text = ap (λ r. byVerdict (r .verdict) (sheetOf (plannedChain (r .request))) refusalText) e;
+      plan = ap (λ r. planOf (r .request) []) e;
+      text = ap (λ r. byVerdict (r .verdict) (sheetOf (plannedChain (r .request) [])) refusalText) e;
     }

@@ -1,6 +1,6 @@
 -- What reading the sheet of a chain gives back: the same chain, with 0 past its counts.
 use Prim.Native.Nat.{ℕ, zero, suc, _+_, _-_, _*_, _/_, _%_, _≤_, _<_}
-use mathlib.Core.Bool.{Bool, cond}
+use mathlib.Core.Bool.{Bool, false, cond}
 use mathlib.Core.List.{List, []}
 use mathlib.Core.Path.{_≡_, refl, sym, ap, _∙_}
 use native.Mathlib.Omega.{arith}
@@ -14,9 +14,9 @@ use Rattle.model.specs.declared.Grid.{Grid}
 use Rattle.model.specs.declared.Order.{Order}
 use Rattle.model.specs.declared.Window.{Window}
 use Rattle.model.specs.Lists.{tabulate}
-use Rattle.model.specs.Values.{sizesOf, entryOf, offsetOf, offsetsOf, capacityOf, capacitiesOf, orderOf, partOf, trimmed, boundsOf, chainOf}
+use Rattle.model.specs.Values.{sizesOf, entryOf, offsetOf, offsetsOf, capacityOf, capacitiesOf, orderOf, partOf, trimmed, boundsOf, gridOf, chainOf}
 use Rattle.model.proofs.ListLaws.{length-tabulate, getD-tabulate}
-use Rattle.model.proofs.ChainLaws.{same-normal}
+use Rattle.model.proofs.ChainLaws.{dims-flat, ground-flat, same-normal}
 use Rattle.sheet_laws.proofs.Cases.{by-lt}
 use Rattle.sheet_laws.proofs.AcceptedChains.{Accepted}
 use Rattle.sheet_laws.proofs.SheetRows.{tabulate-same}
@@ -46,7 +46,7 @@ readOrder n stood filters = record { stood = stood; filters = tabulate 32 (λ t.
 
 unfoldable pub readBack : Chain → Chain
 readBack c = record {
-  grid = record { dims = c .grid .dims; sizes = readSizes (c .grid) };
+  grid = record { skewed = false; rows = 0; dims = c .grid .dims; sizes = readSizes (c .grid) };
   window = record { count = c .window .count; offsets = readOffsets (c .grid .dims) (c .window) (c .window .count) };
   bounds = boundsOf (partOf (c .grid .dims) (c .bounds));
   capacities = readCapacities (c .capacities) (c .window .count - 1);
@@ -144,10 +144,10 @@ normal-capacities c few =
     (λ l. past-capacities a n k l ∙ sym (List·getD-eq-default (tabulate n (λ i. capacityOf c i)) 0 {n = k} (rw length-tabulate l)))
     ∙ sym (getD-tabulate 31 _ k 0 (omega (arith, length-capacities a n))))
 
-pub normal-chain : (c : Chain) → Accepted c → readBack c ≡ chainOf (trimmed c)
-unfolding readBack chainOf trimmed readOrder orderOf
-normal-chain c ok = rw (normal-sizes (c .grid), normal-offsets (c .grid .dims) (c .window) (ok .few), normal-capacities c (ok .few))
+pub normal-chain : (c : Chain) → Accepted c → readBack c ≡ chainOf (trimmed c [])
+unfolding readBack gridOf chainOf trimmed readOrder orderOf
+normal-chain c ok = rw (dims-flat (c .grid) (ok .flat), ground-flat (c .grid) (ok .flat) [], normal-sizes (c .grid), normal-offsets (c .grid .dims) (c .window) (ok .few), normal-capacities c (ok .few))
 
 -- And so the same chain.
-pub same-chain : (c : Chain) → Accepted c → trimmed (readBack c) ≡ trimmed c
-same-chain c ok = ap trimmed (normal-chain c ok) ∙ same-normal c (ok .few-dims) (ok .few)
+pub same-chain : (c : Chain) → Accepted c → trimmed (readBack c) [] ≡ trimmed c []
+same-chain c ok = ap (λ (d : Chain). trimmed d []) (normal-chain c ok) ∙ same-normal c [] (omega (arith, dims-flat (c .grid) (ok .flat), ok .few-dims)) (ok .few)

@@ -136,6 +136,7 @@ Ordered stood.Kernel b = Unit {0}
 record Kept (r : Reading) : Type 0 where
   offsets : length (r .chain .window .offsets) ≡ 128
   capacities : length (r .chain .capacities) ≡ 31
+  flat : r .chain .grid .skewed ≡ false
   dims : r .chain .grid .dims ≤ 4
   count : r .chain .window .count ≤ 32
   counted : Counted (r .last) (r .chain .window .count) (r .given)
@@ -213,7 +214,7 @@ module _ (r : Reading) (keeps : Kept r) (bs : List ℕ) (small : Small bs) where
       let z = counted-at stood.Nothing p in
       let q : 1 + toCapacities (c .bounds .stood) n + r .given ≡ 0 + 1 = omega (arith, z .0, z .1, offsets-only (boxed-at stood.Nothing p) n) in
       adds r (withGrid r x) bs 0 (lines-at stood.Nothing p) q (λ j l. absurd (omega arith))
-      (line-grid _ few ∙ front (2 + 4 * byteAt x 1) 18 bs _ (grid-row bs small e) (omega arith) (omega arith) len)
+      (line-grid _ refl few ∙ front (2 + 4 * byteAt x 1) 18 bs _ (grid-row bs small e) (omega arith) (omega arith) len)
 
   -- Where an `02` line may come no capacity was read, no box and no order; where another line behind the `01` line may come, as many lines as offsets, boxes and
   -- capacities, and one.
@@ -386,6 +387,7 @@ step-adds r k bs small h finite = go (admitted true r _ h .1)
           record {
             offsets = k .offsets;
             capacities = k .capacities;
+            flat = refl;
             dims = few;
             count = k .count;
             counted = counted-at r k bs small stood.Nothing last .1;
@@ -399,6 +401,7 @@ step-adds r k bs small h finite = go (admitted true r _ h .1)
           record {
             offsets = simp length-sets (k .offsets);
             capacities = k .capacities;
+            flat = k .flat;
             dims = k .dims;
             count = omega arith;
             counted = none-given r k bs small last;
@@ -412,6 +415,7 @@ step-adds r k bs small h finite = go (admitted true r _ h .1)
           record {
             offsets = k .offsets;
             capacities = k .capacities;
+            flat = k .flat;
             dims = k .dims;
             count = k .count;
             counted = none-given r k bs small (inr last);
@@ -426,6 +430,7 @@ step-adds r k bs small h finite = go (admitted true r _ h .1)
           record {
             offsets = k .offsets;
             capacities = simp length-set (k .capacities);
+            flat = k .flat;
             dims = k .dims;
             count = k .count;
             counted = tt;
@@ -436,7 +441,7 @@ step-adds r k bs small h finite = go (admitted true r _ h .1)
     go (order e last chain given len) =
         rw (taken-order _ _ e) (
           order-adds r k bs small e last given len,
-          record { offsets = k .offsets; capacities = k .capacities; dims = k .dims; count = k .count; counted = tt; boxed = tt; ordered = refl },
+          record { offsets = k .offsets; capacities = k .capacities; flat = k .flat; dims = k .dims; count = k .count; counted = tt; boxed = tt; ordered = refl },
         )
     go (name e last request len ok) = absurd (never request)
     go (kernel e last given form) =
@@ -444,7 +449,7 @@ step-adds r k bs small h finite = go (admitted true r _ h .1)
         let same = taken-kernel r (padded bs) e in
         rw same (
           kernel-adds r k bs small e last counted form ((rw same at finite) refl),
-          record { offsets = k .offsets; capacities = k .capacities; dims = k .dims; count = k .count; counted = omega arith; boxed = tt; ordered = tt },
+          record { offsets = k .offsets; capacities = k .capacities; flat = k .flat; dims = k .dims; count = k .count; counted = omega arith; boxed = tt; ordered = tt },
         )
 
 line-adds : (r : Reading) → Kept r → (l : Line) → lineVerdict true r (seenOf (l .ended) (l .chars)) ≡ verdict.Accepted
@@ -470,7 +475,7 @@ all-written r k e = go (r .last) e (k .counted)
     go stood.Box h c = absurd (never (sym h))
     go stood.Capacity h c = absurd (never (sym h))
     go stood.Order h c = absurd (never (sym h))
-    go stood.Kernel h c = sym (sheet-rows (r .chain) (k .dims) c (k .count))
+    go stood.Kernel h c = sym (sheet-rows (r .chain) (k .dims) c (k .count) (k .flat))
 
 -- The lines from a reading on.
 lines-back : (ls : List Line) (r : Reading) → Kept r
@@ -493,7 +498,7 @@ lines-back (l ∷ ls) r k h e f =
 
 kept-start : Kept start
 unfolding Counted Boxed Ordered
-kept-start = record { offsets = refl; capacities = refl; dims = omega arith; count = omega arith; counted = (refl, refl); boxed = refl; ordered = refl }
+kept-start = record { offsets = refl; capacities = refl; flat = refl; dims = omega arith; count = omega arith; counted = (refl, refl); boxed = refl; ordered = refl }
 
 none-written : written start ≡ []
 unfolding written linesRead linesTo linesFrom

@@ -58,7 +58,7 @@ midway c b k g = record {
   last = lastOf (b .stood) k g;
   given = g;
   chain = record {
-    grid = record { dims = c .grid .dims; sizes = readSizes (c .grid) };
+    grid = record { skewed = false; rows = 0; dims = c .grid .dims; sizes = readSizes (c .grid) };
     window = record { count = k; offsets = readOffsets (c .grid .dims) (c .window) k };
     bounds = b;
     capacities = readCapacities (c .capacities) g;
@@ -524,7 +524,7 @@ module _ (c : Chain) (range : InRange c) (ok : Accepted c) where
       let a : ℕ = 1 + toCapacities boxed n in
       let z : linesBehind boxed ordered n + 1 ≡ suc (n + (b + (n - 1 + (s + 1)))) = omega (arith, ok .some) in
       let y : a + 0 ≡ a = omega arith in
-      rw (sheet-rows c (ok .few-dims) (ok .some) (ok .few), z, line-grid c (ok .few-dims))
+      rw (sheet-rows c (ok .few-dims) (ok .some) (ok .few) (ok .flat), z, line-grid c (ok .flat) (ok .few-dims))
       (line-goes true start (midway c noBounds 0 0) (take (2 + 4 * c .grid .dims) (gridRow (c .grid))) (linesFrom c 1 (n + (b + (n - 1 + (s + 1)))))
       (small-take (2 + 4 * c .grid .dims) small-grid) (grid-goes c range ok)
       ∙ offsets-read n 0 (b + (n - 1 + (s + 1))) (omega arith)
@@ -535,7 +535,7 @@ module _ (c : Chain) (range : InRange c) (ok : Accepted c) where
       ∙ ap (λ l. readLines true (toKernel c ordered) (linesOf (framed l ++ []))) (line-kernel c (ok .some))
       ∙ line-goes true (toKernel c ordered) atEnd (kernelLine (c .kernel)) [] (small-kernel (c .kernel) (range .factors)) kernel-goes)
 
-judged-alike : (c d : Chain) → trimmed c ≡ trimmed d → judgeChain c ≡ judgeChain d
+judged-alike : (c d : Chain) → trimmed c [] ≡ trimmed d [] → judgeChain c [] ≡ judgeChain d []
 unfolding judgeChain
 judged-alike c d e = rw e
 
@@ -544,7 +544,7 @@ unfolding readChain endVerdict complete closes
 write-read c range h =
     record {
       accepted = ap (λ r. r .verdict) back;
-      same = ap (λ r. trimmed (r .chain)) back ∙ same-chain c (accepted-chain c h);
+      same = ap (λ r. trimmed (r .chain) []) back ∙ same-chain c (accepted-chain c h);
       normal = ap (λ r. r .chain) back ∙ normal-chain c (accepted-chain c h);
     }
   where

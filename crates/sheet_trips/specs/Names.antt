@@ -26,7 +26,7 @@ module _ (name : ℕ) (sizes rest : List ℕ) where
 -- What reading two sheets gives, verdict and request; the plan of that request, verdict and chain; and what `plan` writes, byte for byte.
 pub record PlannedAlike (one other : List ℕ) : Type 0 where
   pub read : readRequest one ≡ readRequest other
-  pub plan : planOf (readRequest one .request) ≡ planOf (readRequest other .request)
+  pub plan : planOf (readRequest one .request) [] ≡ planOf (readRequest other .request) []
   pub text : planText one ≡ planText other
 
 -- The characters begin with an `02` line, which would be one of the window's: "may stand for all `02` lines".

@@ -1,6 +1,6 @@
 -- Sheets round-trip (document 01, "Lines of the sheet"): what is promised of writing and reading together.
 use Prim.Native.Nat.{ℕ, _≤_, _<_}
-use mathlib.Core.List.{List, _++_}
+use mathlib.Core.List.{List, [], _++_}
 use mathlib.Core.Path.{_≡_}
 use lib.Dec.{T}
 use lib.Ieee.{fits, binary32}
@@ -31,14 +31,14 @@ pub record InRange (c : Chain) : Type 0 where
   pub capacities : (k : ℕ) → getD (c .capacities) k 0 < 4294967296
   pub factors : FactorsFit (c .kernel)
 
--- A chain that no number turns back, written and read, is accepted and is the same chain, in its normal form.
+-- A chain that no number turns back, with no rows beside it, written and read, is accepted and is the same chain, in its normal form.
 pub record Returns (c : Chain) : Type 0 where
   pub accepted : readChain (sheetOf c) .verdict ≡ verdict.Accepted
-  pub same : Same (readChain (sheetOf c) .chain) c
-  pub normal : readChain (sheetOf c) .chain ≡ chainOf (trimmed c)
+  pub same : Same (readChain (sheetOf c) .chain) [] c []
+  pub normal : readChain (sheetOf c) .chain ≡ chainOf (trimmed c [])
 
 abbrev pub WriteRead : Type 0
-WriteRead = (c : Chain) → InRange c → judgeChain c ≡ verdict.Accepted → Returns c
+WriteRead = (c : Chain) → InRange c → judgeChain c [] ≡ verdict.Accepted → Returns c
 
 -- An accepted chain sheet, read and written, gives back its bytes.
 abbrev pub ReadWrite : Type 0
@@ -51,7 +51,7 @@ bytesOf w = take (w .answer .bytes) (w .output)
 abbrev pub WriteReadCalls : Type 0
 WriteReadCalls =
     (c : Chain) → InRange c → (out : List ℕ) → writeOf c out .answer .verdict ≡ verdict.Accepted
-    → readChain (bytesOf (writeOf c out)) ≡ record { verdict = verdict.Accepted; chain = chainOf (trimmed c) }
+    → readChain (bytesOf (writeOf c out)) ≡ record { verdict = verdict.Accepted; chain = chainOf (trimmed c []) }
 
 abbrev pub ReadWriteCalls : Type 0
 ReadWriteCalls =

@@ -129,16 +129,16 @@ unfolding Inside
 capacity-inside n p k h e = subst (λ (q : Part). Inside n q) e h
 
 -- The grid's line, and the lines behind it.
-grid-length : (g : Grid) → g .dims ≤ 4 → length (gridLine g) ≡ 2 + 4 * g .dims
-grid-length g few = ap length (grid-front g few) ∙ length-take-le _ (gridRow g) (fit-grid g few .0)
+grid-length : (g : Grid) → g .skewed ≡ false → g .dims ≤ 4 → length (gridLine g) ≡ 2 + 4 * g .dims
+grid-length g flat few = ap length (grid-front g flat few) ∙ length-take-le _ (gridRow g) (fit-grid g few .0)
 
-pub grid-laid : (g : Grid) → g .dims ≤ 4 → framed (take (2 + 4 * g .dims) (padded (gridRow g))) ≡ framed (gridLine g)
-grid-laid g few = ap framed (take-padded _ (gridRow g) (fit-grid g few) ∙ sym (grid-front g few))
+pub grid-laid : (g : Grid) → g .skewed ≡ false → g .dims ≤ 4 → framed (take (2 + 4 * g .dims) (padded (gridRow g))) ≡ framed (gridLine g)
+grid-laid g flat few = ap framed (take-padded _ (gridRow g) (fit-grid g few) ∙ sym (grid-front g flat few))
 
-pub grid-framed : (g : Grid) → g .dims ≤ 4 → length (framed (gridLine g)) ≡ 2 * (2 + 4 * g .dims) + 1
-grid-framed g few = framed-length (gridLine g) ∙ ap (λ n. 2 * n + 1) (grid-length g few)
+pub grid-framed : (g : Grid) → g .skewed ≡ false → g .dims ≤ 4 → length (framed (gridLine g)) ≡ 2 * (2 + 4 * g .dims) + 1
+grid-framed g flat few = framed-length (gridLine g) ∙ ap (λ n. 2 * n + 1) (grid-length g flat few)
 
-module _ (c : Chain) (few : c .grid .dims ≤ 4) (some : 0 < c .window .count) (most : c .window .count ≤ 32)
+module _ (c : Chain) (flat : c .grid .skewed ≡ false) (few : c .grid .dims ≤ 4) (some : 0 < c .window .count) (most : c .window .count ≤ 32)
     (lines : ℕ) (told : lines ≡ linesBehind (c .bounds .stood) (c .order .stood) (c .window .count)) where
   abbrev behind-grid : List ℕ
   behind-grid = linesFrom c 1 lines
@@ -147,15 +147,15 @@ module _ (c : Chain) (few : c .grid .dims ≤ 4) (some : 0 < c .window .count) (
   unfolding linesFrom lineAt
   grid-first =
       let e : linesBehind (c .bounds .stood) (c .order .stood) (c .window .count) + 1 ≡ suc lines = omega (arith, told) in
-      sheet-rows c few some most ∙ ap (linesFrom c 0) e
+      sheet-rows c few some most flat ∙ ap (linesFrom c 0) e
 
   pub all-length : length (sheetOf c) ≡ 2 * (2 + 4 * c .grid .dims) + 1 + length behind-grid
-  all-length = ap length grid-first ∙ length-append (framed (gridLine (c .grid))) _ ∙ ap (λ n. n + length behind-grid) (grid-framed (c .grid) few)
+  all-length = ap length grid-first ∙ length-append (framed (gridLine (c .grid))) _ ∙ ap (λ n. n + length behind-grid) (grid-framed (c .grid) flat few)
 
   pub all-laid : (out behind : List ℕ) (at : ℕ) → at ≡ 2 * (2 + 4 * c .grid .dims) + 1 → behind ≡ sets out 0 (framed (gridLine (c .grid)))
       → sets behind at behind-grid ≡ sets out 0 (sheetOf c)
   all-laid out behind at a b =
-      let e : at ≡ 0 + length (framed (gridLine (c .grid))) = omega (arith, grid-framed (c .grid) few) in
+      let e : at ≡ 0 + length (framed (gridLine (c .grid))) = omega (arith, grid-framed (c .grid) flat few) in
       ap₂ (λ (o : List ℕ) (i : ℕ). sets o i behind-grid) b e
       ∙ sets-join (framed (gridLine (c .grid))) behind-grid out 0
       ∙ ap (sets out 0) (sym grid-first)

@@ -12,6 +12,7 @@ use model::Wrote;
 use sheet_laws::Part;
 use values::high_digit;
 use values::low_digit;
+ghost use mathlib.Core.Bool.{false};
 ghost use mathlib.Core.Path.{_≡_};
 ghost use Prim.Native.Nat.{_+_, _*_, _/_, _%_, _≤_, _<_};
 ghost use lib.ListN.{length, take, getD};
@@ -296,7 +297,7 @@ fn sheet_len(c: Chain) -> usize
 
 // The grid's line, from the first place of the output on; the place behind it.
 fn put_grid(out: &mut [u8], g: Grid) -> usize
-    requires { ⌜ (g .dims ≤ 4) × (2 * (2 + 4 * g .dims) + 1 ≤ length (now out)) ⌝ }
+    requires { ⌜ (g .dims ≤ 4) × (2 * (2 + 4 * g .dims) + 1 ≤ length (now out)) × (g .skewed ≡ false) ⌝ }
     ensures { λ r. ⌜ (r ≡ 2 * (2 + 4 * g .dims) + 1) × (now (out .exit) ≡ sets (now (out .entry)) 0 (framed (gridLine g))) ⌝ }
 {
     let x = grid_row(g);
@@ -328,12 +329,18 @@ fn put_sheet(out: &mut [u8], c: Chain) -> usize
     at
 }
 
-// A chain sheet into the lent output, or why not: the counts' 3 and 4, then 12. Nothing else of the chain is judged.
+// A chain sheet into the lent output, or why not: 16 of a skewed grid, for whose rows a sheet has no line, the counts' 3 and 4, then 12. Nothing else of the chain is judged.
 pub fn write_sheet(c: Chain, out: &mut [u8]) -> Wrote
     ensures { λ r. ⌜ written r (now (out .exit)) ≡ layOf c (now (out .entry)) ⌝ }
 {
     let grid = c.grid;
     let window = c.window;
+    if grid.skewed {
+        return Wrote {
+            verdict: Verdict::Refused(Refusal::BadRows),
+            bytes: 0,
+        };
+    }
     if grid.dims == 0 {
         return Wrote {
             verdict: Verdict::Refused(Refusal::BadGrid),

@@ -11,7 +11,7 @@ ghost use mathlib.Core.Path.{_≡_};
 ghost use Prim.Native.Nat.{_/_, _%_, _<_, min};
 ghost use Rattle.model.specs.Answers.{numberOf};
 ghost use Rattle.model.specs.Frames.{digitOf};
-ghost use Rattle.model.specs.Values.{blankChain, requestOf, setGrid, setWindow, setBounds, setCapacities, setOrder, setKernel};
+ghost use Rattle.model.specs.Values.{dimsOf, blankChain, requestOf, setGrid, setWindow, setBounds, setCapacities, setOrder, setKernel};
 
 // What a refusal hands back in place of a chain.
 pub fn blank_chain() -> Chain
@@ -19,6 +19,8 @@ pub fn blank_chain() -> Chain
 {
     Chain {
         grid: Grid {
+            skewed: false,
+            rows: 0,
             dims: 0,
             sizes: [0u32; 4],
         },
@@ -188,6 +190,16 @@ pub fn number_of(n: Refusal) -> u8
         Refusal::BadBox => 15,
         Refusal::BadRows => 16,
     }
+}
+
+// How many dimensions a grid has.
+pub fn dims_of(grid: Grid) -> u8
+    ensures { λ r. ⌜ r ≡ dimsOf grid ⌝ }
+{
+    if grid.skewed {
+        return 2;
+    }
+    grid.dims
 }
 
 // A number of 32 bits as a wider one.

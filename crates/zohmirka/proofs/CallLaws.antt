@@ -1,6 +1,6 @@
 -- Each way through a call, by what the functions that it calls answered.
 use Prim.Native.Nat.{ℕ, _≤_, _<_}
-use mathlib.Core.List.{List}
+use mathlib.Core.List.{List, []}
 use mathlib.Core.Path.{_≡_}
 use lib.ListN.{length}
 use borrow.Author.Tests.{lt-ltb, le-ltb}
@@ -35,7 +35,7 @@ module _ (request sheet : List ℕ) (r : ReadRequest) (e : r ≡ readRequest req
   unfolding planCall verdictNumber
   plan-refused n x q d = rw (← e, q, d)
 
-  pub plan-written : (p : Planned) (wrote : Sheets) → r .verdict ≡ verdict.Accepted → p ≡ planOf (r .request) → wrote ≡ written (p .chain) sheet
+  pub plan-written : (p : Planned) (wrote : Sheets) → r .verdict ≡ verdict.Accepted → p ≡ planOf (r .request) [] → wrote ≡ written (p .chain) sheet
       → wrote ≡ planCall request sheet
   unfolding planCall
   plan-written p wrote q d f = rw (← e, q, ← d, f)

@@ -35,7 +35,7 @@ written c sheet =
 unfoldable pub planCall : (request sheet : List ℕ) → Sheets
 planCall request sheet =
     let read = readRequest request in
-    let wrote = written (planOf (read .request) .chain) sheet in
+    let wrote = written (planOf (read .request) [] .chain) sheet in
     byVerdict (read .verdict) wrote (λ x. record { answer = record { refusal = numberOf x; bytes = 0 }; sheet = sheet })
 
 -- Judging a chain sheet.
@@ -71,7 +71,7 @@ readCall sheet chain =
 
 -- Judging a chain given by its words, and writing its sheet.
 abbrev pub judgeChainCall : (chain : List ℕ) → ℕ
-judgeChainCall chain = verdictNumber (judgeChain (chainIn chain))
+judgeChainCall chain = verdictNumber (judgeChain (chainIn chain) [])
 
 abbrev pub writeCall : (chain sheet : List ℕ) → Sheets
 writeCall chain sheet = written (chainIn chain) sheet

@@ -1,4 +1,4 @@
-// The functions for C and Rust. Numbers and slices go in; a slice is a pointer and a length. No function has a `requires`. c/zohmirka.h says the same for C.
+// The functions for C and Rust. Numbers and slices go in; a slice is a pointer and a length. None lends rows beside a grid. No function has a `requires`. c/zohmirka.h says the same for C.
 use model::Chain;
 use model::Refusal;
 use model::Verdict;
@@ -45,7 +45,7 @@ pub extern "C" fn zohmirka_plan(request: &[u8], sheet: &mut [u8]) -> Sheet
             bytes: 0,
         },
         Verdict::Accepted => {
-            let planned = planner::plan(read.request);
+            let planned = planner::plan(read.request, &[]);
             write(planned.chain, sheet)
         }
     }
@@ -122,7 +122,7 @@ pub extern "C" fn zohmirka_run_chain(
 pub extern "C" fn zohmirka_judge_chain(chain: &[u32]) -> u32
     ensures { λ r. ⌜ r ≡ judgeChainCall (now (chain .entry)) ⌝ }
 {
-    let judged = judging::judge_chain(chain_in(chain));
+    let judged = judging::judge_chain(chain_in(chain), &[]);
     number(judged)
 }
 

@@ -89,16 +89,16 @@ first-word (suc n) h ws long = in-counter ws long 0 (omega arith)
 abbrev onValue : Chain → Call
 onValue c state store cells out allowance = runValue state store cells out allowance c
 
-module _ (c : Chain) (ok : judgeChain c ≡ verdict.Accepted) where
-  fresh-value : (k : Slices) → stateSize ≤ length (k .state) → ((i : ℕ) → i < stateSize → wordAt (k .state) i ≡ 0) → Fresh (trimmed c) (between k)
+module _ (c : Chain) (ok : judgeChain c [] ≡ verdict.Accepted) where
+  fresh-value : (k : Slices) → stateSize ≤ length (k .state) → ((i : ℕ) → i < stateSize → wordAt (k .state) i ≡ 0) → Fresh (trimmed c []) (between k)
   unfolding countersOf fresh layout
   fresh-value k long zeros =
-      let few = accepts.accepted-chain c ok .few in
+      let few = accepts.accepted-chain c [] ok .few in
       record {
         counters = λ i. record {
           fired = (ap (λ (s : State). s .fired .0) (in-long (k .state) long) ∙ zeros 32 (omega arith)) i;
-          passed = tabulate-back 0 (replicate (trimmed c .count) 0) (trimmed c .count) _ (length-replicate (trimmed c .count) 0)
-              (λ j h. in-counter (k .state) long j (omega arith) ∙ zeros j (omega arith) ∙ sym (getD-replicate (trimmed c .count) j 0 0 h)) i;
+          passed = tabulate-back 0 (replicate (trimmed c [] .count) 0) (trimmed c [] .count) _ (length-replicate (trimmed c [] .count) 0)
+              (λ j h. in-counter (k .state) long j (omega arith) ∙ zeros j (omega arith) ∙ sym (getD-replicate (trimmed c [] .count) j 0 0 h)) i;
         };
       }
 
@@ -108,19 +108,19 @@ module _ (c : Chain) (ok : judgeChain c ≡ verdict.Accepted) where
     one-value l k long = record {
       report = ap (λ (r : Run). reportOf (r .answer)) same;
       out = ap (λ (r : Run). r .output) same;
-      hands-on = λ i. record { state = (state-back (trimmed c) (a .few) (k .state) long _ _ _ _ ∙ ap (λ (r : Run). r .state) same) i; store = same i .store ++ drop (l .front) (k .store) };
+      hands-on = λ i. record { state = (state-back (trimmed c []) (a .few) (k .state) long _ _ _ _ ∙ ap (λ (r : Run). r .state) same) i; store = same i .store ++ drop (l .front) (k .store) };
       long = left-length _ _ (k .state) long;
       later = left-later _ _ (k .state) long;
     }
       where
-        a : Accepted (trimmed c)
-        a = accepts.accepted-chain c ok
+        a : Accepted (trimmed c [])
+        a = accepts.accepted-chain c [] ok
 
-        same : runOf c (stateIn (k .state)) (take (l .front) (k .store)) (tabulate (l .cells) (λ i. stream (wordAt (k .state) 0 + i))) (l .output) (l .allowance)
-            ≡ callRun (trimmed c) stream l (between k)
+        same : runOf c [] (stateIn (k .state)) (take (l .front) (k .store)) (tabulate (l .cells) (λ i. stream (wordAt (k .state) 0 + i))) (l .output) (l .allowance)
+            ≡ callRun (trimmed c []) stream l (between k)
         same =
-            ap (λ (p : ℕ). runTrimmed (trimmed c) (stateIn (k .state)) (take (l .front) (k .store)) (tabulate (l .cells) (λ i. stream (p + i))) (l .output) (l .allowance))
-            (sym (first-word (trimmed c .count) (a .some) (k .state) long))
+            ap (λ (p : ℕ). runTrimmed (trimmed c []) (stateIn (k .state)) (take (l .front) (k .store)) (tabulate (l .cells) (λ i. stream (p + i))) (l .output) (l .allowance))
+            (sym (first-word (trimmed c [] .count) (a .some) (k .state) long))
 
     all-value : (ls : List Lending) (k : Slices) → stateSize ≤ length (k .state) → AllCalls (onValue c) c stream ls k
     unfolding leftAll calledAll runs afterAll
@@ -129,16 +129,16 @@ module _ (c : Chain) (ok : judgeChain c ≡ verdict.Accepted) where
         let o = one-value l k long in
         let r = all-value ls (left (onValue c) stream l k) (rw (o .long) long) in
         record {
-          reports = ap₂ (λ x xs. x ∷ xs) (o .report) (r .reports ∙ ap (λ (b : Between). map (λ (x : Run). reportOf (x .answer)) (runs (trimmed c) stream ls b)) (o .hands-on));
-          outs = ap₂ (λ x xs. x ∷ xs) (o .out) (r .outs ∙ ap (λ (b : Between). map (λ (x : Run). x .output) (runs (trimmed c) stream ls b)) (o .hands-on));
-          hands-on = r .hands-on ∙ ap (afterAll (trimmed c) stream ls) (o .hands-on);
+          reports = ap₂ (λ x xs. x ∷ xs) (o .report) (r .reports ∙ ap (λ (b : Between). map (λ (x : Run). reportOf (x .answer)) (runs (trimmed c []) stream ls b)) (o .hands-on));
+          outs = ap₂ (λ x xs. x ∷ xs) (o .out) (r .outs ∙ ap (λ (b : Between). map (λ (x : Run). x .output) (runs (trimmed c []) stream ls b)) (o .hands-on));
+          hands-on = r .hands-on ∙ ap (afterAll (trimmed c []) stream ls) (o .hands-on);
         }
 
   lists-value : Lists (onValue c) c
   lists-value = record { accepted = ok; fresh = fresh-value; one = one-value; all = all-value }
 
 pub lists-on-chains : ListsOnChains
-lists-on-chains chain h = lists-value (chainIn chain) (unnumbered (judgeChain (chainIn chain)) h)
+lists-on-chains chain h = lists-value (chainIn chain) (unnumbered (judgeChain (chainIn chain) []) h)
 
 pub lists-on-sheets : ListsOnSheets
 unfolding runSheet

@@ -1,7 +1,7 @@
 -- The promises of specs/Promises.
 use Prim.Native.Nat.{ℕ, _<_}
 use mathlib.Core.Bool.{Bool, true, false}
-use mathlib.Core.List.{List}
+use mathlib.Core.List.{List, []}
 use mathlib.Core.Path.{_≡_, refl, sym, _∙_, ap}
 use native.Mathlib.Omega.{arith}
 use lib.ListN.{length}
@@ -11,7 +11,7 @@ use Rattle.model.specs.Judging.{badDims, badGrid, windowChecks, valueChecks, ju
 use Rattle.model.specs.Planning.{planOf}
 use Rattle.model.specs.Reading.{readRequest, readChain}
 use Rattle.model.specs.Running.{judgeRun, layout, countersOf, shortStore, badState, runOf, runTrimmed}
-use Rattle.model.specs.Values.{trimmed}
+use Rattle.model.specs.Values.{groundOf, dimsOf, trimmed}
 use Rattle.model.specs.Writing.{writeOf, writeVerdict}
 use Rattle.model.specs.declared.Chain.{Chain}
 use Rattle.model.specs.declared.Refusal.{Refusal}
@@ -75,7 +75,7 @@ plan-refused request sheet h = go (readRequest request .verdict) refl
   where
     go : (v : Verdict) → readRequest request .verdict ≡ v → (planCall request sheet .sheet ≡ sheet) × (planCall request sheet .answer .bytes ≡ 0)
     go (verdict.Refused x) e = rw e (refl, refl)
-    go verdict.Accepted e = rw e (value-unwritten (planOf (readRequest request .request) .chain) sheet (rw e at h))
+    go verdict.Accepted e = rw e (value-unwritten (planOf (readRequest request .request) [] .chain) sheet (rw e at h))
 
 pub read-refused : ReadRefused
 unfolding readCall verdictNumber
@@ -88,9 +88,9 @@ read-refused sheet chain h = go (readVerdict sheet (length chain)) refl
 module _ (state store cells out : List ℕ) (allowance : ℕ) where
   value-refused : (c : Chain) → (runValue state store cells out allowance c .report .refusal ≡ 0 → ⊥) → Untouched state store out (runValue state store cells out allowance c)
   unfolding runValue reportOf stateLeft caseOf answerNumber answerCounts runOf runTrimmed
-  value-refused c h = go (judgeRun (trimmed c) (stateIn state) store) refl
+  value-refused c h = go (judgeRun (trimmed c []) (stateIn state) store) refl
     where
-      go : (v : Verdict) → judgeRun (trimmed c) (stateIn state) store ≡ v → Untouched state store out (runValue state store cells out allowance c)
+      go : (v : Verdict) → judgeRun (trimmed c []) (stateIn state) store ≡ v → Untouched state store out (runValue state store cells out allowance c)
       go verdict.Accepted e = absurd (h (rw e))
       go (verdict.Refused x) e = rw e
           (record { state-stays = refl; store-stays = refl; out-stays = refl; refused = refl; no-cells = refl; no-firings = refl; no-clocks = refl })
@@ -111,17 +111,17 @@ run-refused state store cells out allowance =
 
 pub chain-refused : ChainRefused
 unfolding runValue reportOf answerNumber verdictNumber written writeOf writeVerdict
-chain-refused chain h = go (judgeChain (chainIn chain)) refl
+chain-refused chain h = go (judgeChain (chainIn chain) []) refl
   where
     c : Chain
     c = chainIn chain
 
-    go : (v : Verdict) → judgeChain c ≡ v
-        → ((state store cells out : List ℕ) (allowance : ℕ) → runValue state store cells out allowance c .report .refusal ≡ verdictNumber (judgeChain c))
-        × ((sheet : List ℕ) → written c sheet .answer .refusal ≡ verdictNumber (judgeChain c))
+    go : (v : Verdict) → judgeChain c [] ≡ v
+        → ((state store cells out : List ℕ) (allowance : ℕ) → runValue state store cells out allowance c .report .refusal ≡ verdictNumber (judgeChain c []))
+        × ((sheet : List ℕ) → written c sheet .answer .refusal ≡ verdictNumber (judgeChain c []))
     go verdict.Accepted e = absurd (h (rw e))
     go (verdict.Refused x) e =
-        (λ state store cells out allowance. rw (e, ← run.run-refused c (stateIn state) store cells out allowance x e), λ sheet. rw e)
+        (λ state store cells out allowance. rw (e, ← run.run-refused c [] (stateIn state) store cells out allowance x e), λ sheet. rw e)
 
 pub sheet-refused : SheetRefused
 unfolding runSheet reportOf answerNumber verdictNumber readCall readVerdict
@@ -167,33 +167,33 @@ unfolding runSheet
 same-runs sheet chain state store cells out allowance h = rw (words-read sheet chain h, sheet-fine sheet chain h)
 
 -- A chain that is accepted has fewer iterations than the firings that too few words are taken for.
-few-iterations : (c : Chain) → judgeChain c ≡ verdict.Accepted → layout (trimmed c) .iterations < 4294967295
+few-iterations : (c : Chain) → judgeChain c [] ≡ verdict.Accepted → layout (trimmed c []) .iterations < 4294967295
 unfolding layout
 few-iterations c e =
-    let a = accepts.accepted-chain c e in
-    omega (arith, a .cells, at-most-cells (trimmed c) (accepts.fitting-of (trimmed c) (accepts.trimmed-proper c) a))
+    let a = accepts.accepted-chain c [] e in
+    omega (arith, a .cells, at-most-cells (trimmed c []) (accepts.fitting-of (trimmed c []) (accepts.trimmed-proper c []) a))
 
 module _ (state store cells out : List ℕ) (allowance : ℕ) (short : length state < 33) where
-  module _ (c : Chain) (e : judgeChain c ≡ verdict.Accepted) (long : shortStore (trimmed c) store ≡ false) where
-    lost : badState (layout (trimmed c)) (countersOf (c .window .count) (stateIn state)) ≡ true
+  module _ (c : Chain) (e : judgeChain c [] ≡ verdict.Accepted) (long : shortStore (trimmed c []) store ≡ false) where
+    lost : badState (layout (trimmed c [])) (countersOf (c .window .count) (stateIn state)) ≡ true
     unfolding stateIn badState countersOf
     lost = rw (lt-ltb _ _ short, lt-ltb _ _ (few-iterations c e))
 
     value-by-11 : runValue state store cells out allowance c .report .refusal ≡ 11
     unfolding runValue reportOf answerNumber numberOf
-    value-by-11 = rw (← run.run-bad c (stateIn state) store cells out allowance (accepts.accepted-chain c e) long lost)
+    value-by-11 = rw (← run.run-bad c [] (stateIn state) store cells out allowance (accepts.accepted-chain c [] e) long lost)
 
   value-short : (c : Chain) → runValue state store cells out allowance c .report .refusal ≡ 0 → ⊥
   unfolding runValue reportOf answerNumber
-  value-short c h = go (judgeChain c) refl
+  value-short c h = go (judgeChain c []) refl
     where
-      stored : judgeChain c ≡ verdict.Accepted → (b : Bool) → shortStore (trimmed c) store ≡ b → ⊥
-      stored e true d = numbered refusal.ShortStore (rw (← run.run-short c (stateIn state) store cells out allowance (accepts.accepted-chain c e) d) at h)
+      stored : judgeChain c [] ≡ verdict.Accepted → (b : Bool) → shortStore (trimmed c []) store ≡ b → ⊥
+      stored e true d = numbered refusal.ShortStore (rw (← run.run-short c [] (stateIn state) store cells out allowance (accepts.accepted-chain c [] e) d) at h)
       stored e false d = let x = value-by-11 c e d in omega arith
 
-      go : (v : Verdict) → judgeChain c ≡ v → ⊥
-      go verdict.Accepted e = stored e (shortStore (trimmed c) store) refl
-      go (verdict.Refused x) e = numbered x (rw (← run.run-refused c (stateIn state) store cells out allowance x e) at h)
+      go : (v : Verdict) → judgeChain c [] ≡ v → ⊥
+      go verdict.Accepted e = stored e (shortStore (trimmed c []) store) refl
+      go (verdict.Refused x) e = numbered x (rw (← run.run-refused c [] (stateIn state) store cells out allowance x e) at h)
 
   sheet-short : (sheet : List ℕ) → runSheet state store cells out allowance sheet .report .refusal ≡ 0 → ⊥
   unfolding runSheet reportOf answerNumber
@@ -210,7 +210,7 @@ short-state state store cells out allowance short =
 pub short-state-by-11 : ShortStateBy11
 unfolding runSheet
 short-state-by-11 state store cells out allowance short = (
-  λ chain h. value-by-11 state store cells out allowance short (chainIn chain) (unnumbered (judgeChain (chainIn chain)) h),
+  λ chain h. value-by-11 state store cells out allowance short (chainIn chain) (unnumbered (judgeChain (chainIn chain) []) h),
   λ sheet h long.
       let ok = unnumbered (readChain sheet .verdict) h in
       rw ok (value-by-11 state store cells out allowance short (readChain sheet .chain) (read-judged sheet ok) long),
@@ -218,7 +218,7 @@ short-state-by-11 state store cells out allowance short = (
 
 -- Too few words of a chain are the blank chain.
 pub short-chain-judged : ShortChainJudged
-unfolding chainIn judgeChain judged windowChecks valueChecks badGrid badDims firstOf trimmed verdictNumber numberOf
+unfolding chainIn judgeChain judged windowChecks valueChecks badGrid badDims firstOf trimmed groundOf dimsOf verdictNumber numberOf
 short-chain-judged chain short = rw (lt-ltb _ _ short)
 
 pub short-chain : ShortChain

@@ -15,8 +15,9 @@ use borrow.Author.Tests.{le-ltb, eqb-false, ltb-false}
 use Rattle.model.specs.Lists.{tabulate, sum, product, any}
 use Rattle.model.specs.Numbers.{signed, signedWord}
 use Rattle.model.specs.Geometry.{cellCount}
-use Rattle.model.specs.Grounds.Ground.{rectangle}
-use Rattle.model.specs.Values.{Trimmed, sizesOf, offsetOf, offsetsOf, partOf, indexArray, boundsOf, chainOf, blankChain, requestOf}
+use Rattle.model.specs.Grounds.{Ground}
+use Rattle.model.specs.Grounds.Ground.{rectangle, rows}
+use Rattle.model.specs.Values.{Trimmed, dimsOf, offsetOf, offsetsOf, partOf, indexArray, boundsOf, gridOf, chainOf, blankChain, requestOf}
 use Rattle.model.specs.Judging.{mostCells, mostPlaces, badDims, badSizes, badGrid, badGround, tooLarge, judged}
 use Rattle.model.specs.Steps.{falling, sorted}
 use Rattle.model.specs.Planning.{trimmedRequest, judgeRequest, plannedChain, planOf}
@@ -116,6 +117,11 @@ module _ (t : Trimmed) (ok : judged t ≡ verdict.Accepted) where
       let h = or-false (any (λ s. eqb s 0) sizes) (ltb mostCells (cellCount sizes)) (g .1) in
       omega (arith, below-product sizes (h .0) d, ltb-false mostCells (product sizes) (h .1))
 
+  sizes-small : (g : Ground) → t .ground ≡ g → (d : ℕ) → Word (getD (gridOf (t .dims) g .sizes) d 0)
+  unfolding gridOf
+  sizes-small (rectangle sizes) e = each-tabulate Word 4 (λ d. getD sizes d 0) 0 (size-small sizes e) (omega arith)
+  sizes-small (rows rs) e = each-tabulate Word 4 (λ d. getD [] d 0) 0 (λ d. omega arith) (omega arith)
+
   capacity-small : (k : ℕ) → Word (getD (t .capacities) k 0)
   unfolding judged tooLarge
   capacity-small k = omega (arith, below-sum (t .capacities) k, ltb-false mostPlaces (sum (t .capacities)) (value-passes t ok .chain .places))
@@ -144,26 +150,26 @@ module _ (dims : ℕ) (b : Bounds) (held : HeldBounds b) where
       (λ e. rw e (λ d. rw (blank-at {A = ℤ} 4 d (pos 0)) (omega arith), λ d. rw (blank-at {A = ℤ} 4 d (pos 0)) (omega arith)))
 
 module _ (c : Chain) (held : Held c) where
-  request-small : (i : ℕ) → Small (getD (trimmedRequest (requestOf c) .offsets) i [])
+  request-small : (i : ℕ) → Small (getD (trimmedRequest (requestOf c) [] .offsets) i [])
   unfolding trimmedRequest offsetsOf offsetOf
   request-small =
-      each-tabulate Small (c .window .count) (offsetOf (c .grid .dims) (c .window)) []
-      (λ k. each-tabulate Entry (c .grid .dims) (λ d. getD (c .window .offsets) (4 * k + d) (pos 0)) (pos 0) (λ d. held .window .1 (4 * k + d)) (omega arith))
+      each-tabulate Small (c .window .count) (offsetOf (dimsOf (c .grid)) (c .window)) []
+      (λ k. each-tabulate Entry (dimsOf (c .grid)) (λ d. getD (c .window .offsets) (4 * k + d) (pos 0)) (pos 0) (λ d. held .window .1 (4 * k + d)) (omega arith))
       (λ j. omega arith)
 
-  request-bounds : Indices (boundsOf (trimmedRequest (requestOf c) .part) .lowest) × Indices (boundsOf (trimmedRequest (requestOf c) .part) .highest)
+  request-bounds : Indices (boundsOf (trimmedRequest (requestOf c) [] .part) .lowest) × Indices (boundsOf (trimmedRequest (requestOf c) [] .part) .highest)
   unfolding trimmedRequest
-  request-bounds = copied-bounds (c .grid .dims) (c .bounds) (held .bounds)
+  request-bounds = copied-bounds (dimsOf (c .grid)) (c .bounds) (held .bounds)
 
-  request-fits : FactorsFit (trimmedRequest (requestOf c) .kernel)
+  request-fits : FactorsFit (trimmedRequest (requestOf c) [] .kernel)
   unfolding trimmedRequest
   request-fits = held .factors
 
-pub planned-range : (c : Chain) → Held c → judgeRequest (requestOf c) ≡ verdict.Accepted → InRange (planOf (requestOf c) .chain)
-unfolding planOf plannedChain chainOf judgeRequest trimmedRequest sorted
+pub planned-range : (c : Chain) → Held c → judgeRequest (requestOf c) [] ≡ verdict.Accepted → InRange (planOf (requestOf c) [] .chain)
+unfolding planOf plannedChain chainOf judgeRequest sorted
 planned-range c held ok = rw ok
     (record {
-      sizes = each-tabulate Word 4 (λ d. getD (sizesOf (c .grid)) d 0) 0 (size-small t ok (sizesOf (c .grid)) refl) (omega arith);
+      sizes = sizes-small t ok (t .ground) refl;
       entries = each-tabulate Entry 128 (λ i. getD (getD (falling (t .offsets)) (i / 4) []) (i % 4) (pos 0)) (pos 0) (λ i. sorted-small (t .offsets) (request-small c held) (i / 4) (i % 4)) (omega arith);
       lowest = request-bounds c held .0;
       highest = request-bounds c held .1;
@@ -172,4 +178,4 @@ planned-range c held ok = rw ok
     })
   where
     t : Trimmed
-    t = trimmedRequest (requestOf c)
+    t = trimmedRequest (requestOf c) []

@@ -1,4 +1,4 @@
--- What a chain read from a sheet holds: arrays of their lengths, entries of 16 bits, indices of 32, filter numbers of 8, factors that binary32 holds.
+-- What a chain read from a sheet holds: a rectangle, arrays of their lengths, entries of 16 bits, indices of 32, filter numbers of 8, factors that binary32 holds.
 use Prim.Native.Nat.{ℕ, zero, suc, _+_, _<_}
 use mathlib.Core.Bool.{Bool, true, false, cond}
 use mathlib.Core.List.{List, [], _∷_, map}
@@ -68,6 +68,8 @@ abbrev HeldOrder : Order → Type 0
 HeldOrder o = (length (o .filters) ≡ 32) × ((t : ℕ) → Byte (getD (o .filters) t 0))
 
 pub record Held (c : Chain) : Type 0 where
+  pub flat : c .grid .skewed ≡ false
+  pub rowless : c .grid .rows ≡ 0
   pub sizes : length (c .grid .sizes) ≡ 4
   pub window : HeldWindow (c .window)
   pub bounds : HeldBounds (c .bounds)
@@ -149,11 +151,13 @@ module _ (r : Reading) (x : List ℕ) (small : (i : ℕ) → Byte (byteAt x i)) 
   unfolding taken withGrid withOffset withName withBox withCapacity withOrder withKernel sizesIn lowestIn highestIn filtersIn
   held-taken =
       by-bool (eqb (getD x 0 0) 1)
-      (λ e. rw e (record { sizes = refl; window = h .window; bounds = h .bounds; capacities = h .capacities; order = h .order; factors = h .factors }))
+      (λ e. rw e (record { flat = refl; rowless = refl; sizes = refl; window = h .window; bounds = h .bounds; capacities = h .capacities; order = h .order; factors = h .factors }))
       (λ e.
       by-bool (eqb (getD x 0 0) 2)
       (λ d. rw (e, d)
       (record {
+        flat = h .flat;
+        rowless = h .rowless;
         sizes = h .sizes;
         window = (length-sets (entriesIn x) _ _ ∙ h .window .0, each-sets (entriesIn x) _ _ (each-entry x) (h .window .1));
         bounds = h .bounds;
@@ -165,6 +169,8 @@ module _ (r : Reading) (x : List ℕ) (small : (i : ℕ) → Byte (byteAt x i)) 
       by-bool (eqb (getD x 0 0) 3)
       (λ f. rw (e, d, f)
       (record {
+        flat = h .flat;
+        rowless = h .rowless;
         sizes = h .sizes;
         window = h .window;
         bounds = h .bounds;
@@ -174,16 +180,16 @@ module _ (r : Reading) (x : List ℕ) (small : (i : ℕ) → Byte (byteAt x i)) 
       }))
       (λ f.
       by-bool (eqb (getD x 0 0) 6)
-      (λ o. rw (e, d, f, o) (record { sizes = h .sizes; window = h .window; bounds = h .bounds; capacities = h .capacities; order = order-held; factors = h .factors }))
+      (λ o. rw (e, d, f, o) (record { flat = h .flat; rowless = h .rowless; sizes = h .sizes; window = h .window; bounds = h .bounds; capacities = h .capacities; order = order-held; factors = h .factors }))
       (λ o.
       by-bool (eqb (getD x 0 0) 7)
-      (λ g. rw (e, d, f, o, g) (record { sizes = h .sizes; window = named-held (getD x 1 0); bounds = h .bounds; capacities = h .capacities; order = h .order; factors = h .factors }))
+      (λ g. rw (e, d, f, o, g) (record { flat = h .flat; rowless = h .rowless; sizes = h .sizes; window = named-held (getD x 1 0); bounds = h .bounds; capacities = h .capacities; order = h .order; factors = h .factors }))
       (λ g.
       by-bool (eqb (getD x 0 0) 8)
       (λ b. rw (e, d, f, o, g, b)
-      (record { sizes = h .sizes; window = h .window; bounds = (each-index _ _ _ _, each-index _ _ _ _); capacities = h .capacities; order = h .order; factors = h .factors }))
+      (record { flat = h .flat; rowless = h .rowless; sizes = h .sizes; window = h .window; bounds = (each-index _ _ _ _, each-index _ _ _ _); capacities = h .capacities; order = h .order; factors = h .factors }))
       (λ b. rw (e, d, f, o, g, b)
-      (record { sizes = h .sizes; window = h .window; bounds = h .bounds; capacities = h .capacities; order = h .order; factors = kernel-fits x })))))))
+      (record { flat = h .flat; rowless = h .rowless; sizes = h .sizes; window = h .window; bounds = h .bounds; capacities = h .capacities; order = h .order; factors = kernel-fits x })))))))
     where
       n : ℕ
       n = r .chain .window .count
@@ -227,6 +233,8 @@ held-read chainSheet sheet = held-lines chainSheet start (linesOf sheet) held-st
   where
     held-start : Held (start .chain)
     held-start = record {
+      flat = refl;
+      rowless = refl;
       sizes = refl;
       window = (refl, λ i. rw (blank-at 128 i (pos 0)) (omega arith));
       bounds = ((refl, λ d. rw (blank-at 4 d (pos 0)) (omega arith)), (refl, λ d. rw (blank-at 4 d (pos 0)) (omega arith)));

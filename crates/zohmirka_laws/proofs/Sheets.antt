@@ -1,7 +1,7 @@
 -- Sheets that one call wrote and another reads (specs/Sheets).
 use Prim.Native.Nat.{ℕ}
 use mathlib.Core.Bool.{false}
-use mathlib.Core.List.{List}
+use mathlib.Core.List.{List, []}
 use mathlib.Core.Path.{_≡_, refl, sym, _∙_, ap}
 use lib.ListN.{length}
 use borrow.Author.Tests.{le-ltb}
@@ -16,6 +16,7 @@ use Rattle.model.specs.declared.Chain.{Chain}
 use Rattle.model.specs.declared.ReadChain.{ReadChain}
 use Rattle.model.specs.declared.ReadRequest.{ReadRequest}
 use Rattle.model.specs.declared.Refusal.{Refusal}
+use Rattle.model.specs.declared.Request.{Request}
 use Rattle.model.specs.declared.Verdict.{Verdict}
 use Rattle.model.specs.declared.Verdict.the-variants as verdict
 use Rattle.sheet_trips.specs.RoundTrips.{InRange}
@@ -31,7 +32,7 @@ use Rattle.zohmirka_laws.proofs.Ranges.{words-range, planned-range}
 
 -- What a chain in range is read back as.
 written-read-back : (c : Chain) → InRange c → (sheet : List ℕ) → written c sheet .answer .refusal ≡ 0
-    → readChain (bytesOf (written c sheet)) ≡ record { verdict = verdict.Accepted; chain = chainOf (trimmed c) }
+    → readChain (bytesOf (written c sheet)) ≡ record { verdict = verdict.Accepted; chain = chainOf (trimmed c []) }
 unfolding written
 written-read-back c range sheet h = write-read-calls c range sheet (unnumbered (writeOf c sheet .answer .verdict) h)
 
@@ -49,8 +50,8 @@ module _ (request : List ℕ) (ok : readRequest request .verdict ≡ verdict.Acc
   unfolding readRequest
   request-read = rw ok
 
-  plan-range : InRange (planOf (readRequest request .request) .chain)
-  plan-range = rw request-read (planned-range read (held-read false request) (ap judgeRequest (sym request-read) ∙ accepted-request request ok))
+  plan-range : InRange (planOf (readRequest request .request) [] .chain)
+  plan-range = rw request-read (planned-range read (held-read false request) (ap (λ (r : Request). judgeRequest r []) (sym request-read) ∙ accepted-request request ok))
 
 pub plan-judged : PlanJudged
 unfolding planCall
@@ -58,20 +59,20 @@ plan-judged request sheet h = go (readRequest request .verdict) refl
   where
     go : (v : Verdict) → readRequest request .verdict ≡ v → verdictNumber (readChain (bytesOf (planCall request sheet)) .verdict) ≡ 0
     go (verdict.Refused x) e = absurd (numbered x (rw e at h))
-    go verdict.Accepted e = rw e (judged-again (planOf (readRequest request .request) .chain) (plan-range request e) sheet (rw e at h))
+    go verdict.Accepted e = rw e (judged-again (planOf (readRequest request .request) [] .chain) (plan-range request e) sheet (rw e at h))
 
 pub planned-by-name : PlannedByName
 unfolding planCall
 planned-by-name name sizes rest sheet h n =
     ap (λ (r : ReadRequest). let refused : Refusal → Sheets = λ x. record { answer = record { refusal = numberOf x; bytes = 0 }; sheet = sheet } in
-    byVerdict (r .verdict) (written (planOf (r .request) .chain) sheet) refused)
+    byVerdict (r .verdict) (written (planOf (r .request) [] .chain) sheet) refused)
     (by-its-name name sizes rest h n .read)
 
 -- ---- Chains as words
 
 pub read-words-judged : ReadJudged
 unfolding verdictNumber
-read-words-judged sheet chain h = ap (λ (c : Chain). verdictNumber (judgeChain c)) (words-read sheet chain h) ∙ ap verdictNumber (read-judged sheet (sheet-fine sheet chain h))
+read-words-judged sheet chain h = ap (λ (c : Chain). verdictNumber (judgeChain c [])) (words-read sheet chain h) ∙ ap verdictNumber (read-judged sheet (sheet-fine sheet chain h))
 
 pub read-written : ReadWritten
 unfolding written verdictNumber

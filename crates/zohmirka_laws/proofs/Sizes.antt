@@ -10,8 +10,10 @@ use borrow.Author.Tests.{le-ltb}
 use Rattle.model.specs.Answers.{Check, firstOf, byVerdict, numberOf, verdictNumber, answerNumber}
 use Rattle.model.specs.Lists.{sum}
 use Rattle.model.specs.Kernels.{width}
+use Rattle.model.specs.Grounds.{Ground}
+use Rattle.model.specs.Grounds.Ground.{rectangle, rows}
 use Rattle.model.specs.Values.{trimmed}
-use Rattle.model.specs.Judging.{windowChecks, kernelChecks, chainChecks, valueChecks, judged, judgeChain}
+use Rattle.model.specs.Judging.{groundRefusal, windowChecks, kernelChecks, chainChecks, valueChecks, judged, judgeChain}
 use Rattle.model.specs.Planning.{planOf}
 use Rattle.model.specs.Frames.{seenOf}
 use Rattle.model.specs.Lines.{Line, linesOf}
@@ -26,6 +28,7 @@ use Rattle.model.specs.declared.Reading.{Reading}
 use Rattle.model.specs.declared.Refusal.the-variants as refusal
 use Rattle.model.specs.declared.Verdict.{Verdict}
 use Rattle.model.specs.declared.Verdict.the-variants as verdict
+use Rattle.model.proofs.ChainLaws.{dims-flat}
 use Rattle.run_laws.proofs.Accepts as accepts
 use Rattle.run_laws.proofs.Plans.{plan-accepted}
 use Rattle.sheet_laws.proofs.AcceptedChains.{accepted-chain}
@@ -41,20 +44,20 @@ use Rattle.zohmirka_laws.proofs.Promised.{unnumbered}
 
 -- ---- The longest sheet
 
-room-enough : (c : Chain) (room : ℕ) → judgeChain c ≡ verdict.Accepted → longestSheet ≤ room → writeVerdict c room ≡ verdict.Accepted
+room-enough : (c : Chain) (room : ℕ) → judgeChain c [] ≡ verdict.Accepted → longestSheet ≤ room → writeVerdict c room ≡ verdict.Accepted
 unfolding writeVerdict firstOf
 room-enough c room e h =
     let a = accepted-chain c e in
-    let l : ltb room (length (sheetOf c)) ≡ false = le-ltb room (length (sheetOf c)) (omega (arith, sheet-length c (a .few-dims) (a .few))) in
+    let l : ltb room (length (sheetOf c)) ≡ false = le-ltb room (length (sheetOf c)) (omega (arith, sheet-length c (omega (arith, dims-flat (c .grid) (a .flat), a .few-dims)) (a .few))) in
     rw (e, l)
 
 pub long-sheet : LongSheet
 unfolding planCall written writeOf verdictNumber
-long-sheet request sheet e h = rw (e, room-enough (planOf (readRequest request .request) .chain) (length sheet) (plan-accepted (readRequest request .request) (accepted-request request e)) h)
+long-sheet request sheet e h = rw (e, room-enough (planOf (readRequest request .request) [] .chain) (length sheet) (plan-accepted (readRequest request .request) [] (accepted-request request e)) h)
 
 pub long-sheet-of-chain : LongSheetOfChain
 unfolding written writeOf verdictNumber
-long-sheet-of-chain chain sheet e h = rw (room-enough (chainIn chain) (length sheet) (unnumbered (judgeChain (chainIn chain)) e) h)
+long-sheet-of-chain chain sheet e h = rw (room-enough (chainIn chain) (length sheet) (unnumbered (judgeChain (chainIn chain) []) e) h)
 
 -- ---- 16,384 words of store
 
@@ -75,12 +78,18 @@ first-other (c ∷ cs) b = go (c .holds) (first-other cs (b .1))
     go true ih = b .0
     go false ih = ih
 
--- A chain is not judged by it,
-judged-other : (c : Chain) → Other (verdictNumber (judgeChain c))
-unfolding judgeChain judged trimmed windowChecks kernelChecks chainChecks valueChecks numberOf
+-- A grid is not judged by it,
+ground-other : (g : Ground) → Other (numberOf (groundRefusal g))
+unfolding numberOf
+ground-other (rectangle sizes) = λ e. omega arith
+ground-other (rows rs) = λ e. omega arith
+
+-- nor is a chain,
+judged-other : (c : Chain) → Other (verdictNumber (judgeChain c []))
+unfolding judgeChain judged windowChecks kernelChecks chainChecks valueChecks numberOf
 judged-other c =
-    first-other (valueChecks (trimmed c))
-    (λ e. omega arith, (λ e. omega arith, (λ e. omega arith, (λ e. omega arith, (λ e. omega arith, (λ e. omega arith, (λ e. omega arith, (λ e. omega arith, (λ e. omega arith, tt)))))))))
+    first-other (valueChecks (trimmed c []))
+    (ground-other (trimmed c [] .ground), (λ e. omega arith, (λ e. omega arith, (λ e. omega arith, (λ e. omega arith, (λ e. omega arith, (λ e. omega arith, (λ e. omega arith, (λ e. omega arith, tt)))))))))
 
 -- nor is a sheet.
 lines-other : (ls : List Line) (r : Reading) → Other (verdictNumber (readLines true r ls .verdict))
@@ -109,7 +118,7 @@ read-other sheet = go (s .verdict) (complete (s .reading)) (lines-other (linesOf
     s = readLines true start (linesOf sheet)
 
     go : (v : Verdict) (b : Bool) → Other (verdictNumber v)
-        → Other (verdictNumber (byVerdict v (cond b (judgeChain (s .reading .chain)) (verdict.Refused refusal.Misplaced)) verdict.Refused))
+        → Other (verdictNumber (byVerdict v (cond b (judgeChain (s .reading .chain) []) (verdict.Refused refusal.Misplaced)) verdict.Refused))
     go verdict.Accepted true h = judged-other (s .reading .chain)
     go verdict.Accepted false h = λ e. omega arith
     go (verdict.Refused x) b h = h
@@ -117,20 +126,20 @@ read-other sheet = go (s .verdict) (complete (s .reading)) (lines-other (linesOf
 module _ (state store cells out : List ℕ) (allowance : ℕ) (long : 16384 ≤ length store) where
   value-long : (c : Chain) → runValue state store cells out allowance c .report .refusal ≡ 10 → ⊥
   unfolding runValue reportOf answerNumber verdictNumber numberOf shortStore
-  value-long c h = go (judgeChain c) refl
+  value-long c h = go (judgeChain c []) refl
     where
-      ample : judgeChain c ≡ verdict.Accepted → shortStore (trimmed c) store ≡ false
-      ample e = le-ltb (length store) (sum (trimmed c .capacities)) (omega (arith, accepts.accepted-chain c e .places))
+      ample : judgeChain c [] ≡ verdict.Accepted → shortStore (trimmed c []) store ≡ false
+      ample e = le-ltb (length store) (sum (trimmed c [] .capacities)) (omega (arith, accepts.accepted-chain c [] e .places))
 
-      stated : judgeChain c ≡ verdict.Accepted → (b : Bool) → badState (layout (trimmed c)) (countersOf (c .window .count) (stateIn state)) ≡ b → ⊥
-      stated e true d = let x = rw (← run.run-bad c (stateIn state) store cells out allowance (accepts.accepted-chain c e) (ample e) d) at h in omega arith
-      stated e false d = let x = rw (← run.run-ends c (stateIn state) store cells out allowance (accepts.accepted-chain c e) (ample e) d) at h in omega arith
+      stated : judgeChain c [] ≡ verdict.Accepted → (b : Bool) → badState (layout (trimmed c [])) (countersOf (c .window .count) (stateIn state)) ≡ b → ⊥
+      stated e true d = let x = rw (← run.run-bad c [] (stateIn state) store cells out allowance (accepts.accepted-chain c [] e) (ample e) d) at h in omega arith
+      stated e false d = let x = rw (← run.run-ends c [] (stateIn state) store cells out allowance (accepts.accepted-chain c [] e) (ample e) d) at h in omega arith
 
-      go : (v : Verdict) → judgeChain c ≡ v → ⊥
-      go verdict.Accepted e = stated e (badState (layout (trimmed c)) (countersOf (c .window .count) (stateIn state))) refl
+      go : (v : Verdict) → judgeChain c [] ≡ v → ⊥
+      go verdict.Accepted e = stated e (badState (layout (trimmed c [])) (countersOf (c .window .count) (stateIn state))) refl
       go (verdict.Refused x) e =
           let n : Other (numberOf x) = rw e at (judged-other c) in
-          n (rw (← run.run-refused c (stateIn state) store cells out allowance x e) at h)
+          n (rw (← run.run-refused c [] (stateIn state) store cells out allowance x e) at h)
 
   sheet-long : (sheet : List ℕ) → runSheet state store cells out allowance sheet .report .refusal ≡ 10 → ⊥
   unfolding runSheet reportOf answerNumber verdictNumber
@@ -159,4 +168,4 @@ at-most (kernel.Blend g) n h = omega arith
 
 pub few-words : FewWords
 unfolding widthOf trimmed
-few-words c e = at-most (c .kernel) (c .window .count) (accepts.accepted-chain c e .few)
+few-words c e = at-most (c .kernel) (c .window .count) (accepts.accepted-chain c [] e .few)

@@ -106,7 +106,16 @@ module _ (c : Chain) where
     pub chain-back : Held c → c .grid .dims ≤ 4 → c .window .count ≤ 32 → c ≡ chainIn ws
     unfolding tabulate
     chain-back h few some =
-        chain-of-words ws (c .grid .dims) (c .window .count) (c .grid .sizes) (c .capacities) (c .window .offsets) (c .bounds) (c .order) (c .kernel) long dims sizes count offsets
+        (λ i.
+        record {
+          grid = record { skewed = h .flat i; rows = h .rowless i; dims = c .grid .dims; sizes = c .grid .sizes };
+          window = c .window;
+          bounds = c .bounds;
+          capacities = c .capacities;
+          order = c .order;
+          kernel = c .kernel;
+        })
+        ∙ chain-of-words ws (c .grid .dims) (c .window .count) (c .grid .sizes) (c .capacities) (c .window .offsets) (c .bounds) (c .order) (c .kernel) long dims sizes count offsets
         capacities bounds orders kernels
       where
         dims : c .grid .dims ≡ countIn (wordAt ws 0)

@@ -68,22 +68,22 @@ module _ (call : Call) (stream : ℕ → ℕ) where
 module _ (call : Call) (c : Chain) (stream : ℕ → ℕ) where
   -- Each call is that of the list on the chain, with the state that the words are; it hands on what that call hands on, and the state's later words stay.
   pub record OneCall (l : Lending) (k : Slices) : Type 0 where
-    pub report : called call stream l k .report ≡ reportOf (callRun (trimmed c) stream l (between k) .answer)
-    pub out : called call stream l k .out ≡ callRun (trimmed c) stream l (between k) .output
-    pub hands-on : between (left call stream l k) ≡ after (trimmed c) stream l (between k)
+    pub report : called call stream l k .report ≡ reportOf (callRun (trimmed c []) stream l (between k) .answer)
+    pub out : called call stream l k .out ≡ callRun (trimmed c []) stream l (between k) .output
+    pub hands-on : between (left call stream l k) ≡ after (trimmed c []) stream l (between k)
     pub long : length (left call stream l k .state) ≡ length (k .state)
     pub later : drop stateSize (left call stream l k .state) ≡ drop stateSize (k .state)
 
   -- So is a list of calls: all reports, all outputs, and what it hands on at its end.
   pub record AllCalls (ls : List Lending) (k : Slices) : Type 0 where
-    pub reports : map (λ r. r .report) (calledAll call stream ls k) ≡ map (λ r. reportOf (r .answer)) (runs (trimmed c) stream ls (between k))
-    pub outs : map (λ r. r .out) (calledAll call stream ls k) ≡ map (λ r. r .output) (runs (trimmed c) stream ls (between k))
-    pub hands-on : between (leftAll call stream ls k) ≡ afterAll (trimmed c) stream ls (between k)
+    pub reports : map (λ r. r .report) (calledAll call stream ls k) ≡ map (λ r. reportOf (r .answer)) (runs (trimmed c []) stream ls (between k))
+    pub outs : map (λ r. r .out) (calledAll call stream ls k) ≡ map (λ r. r .output) (runs (trimmed c []) stream ls (between k))
+    pub hands-on : between (leftAll call stream ls k) ≡ afterAll (trimmed c []) stream ls (between k)
 
 -- With 33 words or more, which "are 0 when fresh".
 pub record Lists (call : Call) (c : Chain) : Type 0 where
-  pub accepted : judgeChain c ≡ Accepted
-  pub fresh : (k : Slices) → stateSize ≤ length (k .state) → ((i : ℕ) → i < stateSize → wordAt (k .state) i ≡ 0) → Fresh (trimmed c) (between k)
+  pub accepted : judgeChain c [] ≡ Accepted
+  pub fresh : (k : Slices) → stateSize ≤ length (k .state) → ((i : ℕ) → i < stateSize → wordAt (k .state) i ≡ 0) → Fresh (trimmed c []) (between k)
   pub one : (stream : ℕ → ℕ) (l : Lending) (k : Slices) → stateSize ≤ length (k .state) → OneCall call c stream l k
   pub all : (stream : ℕ → ℕ) (ls : List Lending) (k : Slices) → stateSize ≤ length (k .state) → AllCalls call c stream ls k
 

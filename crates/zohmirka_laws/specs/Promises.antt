@@ -1,7 +1,7 @@
 -- What is promised of the calls beside what each answers.
 use Prim.Native.Nat.{ℕ, _≤_, _<_}
 use mathlib.Core.Bool.{false}
-use mathlib.Core.List.{List}
+use mathlib.Core.List.{List, []}
 use mathlib.Core.Path.{_≡_}
 use lib.ListN.{length}
 use Rattle.model.specs.Values.{trimmed}
@@ -76,8 +76,8 @@ ShortState =
 abbrev pub ShortStateBy11 : Type 0
 ShortStateBy11 =
     (state store cells out : List ℕ) (allowance : ℕ) → length state < stateSize
-    → ((chain : List ℕ) → judgeChainCall chain ≡ 0 → shortStore (trimmed (chainIn chain)) store ≡ false → runChain state store cells out allowance chain .report .refusal ≡ 11)
-    × ((sheet : List ℕ) → judgeCall sheet ≡ 0 → shortStore (trimmed (readChain sheet .chain)) store ≡ false → runSheet state store cells out allowance sheet .report .refusal ≡ 11)
+    → ((chain : List ℕ) → judgeChainCall chain ≡ 0 → shortStore (trimmed (chainIn chain) []) store ≡ false → runChain state store cells out allowance chain .report .refusal ≡ 11)
+    × ((sheet : List ℕ) → judgeCall sheet ≡ 0 → shortStore (trimmed (readChain sheet .chain) []) store ≡ false → runSheet state store cells out allowance sheet .report .refusal ≡ 11)
 
 abbrev pub ShortChain : Type 0
 ShortChain =
@@ -103,4 +103,4 @@ LongStoreOfSheet =
     (state store cells out : List ℕ) (allowance : ℕ) (sheet : List ℕ) → 16384 ≤ length store → runSheet state store cells out allowance sheet .report .refusal ≡ 10 → ⊥
 
 abbrev pub FewWords : Type 0
-FewWords = (c : Chain) → judgeChain c ≡ Accepted → widthOf (trimmed c) ≤ 32
+FewWords = (c : Chain) → judgeChain c [] ≡ Accepted → widthOf (trimmed c []) ≤ 32

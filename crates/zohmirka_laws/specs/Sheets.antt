@@ -1,7 +1,7 @@
 -- Sheets that one call wrote and another reads.
 use Prim.Native.Nat.{ℕ, _≤_, _<_}
 use mathlib.Core.Bool.{true}
-use mathlib.Core.List.{List}
+use mathlib.Core.List.{List, []}
 use mathlib.Core.Path.{_≡_}
 use lib.ListN.{length, take}
 use Rattle.model.specs.Values.{trimmed, chainOf}
@@ -38,7 +38,7 @@ ReadWritten =
 pub record Reread (chain sheet room : List ℕ) : Type 0 where
   pub judged : judgeCall (bytesOf (writeCall chain sheet)) ≡ 0
   pub read : readCall (bytesOf (writeCall chain sheet)) room .refusal ≡ 0
-  pub same : chainIn (readCall (bytesOf (writeCall chain sheet)) room .chain) ≡ chainOf (trimmed (chainIn chain))
+  pub same : chainIn (readCall (bytesOf (writeCall chain sheet)) room .chain) ≡ chainOf (trimmed (chainIn chain) [])
 
 abbrev pub WrittenRead : Type 0
 WrittenRead =

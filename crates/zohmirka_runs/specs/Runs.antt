@@ -1,6 +1,6 @@
--- What a run call on a chain leaves.
+-- What a run call on a chain with no rows beside it leaves.
 use Prim.Native.Nat.{ℕ}
-use mathlib.Core.List.{List}
+use mathlib.Core.List.{List, []}
 use Rattle.model.specs.Running.{runOf}
 use Rattle.model.specs.declared.Answer.{Answer}
 use Rattle.model.specs.declared.Answer.the-variants as answer
@@ -25,5 +25,5 @@ module _ (state store cells out : List ℕ) (allowance : ℕ) where
   -- A call on the chain c.
   unfoldable pub runValue : Chain → Runs
   runValue c =
-      let ran = runOf c (stateIn state) store cells out allowance in
+      let ran = runOf c [] (stateIn state) store cells out allowance in
       record { report = reportOf (ran .answer); state = stateLeft (ran .answer) (ran .state) state; store = ran .store; out = ran .output }

@@ -1,4 +1,4 @@
-// A run call on a chain, with its state as words.
+// A run call on a chain with no rows beside it, with its state as words.
 use model::Answer;
 use model::Chain;
 use zohmirka_reports::Report;
@@ -22,7 +22,7 @@ pub fn run_value(
         ≡ runValue (now (state .entry)) (now (store .entry)) (now (cells .entry)) (now (out .entry)) allowance chain ⌝ }
 {
     let before = state_in(state);
-    let ran = runner::run(chain, before, store, cells, out, allowance);
+    let ran = runner::run(chain, &[], before, store, cells, out, allowance);
     let answer = ran.answer;
     match answer {
         Answer::Refused(x) => refused(x),

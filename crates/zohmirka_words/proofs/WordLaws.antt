@@ -208,7 +208,7 @@ module _ (ws : List ℕ) where
       → dims ≡ countIn (wordAt ws 0) → sizes ≡ wordAt ws 1 ∷ wordAt ws 2 ∷ wordAt ws 3 ∷ wordAt ws 4 ∷ [] → count ≡ countIn (wordAt ws 5)
       → offsets ≡ tabulate 128 (λ i. signed (wordAt ws (6 + i) % 65536)) → capacities ≡ tabulate 31 (λ i. wordAt ws (134 + i))
       → b ≡ boundsIn ws → o ≡ orderIn ws → k ≡ kernelIn (wordAt ws 165) (wordAt ws 166) (wordAt ws 167)
-      → record { grid = record { dims = dims; sizes = sizes }; window = record { count = count; offsets = offsets }; bounds = b; capacities = capacities; order = o; kernel = k }
+      → record { grid = record { skewed = false; rows = 0; dims = dims; sizes = sizes }; window = record { count = count; offsets = offsets }; bounds = b; capacities = capacities; order = o; kernel = k }
       ≡ chainIn ws
   unfolding chainIn
   chain-of-words dims count sizes capacities offsets b o k h e1 e2 e3 e4 e5 e6 e7 e8 = rw (le-ltb _ _ h, e1, e2, e3, e4, e5, e6, e7, e8)

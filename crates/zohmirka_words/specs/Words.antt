@@ -1,6 +1,6 @@
 -- A state and a chain as words.
 use Prim.Native.Nat.{ℕ, _+_, _-_, _%_}
-use mathlib.Core.Bool.{cond, not}
+use mathlib.Core.Bool.{false, cond, not}
 use mathlib.Core.List.{List, [], _∷_, _++_}
 use lib.Dec.{eqb, ltb}
 use lib.IntN.{ℤ, pos}
@@ -50,7 +50,7 @@ stateIn ws =
     (record { passed = tabulate 32 (λ k. counter (wordAt ws k)); fired = record { 0 = wordAt ws 32 } })
 
 -- Chains: dimension count, sizes, number of references, entries, capacities, kernel and factors, whether the author's order stood, its filters, whether the box stood, its lowest
--- indices, its highest.
+-- indices, its highest. They say nothing of rows: a chain of words is on a rectangle.
 
 abbrev pub chainSize : ℕ
 chainSize = 210
@@ -111,7 +111,7 @@ unfoldable pub chainIn : List ℕ → Chain
 chainIn ws =
     cond (ltb (length ws) chainSize) blankChain
     (record {
-      grid = record { dims = countIn (wordAt ws 0); sizes = wordAt ws 1 ∷ wordAt ws 2 ∷ wordAt ws 3 ∷ wordAt ws 4 ∷ [] };
+      grid = record { skewed = false; rows = 0; dims = countIn (wordAt ws 0); sizes = wordAt ws 1 ∷ wordAt ws 2 ∷ wordAt ws 3 ∷ wordAt ws 4 ∷ [] };
       window = record { count = countIn (wordAt ws 5); offsets = tabulate 128 (λ i. signed (wordAt ws (6 + i) % 65536)) };
       bounds = boundsIn ws;
       capacities = tabulate 31 (λ k. wordAt ws (134 + k));

@@ -159,7 +159,7 @@ fn bounds_in(words: &[u32]) -> Bounds
     }
 }
 
-// The chain of its words.
+// The chain of its words, which is on a rectangle.
 pub fn chain_in(words: &[u32]) -> Chain
     ensures { λ r. ⌜ r ≡ chainIn (now (words .entry)) ⌝ }
 {
@@ -167,6 +167,8 @@ pub fn chain_in(words: &[u32]) -> Chain
         return values::blank_chain();
     }
     let grid = Grid {
+        skewed: false,
+        rows: 0,
         dims: count_in(words[0]),
         sizes: [words[1], words[2], words[3], words[4]],
     };

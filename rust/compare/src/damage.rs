@@ -1,14 +1,63 @@
 use crate::dice::Dice;
+use crate::native::ROWS;
 
 /// Damages a sheet: bytes and digits changed, lines dropped, doubled, moved, cut, or from another sheet.
 pub fn damage(dice: &mut Dice, text: &mut Vec<u8>) {
     for _ in 0..=dice.below(2) {
-        if dice.one_in(3) {
+        if ROWS && dice.one_in(8) {
+            rows(dice, text);
+        } else if dice.one_in(3) {
             characters(dice, text);
         } else {
             lines(dice, text);
         }
     }
+}
+
+/// Makes a box of each line of rows, while the library takes no rows: there a line `09` is malformed.
+pub fn hide_rows(text: &mut [u8]) {
+    if ROWS {
+        return;
+    }
+    for line in text.split_mut(|&c| c == b'\n') {
+        if line.starts_with(b"09") {
+            line[1] = b'8';
+        }
+    }
+}
+
+/// Puts a line of rows, sound or nearly, in place of the first line, behind a line of some kind or behind the last.
+fn rows(dice: &mut Dice, text: &mut Vec<u8>) {
+    let mut lines: Vec<Vec<u8>> = text.split(|&c| c == b'\n').map(<[u8]>::to_vec).collect();
+    let many = dice.pick(&[1, 2, 3, 4, 9, 511, 512, 513]);
+    let said = match dice.below(8) {
+        0 => many + 1,
+        1 => many - 1,
+        2 => dice.pick(&[0, 512, 513, 1024, 0xFFFF]),
+        _ => many,
+    };
+    let mut line = format!("09{said:04X}").into_bytes();
+    for _ in 0..many {
+        let row = format!("{:04X}{:04X}", dice.below(4), 1 + dice.below(9));
+        line.extend(row.bytes());
+    }
+    match dice.below(10) {
+        0 => line.truncate(dice.below(line.len())),
+        1 => line.truncate(line.len() - 2),
+        2 => line.extend(b"00"),
+        3 => {
+            // One digit: perhaps a start, a length or the count outside its range.
+            let at = dice.below(line.len());
+            line[at] = dice.pick(b"0148Fg");
+        }
+        _ => {}
+    }
+    match dice.below(4) {
+        0 => behind(dice, &mut lines, line),
+        1 => lines.insert(lines.len() - 1, line),
+        _ => lines[0] = line,
+    }
+    *text = lines.join(&b'\n');
 }
 
 fn characters(dice: &mut Dice, text: &mut Vec<u8>) {
@@ -132,7 +181,7 @@ fn lines(dice: &mut Dice, text: &mut Vec<u8>) {
         _ => {
             // A long line, sound or not.
             let mut long = dice
-                .pick(&[b"02", b"06", b"08"])
+                .pick(&[b"02", b"06", b"08", b"09"])
                 .repeat(1 + dice.below(300));
             if dice.one_in(2) {
                 let at = dice.below(long.len());
@@ -147,7 +196,7 @@ fn lines(dice: &mut Dice, text: &mut Vec<u8>) {
 /// Puts a line behind the first or the last line that begins with some byte; to the front where there is none.
 fn behind(dice: &mut Dice, lines: &mut Vec<Vec<u8>>, line: Vec<u8>) {
     let first = dice.pick(&[
-        b"01", b"02", b"02", b"02", b"03", b"04", b"06", b"07", b"08",
+        b"01", b"02", b"02", b"02", b"03", b"04", b"06", b"07", b"08", b"09",
     ]);
     let begins = |line: &Vec<u8>| line.starts_with(first);
     let at = if dice.one_in(2) {

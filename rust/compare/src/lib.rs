@@ -4,10 +4,12 @@ pub mod bench;
 pub mod damage;
 pub mod dice;
 pub mod draft;
+pub mod ground;
 pub mod native;
 pub mod plans;
 pub mod round;
 pub mod rounds;
+pub mod skewed;
 pub mod tally;
 pub mod words;
 

@@ -3,6 +3,11 @@
 /// The archive is linked through the crate `zohmirka`.
 use zohmirka as _;
 
+/// Whether the library takes skewed grids (document 02, request 5). While it does not, no round makes one, and the functions below that take a chain's words leave
+/// the rows beside them out. To switch it on: lend the rows here, and in the safe interface (`rounds::call`, `rounds::sheets`, `bench::clocks`), and see that `words`
+/// has the header's layout.
+pub const ROWS: bool = false;
+
 #[repr(C)]
 #[derive(Clone, Copy, Debug, PartialEq, Eq)]
 pub struct Sheet {
@@ -85,7 +90,7 @@ pub fn judge(sheet: &[u8]) -> u32 {
     unsafe { zohmirka_judge(sheet.as_ptr(), sheet.len()) }
 }
 
-pub fn read_chain(sheet: &[u8], chain: &mut [u32]) -> u32 {
+pub fn read_chain(sheet: &[u8], chain: &mut [u32], _rows: &mut [u32]) -> u32 {
     unsafe { zohmirka_read_chain(sheet.as_ptr(), sheet.len(), chain.as_mut_ptr(), chain.len()) }
 }
 
@@ -116,6 +121,7 @@ pub fn run(
 
 pub fn run_chain(
     chain: &[u32],
+    _rows: &[u32],
     state: &mut [u32],
     store: &mut [u32],
     cells: &[u32],
@@ -139,10 +145,10 @@ pub fn run_chain(
     }
 }
 
-pub fn judge_chain(chain: &[u32]) -> u32 {
+pub fn judge_chain(chain: &[u32], _rows: &[u32]) -> u32 {
     unsafe { zohmirka_judge_chain(chain.as_ptr(), chain.len()) }
 }
 
-pub fn write_chain(chain: &[u32], sheet: &mut [u8]) -> Sheet {
+pub fn write_chain(chain: &[u32], _rows: &[u32], sheet: &mut [u8]) -> Sheet {
     unsafe { zohmirka_write_chain(chain.as_ptr(), chain.len(), sheet.as_mut_ptr(), sheet.len()) }
 }

@@ -2,7 +2,7 @@
 use crate::dice::Dice;
 use crate::draft::Draft;
 use crate::native;
-use crate::words::CHAIN_WORDS;
+use crate::words::{CHAIN_WORDS, ROW_WORDS};
 use zohmirka::SHEET_BYTES;
 
 /// FNV-1a, 64 bits.
@@ -32,11 +32,12 @@ pub fn print(seed: u64, requests: u64) {
         let mut sheet = [0; SHEET_BYTES];
         let wrote = native::plan(&text, &mut sheet);
         let mut words = [0; CHAIN_WORDS];
-        let read = native::read_chain(&sheet[..wrote.bytes], &mut words);
+        let mut rows = [0; ROW_WORDS];
+        let read = native::read_chain(&sheet[..wrote.bytes], &mut words, &mut rows);
         counts[wrote.refusal.min(255) as usize] += 1;
         let numbers = [wrote.refusal, wrote.bytes as u32, read];
         answered.take(&sheet);
-        for word in numbers.iter().chain(&words) {
+        for word in numbers.iter().chain(&words).chain(&rows) {
             answered.take(&word.to_le_bytes());
         }
     }

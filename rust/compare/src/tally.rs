@@ -1,13 +1,15 @@
-use crate::native::Report;
-use straight::{Chain, Shape};
+use crate::native::{Report, ROWS};
+use straight::{Chain, Grid, Shape};
 
 /// How often each number (0: accepted) and each outcome came up, by function.
 pub struct Tally {
     pub refusals: [[u64; NUMBERS + 1]; FUNCTIONS.len()],
     pub outcomes: [u64; 5],
-    /// Firings compared, by dimension count and kernel.
-    pub firings: [[u64; 4]; 4],
-    /// Those whose terms go in an order other than the chain's.
+    /// Firings compared, by dimension count and kernel; last those on rows.
+    pub firings: [[u64; 4]; 5],
+    /// Calls on rows that fired and stalled.
+    pub stalled_late: u64,
+    /// Firings whose terms go in an order other than the chain's.
     pub ordered: u64,
     /// Those in a box that leaves iterations out.
     pub boxed: u64,
@@ -36,18 +38,19 @@ pub enum Function {
 }
 
 /// The greatest number of a refusal.
-const NUMBERS: usize = 15;
+const NUMBERS: usize = 16;
 /// Each function with the numbers that it can answer.
 const FUNCTIONS: [(&str, &[usize]); 7] = [
-    ("plan", &[1, 2, 3, 4, 5, 6, 7, 8, 9, 12, 13, 15]),
-    ("judge", &[1, 2, 3, 4, 5, 6, 7, 8, 9, 14, 15]),
-    ("read_chain", &[1, 2, 3, 4, 5, 6, 7, 8, 9, 12, 14, 15]),
-    ("run", &[1, 2, 3, 4, 5, 6, 7, 8, 9, 10, 11, 14, 15]),
-    ("run_chain", &[3, 4, 5, 6, 7, 8, 9, 10, 11, 14, 15]),
-    ("judge_chain", &[3, 4, 5, 6, 7, 8, 9, 14, 15]),
-    ("write_chain", &[3, 4, 5, 6, 7, 8, 9, 12, 14, 15]),
+    ("plan", &[1, 2, 3, 4, 5, 6, 7, 8, 9, 12, 13, 15, 16]),
+    ("judge", &[1, 2, 3, 4, 5, 6, 7, 8, 9, 14, 15, 16]),
+    ("read_chain", &[1, 2, 3, 4, 5, 6, 7, 8, 9, 12, 14, 15, 16]),
+    ("run", &[1, 2, 3, 4, 5, 6, 7, 8, 9, 10, 11, 14, 15, 16]),
+    ("run_chain", &[3, 4, 5, 6, 7, 8, 9, 10, 11, 14, 15, 16]),
+    ("judge_chain", &[3, 4, 5, 6, 7, 8, 9, 14, 15, 16]),
+    ("write_chain", &[3, 4, 5, 6, 7, 8, 9, 12, 14, 15, 16]),
 ];
 const KERNELS: [&str; 4] = ["raw", "difference", "scaled", "blend"];
+const STALLED: u32 = 3;
 const OUTCOMES: [&str; 5] = ["Done", "Spent", "Starved", "Stalled", "Full"];
 
 impl Tally {
@@ -55,7 +58,8 @@ impl Tally {
         Tally {
             refusals: [[0; NUMBERS + 1]; FUNCTIONS.len()],
             outcomes: [0; 5],
-            firings: [[0; 4]; 4],
+            firings: [[0; 4]; 5],
+            stalled_late: 0,
             ordered: 0,
             boxed: 0,
             full_box: 0,
@@ -75,7 +79,10 @@ impl Tally {
     pub fn count_run(&mut self, chain: &Chain, report: &Report) {
         self.outcomes[report.outcome as usize] += 1;
         let (kernel, ..) = chain.kernel.bits();
-        self.firings[chain.grid.dims as usize - 1][kernel as usize] += report.firings as u64;
+        let skewed = matches!(chain.grid, Grid::Rows(_));
+        let ground = if skewed { 4 } else { chain.grid.dims() - 1 };
+        self.firings[ground][kernel as usize] += report.firings as u64;
+        self.stalled_late += (skewed && report.outcome == STALLED && report.firings > 0) as u64;
         let n = chain.window.count as usize;
         if kernel != 0 && (0..n).any(|t| chain.term(t) != t) {
             self.ordered += report.firings as u64;
@@ -124,9 +131,10 @@ impl Tally {
             "",
             KERNELS.map(|name| format!("{name:>12}")).concat()
         );
-        for (firings, dims) in self.firings.iter().zip(1..) {
+        let grounds = ["1 dim.", "2 dim.", "3 dim.", "4 dim.", "rows"];
+        for (firings, ground) in self.firings.iter().zip(grounds) {
             println!(
-                "{dims} dim.      {}",
+                "{ground:11} {}",
                 firings.map(|count| format!("{count:>12}")).concat()
             );
         }
@@ -138,6 +146,7 @@ impl Tally {
             "{} of them in a smaller box, {} in a full one; {} calls Done in a smaller one",
             self.boxed, self.full_box, self.boxed_done
         );
+        println!("{} calls on rows fired and stalled", self.stalled_late);
         println!(
             "steps of {} requests in {} iterations: {} planned, refused by 15 {}, 7 {}, 8 {}, 9 {}; {} sums above the limit",
             self.steps.iter().sum::<u64>(),
@@ -156,7 +165,7 @@ impl Tally {
         let mut missing = Vec::new();
         for ((name, numbers), counts) in FUNCTIONS.iter().zip(&self.refusals) {
             for (number, count) in counts.iter().enumerate() {
-                let due = number == 0 || numbers.contains(&number);
+                let due = number == 0 || numbers.contains(&number) && (ROWS || number != 16);
                 if due && *count == 0 {
                     missing.push(format!("{name} never answered {number}"));
                 }
@@ -167,8 +176,12 @@ impl Tally {
                 missing.push(format!("no call ended {name}"));
             }
         }
-        if self.firings.iter().flatten().any(|&count| count == 0) {
+        let grounds = if ROWS { 5 } else { 4 };
+        if self.firings[..grounds].as_flattened().contains(&0) {
             missing.push("a kernel never fired".to_string());
+        }
+        if ROWS && self.stalled_late == 0 {
+            missing.push("no call on rows fired and stalled".to_string());
         }
         if self.ordered == 0 {
             missing.push("no kernel added in an order other than the chain's".to_string());

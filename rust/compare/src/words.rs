@@ -1,14 +1,28 @@
 //! Chains, states and answers of `straight` as words, in the layout of c/zohmirka.h.
-use crate::native::Report;
-use straight::{Answer, Chain, Factors, Kernel, State};
+use crate::native::{Report, ROWS};
+use straight::grid::MOST_ROWS;
+use straight::{Answer, Chain, Factors, Grid, Kernel, Rectangle, Row, Rows, State};
 
-pub const CHAIN_WORDS: usize = 210;
+pub const CHAIN_WORDS: usize = if ROWS { 212 } else { 210 };
 pub const STATE_WORDS: usize = 33;
+/// 0 a rectangle, else rows.
+pub const GRID_KIND: usize = 210;
+pub const ROW_COUNT: usize = 211;
+/// No grid has more words of rows.
+pub const ROW_WORDS: usize = 2 * MOST_ROWS;
 
+/// The words of a chain without its rows.
 pub fn chain_words(chain: &Chain) -> [u32; CHAIN_WORDS] {
     let mut words = [0; CHAIN_WORDS];
-    words[0] = chain.grid.dims as u32;
-    words[1..5].copy_from_slice(&chain.grid.sizes);
+    words[0] = chain.grid.dims() as u32;
+    match &chain.grid {
+        Grid::Rectangle(rectangle) => words[1..5].copy_from_slice(&rectangle.sizes),
+        Grid::Rows(rows) if ROWS => {
+            words[GRID_KIND] = 1;
+            words[ROW_COUNT] = rows.count as u32;
+        }
+        Grid::Rows(_) => {}
+    }
     words[5] = chain.window.count as u32;
     for (word, &entry) in words[6..134].iter_mut().zip(&chain.window.offsets) {
         *word = entry as u16 as u32;
@@ -28,13 +42,49 @@ pub fn chain_words(chain: &Chain) -> [u32; CHAIN_WORDS] {
     words
 }
 
-pub fn chain_of(words: &[u32]) -> Chain {
+/// The rows that are lent beside the words of a chain: the start of row i at 2 * i, its length behind it. A rectangle has none.
+pub fn row_words(chain: &Chain) -> Vec<u32> {
+    match &chain.grid {
+        Grid::Rectangle(_) => Vec::new(),
+        Grid::Rows(rows) => {
+            let both = |row: &Row| [row.start as u32, row.length as u32];
+            rows.given().iter().flat_map(both).collect()
+        }
+    }
+}
+
+fn grid_of(words: &[u32], rows: &[u32]) -> Grid {
+    if ROWS && words[GRID_KIND] != 0 {
+        return Grid::Rows(rows_of(words[ROW_COUNT], rows));
+    }
+    let mut rectangle = Rectangle {
+        dims: words[0].min(255) as u8,
+        sizes: [0; 4],
+    };
+    rectangle.sizes.copy_from_slice(&words[1..5]);
+    Grid::Rectangle(rectangle)
+}
+
+/// Rows that are not lent have length 0.
+fn rows_of(count: u32, words: &[u32]) -> Rows {
+    let narrow = |word: u32| word.min(u16::MAX as u32) as u16;
+    let mut rows = Rows {
+        count: narrow(count),
+        rows: [Row::default(); MOST_ROWS],
+    };
+    for (row, both) in rows.rows.iter_mut().zip(words.chunks_exact(2)) {
+        row.start = narrow(both[0]);
+        row.length = narrow(both[1]);
+    }
+    rows
+}
+
+pub fn chain_of(words: &[u32], rows: &[u32]) -> Chain {
     let mut chain = Chain::blank();
     if words.len() < CHAIN_WORDS {
         return chain;
     }
-    chain.grid.dims = words[0].min(255) as u8;
-    chain.grid.sizes.copy_from_slice(&words[1..5]);
+    chain.grid = grid_of(words, rows);
     chain.window.count = words[5].min(255) as u8;
     for (entry, &word) in chain.window.offsets.iter_mut().zip(&words[6..134]) {
         *entry = word as u16 as i16;

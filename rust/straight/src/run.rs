@@ -33,19 +33,21 @@ fn bad_state(chain: &Chain, shape: &Shape, state: &State) -> bool {
     if fired > shape.iterations {
         return true;
     }
+    let next = (fired < shape.iterations).then(|| shape.reads(fired));
+    let last = (fired > 0).then(|| shape.reads(fired - 1));
     for k in 0..n {
-        let passed = state.passed[k] as i64;
-        if fired < shape.iterations && passed > shape.position(k, fired) {
+        let passed = state.passed[k];
+        if next.is_some_and(|reads| passed > reads[k]) {
             return true;
         }
-        if fired > 0 && passed <= shape.position(k, fired - 1) {
+        if last.is_some_and(|reads| passed <= reads[k]) {
             return true;
         }
-        if passed > shape.cells {
+        if passed as i64 > shape.cells {
             return true;
         }
         if k + 1 < n {
-            let held = passed - state.passed[k + 1] as i64;
+            let held = passed as i64 - state.passed[k + 1] as i64;
             if held < 0 || held > chain.capacities[k] as i64 {
                 return true;
             }
@@ -75,9 +77,7 @@ fn go(
     let passed = &mut state.passed;
     let mut counts = Counts::default();
     let mut written = 0;
-    let mut wanted = [0u32; 32];
     let mut walk = Walk::at(shape, state.fired as i64);
-    want(shape, &walk, &mut wanted);
 
     loop {
         if state.fired as i64 == shape.iterations {
@@ -90,6 +90,7 @@ fn go(
             return Outcome::Starved(counts);
         }
         let next = cells[counts.cells as usize];
+        let wanted = &walk.reads;
         let fires = (0..n).all(|k| (k == 0 || passed[k - 1] > passed[k]) && passed[k] == wanted[k]);
         if fires {
             if out.len() - written < size {
@@ -112,7 +113,6 @@ fn go(
             counts.firings += 1;
             state.fired += 1;
             walk.step(shape);
-            want(shape, &walk, &mut wanted);
         } else {
             let mut moved = false;
             for k in (0..n).rev() {
@@ -139,12 +139,5 @@ fn go(
             }
         }
         counts.clocks += 1;
-    }
-}
-
-/// The cell each filter wants for the iteration.
-fn want(shape: &Shape, walk: &Walk, wanted: &mut [u32; 32]) {
-    for k in 0..shape.count {
-        wanted[k] = (walk.place + shape.shift[k]) as u32;
     }
 }

@@ -2,10 +2,10 @@
 use crate::types::{Refusal, Window};
 
 /// The window of a name, on a grid of so many dimensions: points of the cube with entries 1, 0 and -1, falling.
-pub fn named(name: u8, dims: u8) -> Result<Window, Refusal> {
+pub fn named(name: u8, dims: usize) -> Result<Window, Refusal> {
     /// By how many of a point's entries are not 0.
     type Rule = fn(usize) -> bool;
-    let (due, has): (u8, Rule) = match name {
+    let (due, has): (usize, Rule) = match name {
         1 => (2, |steps| steps < 2),
         2 => (2, |steps| steps == 1),
         3 => (2, |_| true),

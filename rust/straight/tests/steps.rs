@@ -172,7 +172,10 @@ fn refused_before_the_steps() {
 fn entries_past_the_counts() {
     let mut request = Request::new(&[2, 5], &[&[0, 3], &[1, -1]], Kernel::Raw);
     let mut other = request;
-    other.grid.sizes[2..].fill(9);
+    other.grid = Grid::Rectangle(Rectangle {
+        dims: 2,
+        sizes: [2, 5, 9, 9],
+    });
     other.window.offsets[2] = 1;
     other.window.offsets[8..].fill(2);
     (other.bounds.lowest, other.bounds.highest) = ([7; 4], [-7; 4]);

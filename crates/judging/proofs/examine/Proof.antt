@@ -1,7 +1,7 @@
 use mathlib.Core.Path.{sym, _∙_, ap}
 use Rattle.model.specs.Values.{capacitiesOf}
 use Rattle.shape.specs.declared.Survey.{Survey}
-use Rattle.judging.proofs.JudgeLaws.{survey-count, examined-behind}
+use Rattle.judging.proofs.JudgeLaws.{survey-count, examined}
 use borrow.Author.Needs.{needs}
 use Rattle.judging.proofs.examine.Statement.{statement}
 use Rattle.judging.proofs.examine.Tie as tie
@@ -20,7 +20,7 @@ unfolding capacitiesOf
 returns c =
     let s = c .before .before .before .before in
     let a = s .before .before .before .before .before .before .args in
-    examined-behind (a .c) (s .survey-of .result) (s .survey-of .ensures) _ (c .judge-behind .ensures)
+    examined (a .c) (s .survey-of .result) (s .survey-of .ensures) _ (c .judge-behind .ensures)
 
 pub examine-spec : {M : Type 1} → statement M
 examine-spec = tie.close (tie.spec survey-of-requires judge-behind-requires returns)

@@ -1,60 +1,22 @@
-use mathlib.Core.Path.{_≡_, sym, _∙_, ap}
+use mathlib.Core.Path.{_∙_, sym}
 use borrow.Author.Needs.{needs}
-use Rattle.model.specs.Judging.{judgeWindow}
-use Rattle.model.specs.declared.Bounds.{Bounds}
-use Rattle.model.specs.declared.Grid.{Grid}
-use Rattle.model.specs.declared.Verdict.{Verdict}
-use Rattle.model.specs.declared.Window.{Window}
-use Rattle.shape.specs.Shapes.{surveyOf}
-use Rattle.shape.specs.declared.Survey.{Survey}
-use Rattle.shape.proofs.Answers.{survey-verdict}
-use Rattle.model.proofs.StepLaws.{steps-refused}
-use Rattle.plan_steps.proofs.StepLaws.{first-positions}
+use Rattle.model.proofs.StepLaws.{steps-flat}
 use Rattle.plan_steps.proofs.steps.Statement.{statement}
 use Rattle.plan_steps.proofs.steps.Tie as tie
 
--- What the survey found is the first of 3 to 6 and 15.
-found : (g : Grid) (w : Window) (x : Bounds) (s : Survey) → s ≡ surveyOf g w x → (v : Verdict) → s .verdict ≡ v → judgeWindow g w x ≡ v
-found g w x s d v e = sym (survey-verdict g w x) ∙ ap (λ (t : Survey). t .verdict) (sym d) ∙ e
+on-rows-requires : tie.Need-on-rows-requires
+on-rows-requires c κs = search needs
 
-survey-of-requires : tie.Need-survey-of-requires
-survey-of-requires c κs = search needs
-
-enum-known-verdict : tie.Need-enum-known-verdict
-enum-known-verdict c = search needs
-
-refused-requires : tie.Need-refused-requires
-refused-requires c κs = search needs
-
-enum-told : tie.Need-enum-told
-enum-told c = search needs
-
-taken-requires : tie.Need-taken-requires
-taken-requires c κs =
-    let v = c .before .before .before in
-    let s = v .before .before in
-    let a = s .before .args in
-    let e = found (a .grid) (a .window) (a .bounds) (s .survey-of .result) (s .survey-of .ensures) _ (v .enum-told .given .1) in
-    (e, first-positions (a .grid) (a .window) (a .bounds) e (s .survey-of .result) (s .survey-of .ensures))
+on-rectangle-requires : tie.Need-on-rectangle-requires
+on-rectangle-requires c κs = search needs
 
 returns : tie.Need-returns
-returns c =
-    let v = c .before .before in
-    let s = v .before .before in
-    let a = s .before .args in
-    c .refused .ensures ∙ sym (steps-refused (a .grid) (a .window) (a .bounds) _ (found (a .grid) (a .window) (a .bounds) (s .survey-of .result) (s .survey-of .ensures) _ (v .verdict .given .1)))
+returns c = search needs
 
 returns-2 : tie.Need-returns-2
-returns-2 c = search needs
+returns-2 c =
+    let a = c .before .before .before .args in
+    c .on-rectangle .ensures ∙ sym (steps-flat (a .grid) (a .rows .now) (a .window) (a .bounds) (c .before .if1 .left))
 
 pub steps-spec : {M : Type 1} → statement M
-steps-spec =
-    tie.close
-    (tie.spec
-    survey-of-requires
-    enum-known-verdict
-    refused-requires
-    enum-told
-    taken-requires
-    returns
-    returns-2)
+steps-spec = tie.close (tie.spec on-rows-requires returns on-rectangle-requires returns-2)

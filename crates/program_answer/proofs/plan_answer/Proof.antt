@@ -40,6 +40,9 @@ returns c =
 request-of-requires : tie.Need-request-of-requires
 request-of-requires c κs = search needs
 
+slice-aggregate-plan : tie.Need-slice-aggregate-plan
+slice-aggregate-plan c = search needs
+
 plan-requires : tie.Need-plan-requires
 plan-requires c κs = search needs
 
@@ -75,10 +78,10 @@ returns-3 c =
     let p = c .before .before in
     let v = p .before .before .before in
     let q = v .before .before in
-    let k = q .before .before .before in
+    let k = q .before .before .before .before in
     let o = k .before in
     let e = o .before .before in
-    plan-refused _ _ _ _ _ (e .before .before .finish .ensures) (e .enum-told .given .1) (sym (o .is-complete .ensures) ∙ not-false _ (k .if1 .left)) _ (q .before .request-of .ensures) _ (q .plan .ensures) _ (v .judged .given .1)
+    plan-refused _ _ _ _ _ (e .before .before .finish .ensures) (e .enum-told .given .1) (sym (o .is-complete .ensures) ∙ not-false _ (k .if1 .left)) _ (q .before .before .request-of .ensures) _ (q .plan .ensures) _ (v .judged .given .1)
     (p .put-refusal3 .ensures)
     in (told, laid-within _ _ _ _ told)
 
@@ -91,10 +94,10 @@ returns-4 c =
     let w = c .before .before in
     let v = w .before .before .before in
     let q = v .before .before in
-    let k = q .before .before .before in
+    let k = q .before .before .before .before in
     let o = k .before in
     let e = o .before .before in
-    plan-written _ _ _ 0 _ (e .before .before .finish .ensures) (e .enum-told .given .1) (sym (o .is-complete .ensures) ∙ not-false _ (k .if1 .left)) _ (q .before .request-of .ensures) _ (q .plan .ensures) _
+    plan-written _ _ _ 0 _ (e .before .before .finish .ensures) (e .enum-told .given .1) (sym (o .is-complete .ensures) ∙ not-false _ (k .if1 .left)) _ (q .before .before .request-of .ensures) _ (q .plan .ensures) _
     (v .enum-told2 .given .1) (w .write-chain .ensures)
     in (told, laid-within _ _ _ _ told)
 
@@ -111,6 +114,7 @@ plan-answer-spec =
     same-length
     returns
     request-of-requires
+    slice-aggregate-plan
     plan-requires
     enum-known-judged
     put-refusal-requires-3

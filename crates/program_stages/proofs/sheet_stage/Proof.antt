@@ -19,6 +19,9 @@ is-complete-requires c κs = search needs
 returns : tie.Need-returns
 returns c = let o = c .before in sheet-open _ (o .before .before .enum-told .given .1) (sym (o .is-complete .ensures) ∙ not-true _ (c .if1 .taken))
 
+slice-aggregate-judge-chain : tie.Need-slice-aggregate-judge-chain
+slice-aggregate-judge-chain c = search needs
+
 judge-chain-requires : tie.Need-judge-chain-requires
 judge-chain-requires c κs = search needs
 
@@ -32,10 +35,10 @@ returns-2 : tie.Need-returns-2
 returns-2 c = sheet-refused _ _ (c .before .v .given .1)
 
 returns-3 : tie.Need-returns-3
-returns-3 c = let j = c .before .before .before in let e = j .before .before in let o = e .before in chain-refused _ _ (o .before .before .enum-told .given .1) (sym (o .is-complete .ensures) ∙ not-false _ (e .if1 .left)) (sym (j .judge-chain .ensures) ∙ c .before .judged .given .1)
+returns-3 c = let j = c .before .before .before in let e = j .before .before .before in let o = e .before in chain-refused _ _ (o .before .before .enum-told .given .1) (sym (o .is-complete .ensures) ∙ not-false _ (e .if1 .left)) (sym (j .judge-chain .ensures) ∙ c .before .judged .given .1)
 
 returns-4 : tie.Need-returns-4
-returns-4 c = let j = c .before .before in let e = j .before .before in let o = e .before in chain-accepted _ (o .before .before .enum-told .given .1) (sym (o .is-complete .ensures) ∙ not-false _ (e .if1 .left)) (sym (j .judge-chain .ensures) ∙ c .enum-told2 .given .1)
+returns-4 c = let j = c .before .before in let e = j .before .before .before in let o = e .before in chain-accepted _ (o .before .before .enum-told .given .1) (sym (o .is-complete .ensures) ∙ not-false _ (e .if1 .left)) (sym (j .judge-chain .ensures) ∙ c .enum-told2 .given .1)
 
 pub sheet-stage-spec : {M : Type 1} → statement M
 sheet-stage-spec =
@@ -45,6 +48,7 @@ sheet-stage-spec =
     enum-told
     is-complete-requires
     returns
+    slice-aggregate-judge-chain
     judge-chain-requires
     enum-known-judged
     enum-told-2

@@ -1,5 +1,5 @@
 -- The places of the FIFOs, ring by ring. Assumes nothing.
-use Prim.Native.Nat.{ℕ, _+_, _-_, _≤_, _<_}
+use Prim.Native.Nat.{ℕ, _-_, _≤_, _<_}
 use native.Mathlib.Omega.{arith}
 use lib.ListN.{getD}
 use Rattle.loop_laws.proofs.FillLaws.{not-true, not-false}

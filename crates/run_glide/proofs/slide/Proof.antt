@@ -1,7 +1,7 @@
 -- `slide` makes the clocks of the call's definition, and is safe on any sound tables. Assumes nothing.
 use Prim.Native.Nat.{ℕ, _+_, _-_, _≤_, _<_}
 use mathlib.Core.List.{List}
-use mathlib.Core.Path.{_≡_, refl, sym, _∙_}
+use mathlib.Core.Path.{refl, sym}
 use lib.ListN.{length}
 use native.Mathlib.Omega.{arith}
 use borrow.Author.Needs.{needs}
@@ -9,7 +9,7 @@ use Rattle.model.specs.Clock.{Layout}
 use Rattle.loop_laws.specs.Passes.{heads}
 use Rattle.run_glide.specs.Glides.{Blank, Starts, Glides}
 use Rattle.run_glide.proofs.FitLaws.{up-to-fits}
-use Rattle.run_glide.proofs.ManyLaws.{width-some}
+use Rattle.run_glide.proofs.ManyLaws.{blank-after, width-some}
 use Rattle.run_glide.proofs.SlideLaws.{Slides, blank-start, slides-start, rung-now, slides-waits, slides-fires, position-fits}
 use Rattle.run_glide.proofs.GlidingLaws.{
   Glide,
@@ -124,31 +124,35 @@ waits-some k =
     let a = waits-at k in
     omega (arith, k .lesser2 .ensures, l .lesser .ensures, th .if3 .taken, a .loop .inv .0 .allowed, e2 .before .if1 .left, e2 .if2 .left)
 
+slice-aggregate-pass-all : tie.Need-slice-aggregate-pass-all Inv-loop μ-loop
+slice-aggregate-pass-all c = sym (waits-at (c .before .before .before .before) .loop .inv .1 .there)
+
 pass-all-requires : tie.Need-pass-all-requires Inv-loop μ-loop
 pass-all-requires c κs =
     let k = c .before .before .before .before in
     let a = waits-at k in
-    (rung-now _ _ _ _ _ _ _ _ _ _ _ _ _ _ _ (a .loop .inv .0), a .loop .inv .1, waits-lent k .1)
+    let s = a .loop .inv in
+    ((rung-now _ _ _ _ _ _ _ _ _ _ _ _ _ _ _ (s .0), waits-lent k .1), (omega arith, omega (arith, s .0 .rung .rings .few, s .1 .there)))
 
 sub-wait : tie.Need-sub-wait Inv-loop μ-loop
-sub-wait c = let k = waiting (c .before .before) in omega (arith, k .lesser2 .ensures)
+sub-wait c = let k = waiting (c .before .before .before) in omega (arith, k .lesser2 .ensures)
 
 add-taken : tie.Need-add-taken Inv-loop μ-loop
 add-taken c =
-    let k = waiting (c .before .before) in
+    let k = waiting (c .before .before .before) in
     let a = waits-at k in
     up-to-fits _ _ (waits-lent k .1) (start (a .before) .good .1 .1 .1 .1 .1 .1 .1 .1 .1 .1 .1 .1 .1 .1 .1 .1 .1 .1 .1 .0 .0)
 
 loop-less : tie.Need-loop-less Inv-loop μ-loop
-loop-less c = let k = waiting (c .before .before) in omega (arith, waits-lent k .0, waits-some k)
+loop-less c = let k = waiting (c .before .before .before) in omega (arith, waits-lent k .0, waits-some k)
 
 loop-again : tie.Need-loop-again Inv-loop μ-loop
 loop-again c =
-    let p = c .before .before in
+    let p = c .before .before .before in
     let k = waiting p in
     let a = waits-at k in (
       slides-waits _ _ _ _ _ _ _ _ _ _ _ _ _ _ _ (a .loop .inv .0) _ _ _ _ (p .pass-all .ensures .1) (waits-lent k .0),
-      p .pass-all .ensures .2,
+      blank-after _ _ _ _ _ _ _ _ (a .loop .inv .0 .rung .rings .few) (a .loop .inv .1) (p .pass-all .ensures .0),
       λ L write size at wants caps passed S G.
           glide-waited _ _ _ _ _ _ _ _ _ _ _ _ _ _ _ _ _ _ _ _ _ _ _ _ _ _ G _ _ _ _ _ _ _ _ _ (a .loop .inv .2 L write size at wants caps passed S G) _ _ _ _ _ _ (p .pass-all .ensures .0)
           (k .before .before .before .before .before .loop-test .taken) (omega (arith, k .lesser2 .ensures)) (waits-lent k .0) (waits-lent k .1),
@@ -159,8 +163,8 @@ loop-again c =
 sub-room : tie.Need-sub-room Inv-loop μ-loop
 sub-room c = c .before .before .before .before .before .loop .inv .0 .room
 
-sub-t49 : tie.Need-sub-t49 Inv-loop μ-loop
-sub-t49 c = c .before .before .before .before .before .before .loop .inv .0 .begun
+sub-t50 : tie.Need-sub-t50 Inv-loop μ-loop
+sub-t50 c = c .before .before .before .before .before .before .loop .inv .0 .begun
 
 same-length-5 : tie.Need-same-length-5 Inv-loop μ-loop
 same-length-5 c = c .before .before .before .before .before .before .loop .inv .0 .rung .room-is
@@ -294,8 +298,8 @@ loop-again-3 c =
           _ _ _ _ _ S (fires-some g) (g .firings-in .ensures .0) (c .before .if5 .left) _ (c .wait-for .ensures),
     )
 
-sub-t59 : tie.Need-sub-t59 Inv-loop μ-loop
-sub-t59 c = c .before .loop .inv .0 .begun
+sub-t60 : tie.Need-sub-t60 Inv-loop μ-loop
+sub-t60 c = c .before .loop .inv .0 .begun
 
 same-length-7 : tie.Need-same-length-7 Inv-loop μ-loop
 same-length-7 c = c .before .loop .inv .0 .rung .room-is
@@ -328,13 +332,14 @@ slide-spec =
     lesser-requires
     sub-lent
     lesser-requires-2
+    slice-aggregate-pass-all
     pass-all-requires
     sub-wait
     add-taken
     loop-less
     loop-again
     sub-room
-    sub-t49
+    sub-t50
     same-length-5
     same-length-6
     returns-3
@@ -352,7 +357,7 @@ slide-spec =
     wait-for-requires
     loop-less-3
     loop-again-3
-    sub-t59
+    sub-t60
     same-length-7
     same-length-8
     returns-4)

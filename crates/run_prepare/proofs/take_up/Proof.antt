@@ -9,7 +9,7 @@ wide-requires : tie.Need-wide-requires
 wide-requires c κs = omega arith
 
 passed-of-requires : tie.Need-passed-of-requires
-passed-of-requires c κs = (omega (arith, few-filters (c .before .before .before .before .before .pre .1 .1)), refl)
+passed-of-requires c κs = (omega (arith, few-filters (c .before .before .before .before .before .pre .1 .1 .counted)), refl)
 
 wants-of-requires : tie.Need-wants-of-requires
 wants-of-requires c κs = let s = c .before .before .before .before .before .before .before in (refl, s .pre .1)
@@ -24,7 +24,7 @@ bad-state-requires : tie.Need-bad-state-requires
 bad-state-requires c κs =
     let p = c .before .before .before .before .before .before .before .before in
     let s = p .before .before .before .before .before .before in
-    let few = few-filters (s .pre .1 .1) in
+    let few = few-filters (s .pre .1 .1 .counted) in
     (few, omega (arith, p .passed-of .ensures .0 .long), s .pre .0, p .passed-of .ensures .1)
 
 returns : tie.Need-returns
@@ -35,7 +35,7 @@ returns c = λ t shaped capped.
     let p = w .before .before in
     let v = p .before .before in
     let s = v .before .before .before .before in
-    taken-up shaped capped (s .args .state) (v .wide .result) (o .one-less .result) (c .bad-state .result) _ _ _ _ (v .wide .ensures .0) (o .one-less .ensures)
+    taken-up (shaped .counted) capped (s .args .state) (v .wide .result) (o .one-less .result) (c .bad-state .result) _ _ _ _ (v .wide .ensures .0) (o .one-less .ensures)
     (p .passed-of .ensures .0) (w .wants-of .ensures t shaped) (w2 .wants-of2 .ensures t shaped) (c .bad-state .ensures)
 
 pub take-up-spec : {M : Type 1} → statement M

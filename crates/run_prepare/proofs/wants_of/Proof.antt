@@ -12,10 +12,10 @@ add-to-each-requires c κs =
     let w = c .before in
     let s = w .before .before in
     let shaped = s .pre .1 .1 in
-    (few-filters shaped, s .pre .0, wants-near shaped (s .args .j) (w .walk .result) (w .walk .ensures) (w .before .if1 .taken))
+    (few-filters (shaped .counted), s .pre .0, wants-near shaped (s .args .j) (w .walk .result) (w .walk .ensures) (w .before .if1 .taken))
 
 set-each-requires : tie.Need-set-each-requires
-set-each-requires c κs = let s = c .before .before in (few-filters (s .pre .1 .1), s .pre .0)
+set-each-requires c κs = let s = c .before .before in (few-filters (s .pre .1 .1 .counted), s .pre .0)
 
 returns : tie.Need-returns
 returns c = λ t shaped.
@@ -25,7 +25,7 @@ returns c = λ t shaped.
 returns-2 : tie.Need-returns-2
 returns-2 c = λ t shaped.
     let e = c .before .before in
-    filled-as refl (λ k h. wants-past shaped (e .before .args .j) k (e .if1 .left)) (c .set-each .ensures)
+    filled-as refl (λ k h. wants-past (shaped .counted) (e .before .args .j) k (e .if1 .left)) (c .set-each .ensures)
 
 pub wants-of-spec : {M : Type 1} → statement M
 wants-of-spec =

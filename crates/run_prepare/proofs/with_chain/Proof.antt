@@ -1,8 +1,10 @@
 -- 10 turns the store back, or the call is looked at further. Assumes nothing.
-use mathlib.Core.Path.{_≡_, refl, sym, _∙_}
+use mathlib.Core.List.{[]}
+use mathlib.Core.Path.{_≡_, sym, _∙_}
 use Rattle.model.specs.Values.{trimmed}
 use Rattle.model.specs.Running.{shortStore}
 use Rattle.run_laws.proofs.Accepts.{accepted-chain, trimmed-proper}
+use Rattle.run_prepare.specs.Ready.{flattened}
 use Rattle.run_prepare.proofs.PrepareGuards.{short-is}
 use Rattle.run_prepare.proofs.PrepareChains.{chain-capped}
 use Rattle.run_prepare.proofs.ReadyLaws.{judged-short, stored, readied-refused}
@@ -29,7 +31,7 @@ unfolding trimmed
 bases-of-requires c κs =
     let w = c .before .before .before in
     let s = start w in
-    (accepted-chain (s .args .chain) (s .pre .0) .few, w .widen31 .ensures .small)
+    (accepted-chain (flattened (s .args .chain)) [] (s .pre .0) .few, w .widen31 .ensures .small)
 
 short-requires : tie.Need-short-requires
 short-requires c κs = search needs
@@ -38,35 +40,35 @@ refused-requires : tie.Need-refused-requires
 refused-requires c κs = search needs
 
 -- 10 is looked at.
-is-short : (c : tie.After-short) → let a = start (widened c) .args in c .short .result ≡ shortStore (trimmed (a .chain)) (a .store .now)
+is-short : (c : tie.After-short) → let a = start (widened c) .args in c .short .result ≡ shortStore (trimmed (flattened (a .chain)) []) (a .store .now)
 is-short c =
     let w = widened c in
     let s = start w in
-    let ok = accepted-chain (s .args .chain) (s .pre .0) in
-    c .short .ensures ∙ short-is (chain-capped (s .args .chain) ok _ (w .widen31 .ensures)) (trimmed-proper (s .args .chain)) ok (s .args .store .now) _ (c .before .bases-of .ensures .0)
+    let ok = accepted-chain (flattened (s .args .chain)) [] (s .pre .0) in
+    c .short .ensures ∙ short-is (chain-capped (flattened (s .args .chain)) [] ok _ (w .widen31 .ensures)) (trimmed-proper (flattened (s .args .chain)) []) ok (s .args .store .now) _ (c .before .bases-of .ensures .0)
 
 returns : tie.Need-returns
 returns c =
     let t = c .before in
     let s = start (widened (t .before)) in
-    readied-refused _ _ _ _ _ _ _ _ _ _ _ _ _ (c .refused .ensures) (judged-short _ _ _ (accepted-chain (s .args .chain) (s .pre .0)) (sym (is-short (t .before)) ∙ t .if1 .taken))
+    readied-refused (flattened (s .args .chain)) [] _ _ _ _ _ _ _ _ _ _ _ _ (c .refused .ensures) (judged-short (flattened (s .args .chain)) [] _ _ (accepted-chain (flattened (s .args .chain)) [] (s .pre .0)) (sym (is-short (t .before)) ∙ t .if1 .taken))
 
 with-store-requires : tie.Need-with-store-requires
 with-store-requires c κs =
     let w = widened (c .before .before .before .before .before .before .before) in
     let s = start w in
-    let ok = accepted-chain (s .args .chain) (s .pre .0) in
-    (s .pre .1, record { accepted = ok; capped = chain-capped (s .args .chain) ok _ (w .widen31 .ensures); small = w .widen31 .ensures .small })
+    let ok = accepted-chain (flattened (s .args .chain)) [] (s .pre .0) in
+    (s .pre .1, record { accepted = ok; capped = chain-capped (flattened (s .args .chain)) [] ok _ (w .widen31 .ensures); small = w .widen31 .ensures .small })
 
 returns-2 : tie.Need-returns-2
 returns-2 c =
     let e = c .before .before .before .before .before .before .before in
     let w = widened (e .before) in
     let s = start w in
-    let ok = accepted-chain (s .args .chain) (s .pre .0) in
+    let ok = accepted-chain (flattened (s .args .chain)) [] (s .pre .0) in
     let b = e .before .before in
     c .with-store .ensures _ _ _
-    (stored (s .args .chain) _ _ _ _ ok (chain-capped (s .args .chain) ok _ (w .widen31 .ensures)) (w .widen31 .ensures .small) (b .bases-of .ensures .1) (b .bases-of .ensures .2)
+    (stored (flattened (s .args .chain)) [] _ _ _ _ ok (chain-capped (flattened (s .args .chain)) [] ok _ (w .widen31 .ensures)) (w .widen31 .ensures .small) (b .bases-of .ensures .1) (b .bases-of .ensures .2)
     (sym (is-short (e .before)) ∙ e .if1 .left))
 
 pub with-chain-spec : {M : Type 1} → statement M

@@ -1,8 +1,8 @@
 -- 11 turns the state back, or the tables are those of the call. Assumes nothing.
+use mathlib.Core.List.{[]}
 use mathlib.Core.Path.{refl, sym, _∙_}
 use native.Mathlib.Omega.{arith}
-use Rattle.model.specs.Values.{trimmed}
-use Rattle.run_prepare.proofs.GridLaws.{good-grid}
+use Rattle.run_prepare.specs.Ready.{flattened}
 use Rattle.run_prepare.proofs.PrepareChains.{chain-shaped}
 use Rattle.run_prepare.proofs.ReadyLaws.{some-dimensions, extents-small, judged-bad, taken, readied-refused, readied}
 use borrow.Author.Needs.{needs}
@@ -53,8 +53,8 @@ returns c =
     let w = widened u in
     let s = start w in
     λ bases tops store T.
-    readied-refused _ _ _ _ _ _ _ _ _ _ _ _ _ (c .refused .ensures)
-    (judged-bad _ _ _ (T .capable .accepted) (T .long)
+    readied-refused (flattened (s .args .chain)) [] _ _ _ _ _ _ _ _ _ _ _ _ (c .refused .ensures)
+    (judged-bad (flattened (s .args .chain)) [] _ _ (T .capable .accepted) (T .long)
     (sym (u .take-up .ensures _ (chain-shaped (s .args .chain) (s .pre .1 .accepted) (s .args .shape) _ _ _ (s .pre .0 .0) (w .before .before .before .before .before .before .before .before .widen4 .ensures) (w .before .before .before .before .widen42 .ensures) (w .widen32 .ensures)) (T .capable .capped) .bad-is) ∙ c .before .if1 .taken))
 
 spans-of-requires : tie.Need-spans-of-requires
@@ -94,7 +94,7 @@ returns-2 c =
     let s = start w in
     let S = (chain-shaped (s .args .chain) (s .pre .1 .accepted) (s .args .shape) _ _ _ (s .pre .0 .0) (w .before .before .before .before .before .before .before .before .widen4 .ensures) (w .before .before .before .before .widen42 .ensures) (w .widen32 .ensures)) in
     λ bases tops store T.
-    readied (taken _ _ _ _ _ _ _ _ _ _ _ _ _ _ T S (w .widen32 .ensures .long) (u .take-up .ensures _ S (T .capable .capped)) (e .if1 .left)) _ _ _ _
+    readied (taken (s .args .chain) _ _ _ _ _ _ _ _ _ _ _ _ _ T S (w .widen32 .ensures .long) (u .take-up .ensures _ S (T .capable .capped)) (e .if1 .left)) _ _ _ _
     (b .spans-of .ensures) refl (s .pre .0 .1) refl
 
 pub with-store-spec : {M : Type 1} → statement M

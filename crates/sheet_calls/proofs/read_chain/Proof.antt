@@ -31,6 +31,9 @@ returns c =
     let l = k .before .before in
     c .refused-chain2 .ensures ∙ chain-read _ _ _ (l .read-lines .ensures) (end-missing _ _ (k .enum-told .given .1) (sym (o .is-complete .ensures) ∙ not-true _ (t .if1 .taken)))
 
+slice-aggregate-judge-chain : tie.Need-slice-aggregate-judge-chain
+slice-aggregate-judge-chain c = search needs
+
 judge-chain-requires : tie.Need-judge-chain-requires
 judge-chain-requires c κs = search needs
 
@@ -53,7 +56,7 @@ returns-3 : tie.Need-returns-3
 returns-3 c =
     let j = c .before .before in
     let a = j .before .before in
-    let e = a .before .before in
+    let e = a .before .before .before in
     let o = e .before in
     let k = o .before .before in
     let l = k .before .before in
@@ -63,7 +66,7 @@ returns-3 c =
 returns-4 : tie.Need-returns-4
 returns-4 c =
     let a = c .before .before in
-    let e = a .before .before in
+    let e = a .before .before .before in
     let o = e .before in
     let k = o .before .before in
     let l = k .before .before in
@@ -80,6 +83,7 @@ read-chain-spec =
     is-complete-requires
     refused-chain-requires-2
     returns
+    slice-aggregate-judge-chain
     judge-chain-requires
     enum-known-judged
     refused-chain-requires-3

@@ -1,6 +1,8 @@
+use mathlib.Core.List.{[]}
 use mathlib.Core.Path.{sym, ap, _∙_}
 use borrow.Author.Needs.{needs}
 use borrow.Author.Tests.{not-true, not-false}
+use Rattle.model.specs.declared.Request.{Request}
 use Rattle.model.specs.Planning.{judgeRequest}
 use Rattle.sheet_calls.proofs.ReaderLaws.{request-read, end-refused, end-missing, end-judged}
 use Rattle.sheet_calls.proofs.read_request.Statement.{statement}
@@ -35,6 +37,9 @@ returns c =
 request-of-requires : tie.Need-request-of-requires
 request-of-requires c κs = search needs
 
+slice-aggregate-judge-request : tie.Need-slice-aggregate-judge-request
+slice-aggregate-judge-request c = search needs
+
 judge-request-requires : tie.Need-judge-request-requires
 judge-request-requires c κs = search needs
 
@@ -57,26 +62,26 @@ returns-3 : tie.Need-returns-3
 returns-3 c =
     let j = c .before .before in
     let a = j .before .before in
-    let q = a .before in
+    let q = a .before .before in
     let e = q .before .before in
     let o = e .before in
     let k = o .before .before in
     let l = k .before .before in
     c .refused-request3 .ensures
     ∙ request-read _ _ _ (l .read-lines .ensures)
-    (end-judged _ _ (k .enum-told .given .1) (sym (o .is-complete .ensures) ∙ not-false _ (e .if1 .left)) _ (sym (j .judged .given .1) ∙ a .judge-request .ensures ∙ ap judgeRequest (q .request-of .ensures)))
+    (end-judged _ _ (k .enum-told .given .1) (sym (o .is-complete .ensures) ∙ not-false _ (e .if1 .left)) _ (sym (j .judged .given .1) ∙ a .judge-request .ensures ∙ ap (λ (r : Request). judgeRequest r []) (q .request-of .ensures)))
 
 returns-4 : tie.Need-returns-4
 returns-4 c =
     let a = c .before .before in
-    let q = a .before in
+    let q = a .before .before in
     let e = q .before .before in
     let o = e .before in
     let k = o .before .before in
     let l = k .before .before in
     rw (q .request-of .ensures)
     (request-read _ _ _ (l .read-lines .ensures)
-    (end-judged _ _ (k .enum-told .given .1) (sym (o .is-complete .ensures) ∙ not-false _ (e .if1 .left)) _ (sym (c .enum-told2 .given .1) ∙ a .judge-request .ensures ∙ ap judgeRequest (q .request-of .ensures))))
+    (end-judged _ _ (k .enum-told .given .1) (sym (o .is-complete .ensures) ∙ not-false _ (e .if1 .left)) _ (sym (c .enum-told2 .given .1) ∙ a .judge-request .ensures ∙ ap (λ (r : Request). judgeRequest r []) (q .request-of .ensures))))
 
 pub read-request-spec : {M : Type 1} → statement M
 read-request-spec =
@@ -90,6 +95,7 @@ read-request-spec =
     refused-request-requires-2
     returns
     request-of-requires
+    slice-aggregate-judge-request
     judge-request-requires
     enum-known-judged
     refused-request-requires-3

@@ -5,6 +5,9 @@ use Rattle.sheet_writer.proofs.Written.{laid-written}
 use Rattle.sheet_calls.proofs.write_chain.Statement.{statement}
 use Rattle.sheet_calls.proofs.write_chain.Tie as tie
 
+slice-aggregate-judge-chain : tie.Need-slice-aggregate-judge-chain
+slice-aggregate-judge-chain c = search needs
+
 judge-chain-requires : tie.Need-judge-chain-requires
 judge-chain-requires c κs = search needs
 
@@ -35,6 +38,7 @@ pub write-chain-spec : {M : Type 1} → statement M
 write-chain-spec =
     tie.close
     (tie.spec
+    slice-aggregate-judge-chain
     judge-chain-requires
     enum-known-judged
     enum-told

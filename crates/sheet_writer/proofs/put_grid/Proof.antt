@@ -29,7 +29,7 @@ returns c =
     let s = r .before .before in
     let e = f .put-frame .ensures in (
       omega (arith, e .0, n .grid-len .ensures),
-      rw (r .grid-row .ensures, n .grid-len .ensures) at (e .1) ∙ ap (sets (s .args .out .now) 0) (grid-laid (s .args .g) (s .pre .0)),
+      rw (r .grid-row .ensures, n .grid-len .ensures) at (e .1) ∙ ap (sets (s .args .out .now) 0) (grid-laid (s .args .g) (s .pre .2) (s .pre .0)),
     )
 
 pub put-grid-spec : {M : Type 1} → statement M

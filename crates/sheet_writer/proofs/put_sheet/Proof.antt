@@ -58,7 +58,7 @@ put-grid-requires : tie.Need-put-grid-requires Inv-loop μ-loop
 put-grid-requires c κs =
     let s = c .before .before .before .before .before .before .before .before in
     let told = c .before .lines-behind in
-    (s .pre .0 .dims, omega (arith, s .pre .1, all-length (s .args .c) (s .pre .0 .dims) (s .pre .0 .some) (s .pre .0 .most) (told .result) (told .ensures)))
+    (s .pre .0 .dims, omega (arith, s .pre .1, all-length (s .args .c) (s .pre .0 .flat) (s .pre .0 .dims) (s .pre .0 .some) (s .pre .0 .most) (told .result) (told .ensures)), s .pre .0 .flat)
 
 loop-holds : tie.Need-loop-holds Inv-loop μ-loop
 loop-holds c = (search needs, search needs, rw sub-zero, rw sub-zero)
@@ -94,7 +94,7 @@ put-frame-requires c κs =
         l .loop .inv .2,
         grid-put l .put-grid .ensures .0,
         s .pre .1,
-        all-length a (s .pre .0 .dims) (s .pre .0 .some) (s .pre .0 .most) (told .result) (told .ensures),
+        all-length a (s .pre .0 .flat) (s .pre .0 .dims) (s .pre .0 .some) (s .pre .0 .most) (told .result) (told .ensures),
         more-length a (l .loop .m) (told .result) (s .pre .0 .dims) (s .pre .0 .most) (t .loop-test .taken),
       ),
     )
@@ -134,10 +134,10 @@ returns c =
     let g = grid-put l .put-grid .ensures in
     let told = lines-told l .lines-behind in
     let none = no-more (s .args .c) (l .loop .m) (told .result) (c .loop-test .left) in (
-      omega (arith, l .loop .inv .2, ap length none, g .0, all-length (s .args .c) (s .pre .0 .dims) (s .pre .0 .some) (s .pre .0 .most) (told .result) (told .ensures)),
+      omega (arith, l .loop .inv .2, ap length none, g .0, all-length (s .args .c) (s .pre .0 .flat) (s .pre .0 .dims) (s .pre .0 .some) (s .pre .0 .most) (told .result) (told .ensures)),
       ap (λ t. sets (l .loop .out) (l .loop .at) t) (sym none)
           ∙ l .loop .inv .3
-          ∙ all-laid (s .args .c) (s .pre .0 .dims) (s .pre .0 .some) (s .pre .0 .most) (told .result) (told .ensures) _ _ _ (g .0) (g .1),
+          ∙ all-laid (s .args .c) (s .pre .0 .flat) (s .pre .0 .dims) (s .pre .0 .some) (s .pre .0 .most) (told .result) (told .ensures) _ _ _ (g .0) (g .1),
     )
 
 pub put-sheet-spec : {M : Type 1} → statement M

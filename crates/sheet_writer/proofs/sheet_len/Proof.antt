@@ -105,7 +105,7 @@ returns c =
     let s = start l in
     let told = lines-told l .lines-behind in
     let none = no-more (s .args .c) (l .loop .m) (told .result) (c .loop-test .left) in
-    let all = all-length (s .args .c) (s .pre .dims) (s .pre .some) (s .pre .most) (told .result) (told .ensures) in
+    let all = all-length (s .args .c) (s .pre .flat) (s .pre .dims) (s .pre .some) (s .pre .most) (told .result) (told .ensures) in
     omega (arith, l .loop .inv .2, l .before .grid-len .ensures, ap length none, all)
 
 pub sheet-len-spec : {M : Type 1} → statement M

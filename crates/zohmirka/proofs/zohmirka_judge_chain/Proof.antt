@@ -1,12 +1,17 @@
+use mathlib.Core.List.{[]}
 use mathlib.Core.Path.{_∙_, ap}
 use borrow.Author.Needs.{needs}
 use Rattle.model.specs.Answers.{verdictNumber}
 use Rattle.model.specs.Judging.{judgeChain}
+use Rattle.model.specs.declared.Chain.{Chain}
 use Rattle.zohmirka.proofs.zohmirka_judge_chain.Statement.{statement}
 use Rattle.zohmirka.proofs.zohmirka_judge_chain.Tie as tie
 
 chain-in-requires : tie.Need-chain-in-requires
 chain-in-requires c κs = search needs
+
+slice-aggregate-judge-chain : tie.Need-slice-aggregate-judge-chain
+slice-aggregate-judge-chain c = search needs
 
 judge-chain-requires : tie.Need-judge-chain-requires
 judge-chain-requires c κs = search needs
@@ -17,7 +22,7 @@ number-requires c κs = search needs
 returns : tie.Need-returns
 returns c =
     let j = c .before in
-    c .number .ensures ∙ ap verdictNumber (j .judge-chain .ensures ∙ ap judgeChain (j .before .chain-in .ensures))
+    c .number .ensures ∙ ap verdictNumber (j .judge-chain .ensures ∙ ap (λ (x : Chain). judgeChain x []) (j .before .before .chain-in .ensures))
 
 pub zohmirka-judge-chain-spec : {M : Type 1} → statement M
-zohmirka-judge-chain-spec = tie.close (tie.spec chain-in-requires judge-chain-requires number-requires returns)
+zohmirka-judge-chain-spec = tie.close (tie.spec chain-in-requires slice-aggregate-judge-chain judge-chain-requires number-requires returns)

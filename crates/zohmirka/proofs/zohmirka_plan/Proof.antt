@@ -15,6 +15,9 @@ number-requires c κs = search needs
 enum-told : tie.Need-enum-told
 enum-told c = search needs
 
+slice-aggregate-plan : tie.Need-slice-aggregate-plan
+slice-aggregate-plan c = search needs
+
 plan-requires : tie.Need-plan-requires
 plan-requires c κs = search needs
 
@@ -34,7 +37,7 @@ returns-2 : tie.Need-returns-2
 returns-2 c =
     let w = c .before .before in
     let p = w .before .before in
-    let t = p .before in
+    let t = p .before .before in
     let r = t .before .before in
     plan-written _ _ _ (r .read-request .ensures) _ _ (t .enum-told .given .1) (p .plan .ensures) (w .write .ensures)
 
@@ -46,6 +49,7 @@ zohmirka-plan-spec =
     enum-known-verdict
     number-requires
     enum-told
+    slice-aggregate-plan
     plan-requires
     write-requires
     returns

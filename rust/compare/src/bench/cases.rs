@@ -1,5 +1,6 @@
 //! The chains that are timed, by name. Terms go in chain order where the name says no other.
-use straight::{plan, Chain, Kernel, Request};
+use crate::dice::Dice;
+use straight::{plan, Chain, Grid, Kernel, Request};
 
 /// Offsets whose entries are -1, 0 and 1, falling.
 fn neighbours(dims: u32, keep: impl Fn(&[i16]) -> bool) -> Vec<Vec<i16>> {
@@ -78,6 +79,34 @@ pub fn planned_chains() -> Vec<(String, Chain)> {
         ),
     ];
     chains.extend(ordered.map(|(name, chain)| (name.to_string(), chain)));
+    chains
+}
+
+/// The five-point cross on rows: slanted, jagged, and equal ones.
+pub fn skewed_chains() -> Vec<(String, Chain)> {
+    let slanted: Vec<(u16, u16)> = (0..200).map(|row| (row, 100)).collect();
+    let mut dice = Dice::new(1);
+    let mut any = |low: i64, high: i64| dice.between(low, high) as u16;
+    let jagged: Vec<(u16, u16)> = (0..512).map(|_| (any(0, 200), any(200, 1024))).collect();
+    let equal = vec![(0, 100); 200];
+    let maps = [
+        ("200 rows of 100, a column further each", slanted),
+        ("512 rows of random starts and lengths", jagged),
+        ("200 rows of 100, equal", equal),
+    ];
+    let mut chains = Vec::new();
+    for (map, rows) in maps {
+        for (name, kernel) in KERNELS {
+            let (_, offsets) = window(1);
+            let offsets: Vec<&[i16]> = offsets.iter().map(|offset| &offset[..]).collect();
+            let request = Request {
+                grid: Grid::rows(&rows),
+                ..Request::new(&[], &offsets, kernel)
+            };
+            let chain = plan(&request).expect("the window is accepted");
+            chains.push((format!("{map}, {name}"), chain));
+        }
+    }
     chains
 }
 

@@ -1,5 +1,5 @@
 //! Run calls: the library beside the clock rule in plain Rust and beside a nested loop over the grid.
-use super::cases::{other_chains, planned_chains, row};
+use super::cases::{other_chains, planned_chains, row, skewed_chains};
 use super::table::{ratio, Table};
 use super::timing::least;
 use crate::words::chain_words;
@@ -29,9 +29,7 @@ struct Sums {
 
 impl Lent {
     fn new(chain: Chain) -> Lent {
-        let total = chain.grid.sizes[..chain.grid.dims as usize]
-            .iter()
-            .product::<u32>();
+        let total = chain.grid.cells() as u32;
         let width = words(&chain.kernel, chain.window.count as usize);
         Lent {
             words: zohmirka::Chain {
@@ -211,6 +209,54 @@ pub fn planned() {
         ]);
     }
     table.print("Run call on planned chains, ns per clock: all cells lent in one call, and 64 cells a call; beside (a) the clock rule and (b) a nested loop. Goals: (a) / whole at least 2, whole / (b) at most 5, 64 cells / whole at most 1.5.");
+}
+
+/// Planned chains on rows, by `straight` alone: the library's columns come with `native::ROWS`, and `check` in place of what is looked at here.
+pub fn skewed() {
+    let mut table = Table::new(&[
+        "map and kernel",
+        "n",
+        "places",
+        "cells",
+        "firings",
+        "clocks",
+        "(a) whole",
+        "(a) 64 cells",
+        "(b)",
+    ]);
+    for (name, chain) in skewed_chains() {
+        let mut lent = Lent::new(chain);
+        let all = lent.cells.len();
+        let sums = lent.straight(all);
+        let out = lent.out.clone();
+        assert!(sums.outcome == 0 && sums == lent.straight(64) && out == lent.out);
+        assert!(lent.nested() == sums.firings && out == lent.out);
+        let places = lent.store.len();
+        let lent = std::cell::RefCell::new(lent);
+        let [a, a_pieces, b] = least([
+            &mut || {
+                lent.borrow_mut().straight(all);
+            },
+            &mut || {
+                lent.borrow_mut().straight(64);
+            },
+            &mut || {
+                lent.borrow_mut().nested();
+            },
+        ]);
+        table.row(vec![
+            name,
+            lent.borrow().chain.window.count.to_string(),
+            places.to_string(),
+            all.to_string(),
+            sums.firings.to_string(),
+            sums.clocks.to_string(),
+            per(a, sums.clocks),
+            per(a_pieces, sums.clocks),
+            per(b, sums.clocks),
+        ]);
+    }
+    table.print("Run call on rows, the five-point cross, ns per clock: (a) the clock rule, all cells lent in one call, and 64 cells a call; (b) a nested loop.");
 }
 
 /// Accepted chains that were not planned so.

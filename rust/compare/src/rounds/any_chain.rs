@@ -1,20 +1,23 @@
 use super::call::{call, Given, Lengths, Lent, BEHIND};
 use crate::dice::Dice;
 use crate::draft::Draft;
-use crate::native;
+use crate::native::{self, ROWS};
 use crate::round::{Differs, Round};
 use crate::tally::Function;
-use crate::words::{chain_of, chain_words, CHAIN_WORDS, STATE_WORDS};
+use crate::words::{
+    chain_of, chain_words, row_words, CHAIN_WORDS, GRID_KIND, ROW_COUNT, STATE_WORDS,
+};
 use straight::{judge_chain, Chain};
 use zohmirka::SHEET_BYTES;
 
 const FILL: u8 = 0xA5;
 
 pub fn calls(round: &mut Round) -> Result<(), Differs> {
-    let words = any_words(&mut round.dice);
-    let value = chain_of(&words);
+    let (words, rows) = any_words(&mut round.dice);
+    let value = chain_of(&words, &rows);
     let chain = judge_chain(&value).map(|_| value);
     round.note_words("chain words", &words);
+    round.note_words("rows", &rows);
 
     let dice = &mut round.dice;
     let places = match &chain {
@@ -49,7 +52,7 @@ pub fn calls(round: &mut Round) -> Result<(), Differs> {
         } else {
             u32::MAX
         };
-        let given = Given::Words(&words);
+        let given = Given::Words(&words, &rows);
         let report = call(round, given, &chain, &mut lent, lengths, &cells, allowance)?;
         if report.refusal != 0 && round.dice.one_in(2) {
             break;
@@ -60,12 +63,13 @@ pub fn calls(round: &mut Round) -> Result<(), Differs> {
 
 /// Any words judged, and their sheet written.
 pub fn written(round: &mut Round) -> Result<(), Differs> {
-    let words = any_words(&mut round.dice);
-    let value = chain_of(&words);
+    let (words, rows) = any_words(&mut round.dice);
+    let value = chain_of(&words, &rows);
     round.note_words("chain words", &words);
+    round.note_words("rows", &rows);
     let judged = judge_chain(&value).map_or_else(|r| r.number() as u32, |_| 0);
     round.tally.count(Function::JudgeChain, judged);
-    round.same("judge_chain", &native::judge_chain(&words), &judged)?;
+    round.same("judge_chain", &native::judge_chain(&words, &rows), &judged)?;
 
     let needed = match judged {
         0 => straight::sheet::chain_text(&value).len(),
@@ -80,38 +84,69 @@ pub fn written(round: &mut Round) -> Result<(), Differs> {
         Err(refusal) => (refusal.number() as u32, 0),
     };
     let mut sheet = [FILL; SHEET_BYTES + BEHIND];
-    let got = native::write_chain(&words, &mut sheet[..room]);
+    let got = native::write_chain(&words, &rows, &mut sheet[..room]);
     round.tally.count(Function::WriteChain, refusal);
     round.same("write_chain", &got, &native::Sheet { refusal, bytes })?;
     round.same_at("write_chain: sheet", &sheet, &wanted)
 }
 
-/// A chain's words with some of them changed, and words past the counts filled at random.
-fn any_words(dice: &mut Dice) -> Vec<u32> {
+/// A chain's words and the rows beside them, with some of them changed, and words past the counts filled at random.
+fn any_words(dice: &mut Dice) -> (Vec<u32>, Vec<u32>) {
     let draft = Draft::random(dice);
-    let mut words = chain_words(&draft.chain().unwrap_or(Chain::blank())).to_vec();
+    let chain = draft.chain().unwrap_or(Chain::blank());
+    let (mut words, mut rows) = (chain_words(&chain).to_vec(), row_words(&chain));
     if dice.one_in(2) {
         past_counts(dice, &mut words);
     }
     for _ in 0..dice.below(3) {
         change(dice, &mut words);
     }
+    if ROWS && dice.one_in(4) {
+        change_rows(dice, &mut words, &mut rows);
+    }
     if dice.one_in(30) {
         // Also what earlier versions of the interface took for a chain.
         let length = dice.below(CHAIN_WORDS);
-        words.truncate(dice.pick(&[length, length, 168, 201]));
+        words.truncate(dice.pick(&[length, length, 168, 201, 210]));
     }
     if dice.one_in(10) {
         words.extend((0..dice.below(20)).map(|_| dice.word()));
     }
-    words
+    (words, rows)
+}
+
+/// Another kind or row count, a row changed, or fewer or more rows than the count.
+fn change_rows(dice: &mut Dice, words: &mut [u32], rows: &mut Vec<u32>) {
+    match dice.below(6) {
+        0 => words[GRID_KIND] = dice.pick(&[0, 1, 2, 256, 1 << 31, u32::MAX]),
+        1 => words[ROW_COUNT] = dice.pick(&[0, 1, 2, 511, 512, 513, 65_536, 65_537, u32::MAX]),
+        2 if words[ROW_COUNT] > 0 => words[ROW_COUNT] -= 1,
+        3 => rows.truncate(dice.below(rows.len() + 1)),
+        4 => rows.extend((0..dice.below(20)).map(|_| dice.word())),
+        _ if rows.is_empty() => {}
+        _ => {
+            let at = dice.below(rows.len());
+            rows[at] = match dice.below(3) {
+                0 => rows[at].wrapping_add(1 << 16),
+                1 => dice.word(),
+                _ => dice.pick(&[0, 1, 5, 1024, 1025, 4095, 4096, 65_535, u32::MAX]),
+            };
+        }
+    }
 }
 
 /// Fills the words that play no part.
 fn past_counts(dice: &mut Dice, words: &mut [u32]) {
-    let dims = (words[0] as usize).min(4);
     let n = (words[5] as usize).min(32);
-    words[1 + dims..5].fill_with(|| dice.word());
+    let skewed = ROWS && words[GRID_KIND] != 0;
+    let (dims, sizes) = match words[0] as usize {
+        _ if skewed => (2, 0),
+        dims => (dims.min(4), dims.min(4)),
+    };
+    words[1 + sizes..5].fill_with(|| dice.word());
+    if ROWS && !skewed {
+        words[ROW_COUNT] = dice.word();
+    }
     for k in 0..32 {
         let from = if k < n { dims } else { 0 };
         words[6 + 4 * k + from..10 + 4 * k].fill_with(|| dice.word());
@@ -127,7 +162,7 @@ fn past_counts(dice: &mut Dice, words: &mut [u32]) {
     words[169 + terms..201].fill_with(|| dice.word());
     let ends = if words[201] == 0 { 0 } else { dims };
     words[202 + ends..206].fill_with(|| dice.word());
-    words[206 + ends..210].fill_with(|| dice.word());
+    words[206 + ends..GRID_KIND].fill_with(|| dice.word());
     for k in 0..4 * n {
         // The high half of an entry.
         words[6 + k] |= (dice.word() & dice.word()) << 16;

@@ -2,18 +2,18 @@ use crate::dice::Dice;
 use crate::draft::Draft;
 use crate::native;
 use crate::round::{Differs, Round};
-use crate::words::{CHAIN_WORDS, STATE_WORDS};
+use crate::words::{CHAIN_WORDS, ROW_WORDS, STATE_WORDS};
 use straight::judge::capacity_sum;
 use straight::{nested_words, plan, Chain, Kernel, Order, Request};
 use zohmirka::SHEET_BYTES;
 
-const MOST_CELLS: u32 = 4096;
+const MOST_CELLS: u128 = 4096;
 
 /// The library alone: a request planned and run whole writes what a nested loop does that has the request's references in the request's order; raw's in chain order.
 pub fn words(round: &mut Round) -> Result<(), Differs> {
     let (draft, request, planned) = small_request(&mut round.dice);
     let text = draft.request_text();
-    let cells = round.dice.cells(cells_of(&request) as usize);
+    let cells = round.dice.cells(request.grid.cells() as usize);
     round.note_text("request", &text);
     round.note_words("cells", &cells);
     let author = Chain {
@@ -29,12 +29,21 @@ pub fn words(round: &mut Round) -> Result<(), Differs> {
     let mut sheet = [0; SHEET_BYTES];
     let wrote = native::plan(&text, &mut sheet);
     let mut chain = [0; CHAIN_WORDS];
-    let read = native::read_chain(&sheet[..wrote.bytes], &mut chain);
+    let mut rows = [0; ROW_WORDS];
+    let read = native::read_chain(&sheet[..wrote.bytes], &mut chain, &mut rows);
     round.same("plan and read_chain", &(wrote.refusal, read), &(0, 0))?;
     let mut store = vec![0; capacity_sum(&planned) as usize];
     let mut out = vec![0; want.len()];
     let mut state = [0; STATE_WORDS];
-    let report = native::run_chain(&chain, &mut state, &mut store, &cells, &mut out, u32::MAX);
+    let report = native::run_chain(
+        &chain,
+        &rows,
+        &mut state,
+        &mut store,
+        &cells,
+        &mut out,
+        u32::MAX,
+    );
     round.same(
         "refusal and outcome",
         &(report.refusal, report.outcome),
@@ -53,14 +62,9 @@ fn small_request(dice: &mut Dice) -> (Draft, Request, Chain) {
             continue;
         };
         if let Ok(planned) = plan(&request) {
-            if cells_of(&request) <= MOST_CELLS {
+            if request.grid.cells() <= MOST_CELLS {
                 return (draft, request, planned);
             }
         }
     }
-}
-
-fn cells_of(request: &Request) -> u32 {
-    let grid = &request.grid;
-    grid.sizes[..grid.dims as usize].iter().product()
 }

@@ -11,7 +11,8 @@ pub const BEHIND: usize = 8;
 #[derive(Clone, Copy)]
 pub enum Given<'a> {
     Sheet(&'a [u8]),
-    Words(&'a [u32]),
+    /// With the rows of a skewed grid beside them.
+    Words(&'a [u32], &'a [u32]),
 }
 
 /// What a call writes, each with words behind the lent part.
@@ -43,7 +44,7 @@ pub fn call(
     round.note("call", || {
         let way = match given {
             Given::Sheet(_) => "run",
-            Given::Words(_) => "run_chain",
+            Given::Words(..) => "run_chain",
         };
         format!("{way}, {lengths:?}, allowance {allowance}")
     });
@@ -62,9 +63,9 @@ pub fn call(
             Function::Run,
             native::run(text, state, store, cells, out, allowance),
         ),
-        Given::Words(words) => (
+        Given::Words(words, rows) => (
             Function::RunChain,
-            native::run_chain(words, state, store, cells, out, allowance),
+            native::run_chain(words, rows, state, store, cells, out, allowance),
         ),
     };
     round.tally.count(function, want.refusal);
@@ -138,7 +139,7 @@ fn safe_call(
     let out = &mut lent.out[..lengths.out];
     let answer = match given {
         Given::Sheet(text) => zohmirka::run(text, &mut state, store, cells, out, allowance),
-        Given::Words(words) => {
+        Given::Words(words, _rows) => {
             let chain = zohmirka::Chain {
                 words: <[u32; CHAIN_WORDS]>::try_from(words).ok()?,
             };

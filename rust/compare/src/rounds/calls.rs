@@ -1,9 +1,9 @@
 use super::call::{call, Given, Lengths, Lent, BEHIND};
-use crate::damage::damage;
+use crate::damage::{damage, hide_rows};
 use crate::dice::Dice;
 use crate::draft::Draft;
 use crate::round::{Differs, Round};
-use crate::words::{chain_words, STATE_WORDS};
+use crate::words::{chain_words, row_words, STATE_WORDS};
 use straight::judge::capacity_sum;
 use straight::{judge_chain, Chain, Shape};
 
@@ -17,14 +17,16 @@ pub fn calls(round: &mut Round) -> Result<(), Differs> {
     let mut text = draft.chain_text();
     if dice.one_in(20) {
         damage(dice, &mut text);
+        hide_rows(&mut text);
     }
     let chain = straight::read_chain(&text);
     let value = chain.unwrap_or(draft.chain().unwrap_or(Chain::blank()));
-    let words = chain_words(&value);
+    let (words, rows) = (chain_words(&value), row_words(&value));
     let judged = judge_chain(&value);
     let accepted = chain.is_ok();
     round.note_text("chain", &text);
     round.note_words("chain words", &words);
+    round.note_words("rows", &rows);
 
     let dice = &mut round.dice;
     let places = if accepted {
@@ -83,7 +85,7 @@ pub fn calls(round: &mut Round) -> Result<(), Differs> {
         let (given, known) = if dice.one_in(3) {
             (Given::Sheet(&text), &chain)
         } else {
-            (Given::Words(&words), &judged.map(|_| value))
+            (Given::Words(&words, &rows), &judged.map(|_| value))
         };
         let cells = &pool[from..from + many];
         let report = call(round, given, known, &mut lent, lengths, cells, allowance)?;
@@ -157,10 +159,13 @@ fn strange_state(dice: &mut Dice, chain: &Chain, state: &mut [u32], earlier: &[u
 fn made_up(dice: &mut Dice, chain: &Chain, state: &mut [u32]) {
     let shape = Shape::of_run(chain);
     let n = shape.count;
-    let fired = match dice.below(4) {
+    let any = dice.below(shape.iterations as usize + 1) as i64;
+    let fired = match dice.below(5) {
         0 => shape.iterations,
         1 => dice.below(3) as i64,
-        _ => dice.below(shape.iterations as usize + 1) as i64,
+        // At the end of a row, or a firing before it or behind.
+        2 => (shape.row_end(any) + dice.between(-1, 1)).min(shape.iterations),
+        _ => any,
     };
     state[32] = fired as u32;
     for k in (0..n).rev() {

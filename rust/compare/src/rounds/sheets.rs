@@ -1,10 +1,10 @@
-use crate::damage::damage;
+use crate::damage::{damage, hide_rows};
 use crate::dice::Dice;
 use crate::draft::Draft;
 use crate::native;
 use crate::round::{Differs, Round};
 use crate::tally::Function;
-use crate::words::{chain_words, CHAIN_WORDS};
+use crate::words::{chain_words, row_words, CHAIN_WORDS, ROW_WORDS};
 use straight::Refusal;
 use zohmirka::SHEET_BYTES;
 
@@ -84,7 +84,16 @@ pub fn chain(round: &mut Round) -> Result<(), Differs> {
         _ => draft.chain_text(),
     };
     spoil(dice, &mut text);
-    let room = dice.pick(&[CHAIN_WORDS, CHAIN_WORDS, CHAIN_WORDS - 1, 0, 240, 168, 201]);
+    let room = dice.pick(&[
+        CHAIN_WORDS,
+        CHAIN_WORDS,
+        CHAIN_WORDS - 1,
+        0,
+        240,
+        168,
+        201,
+        210,
+    ]);
     round.note_text("chain", &text);
     round.note("words lent", || format!("{room}"));
 
@@ -99,20 +108,23 @@ pub fn chain(round: &mut Round) -> Result<(), Differs> {
         &want.map(|_| ()).map_err(|r| r.number() as u32),
     )?;
 
-    let mut wanted = [FILL_WORD; 248];
+    let (mut wanted, mut wanted_rows) = ([FILL_WORD; 248], [FILL_WORD; ROW_WORDS + 8]);
     let refusal = match &want {
         Err(refusal) => refusal.number() as u32,
         Ok(_) if room < CHAIN_WORDS => Refusal::ShortOutput.number() as u32,
         Ok(chain) => {
             wanted[..CHAIN_WORDS].copy_from_slice(&chain_words(chain));
+            let rows = row_words(chain);
+            wanted_rows[..rows.len()].copy_from_slice(&rows);
             0
         }
     };
-    let mut words = [FILL_WORD; 248];
-    let got = native::read_chain(&text, &mut words[..room]);
+    let (mut words, mut rows) = ([FILL_WORD; 248], [FILL_WORD; ROW_WORDS + 8]);
+    let got = native::read_chain(&text, &mut words[..room], &mut rows[..ROW_WORDS]);
     round.tally.count(Function::ReadChain, refusal);
     round.same("read_chain", &got, &refusal)?;
     round.same_at("read_chain: words", &words, &wanted)?;
+    round.same_at("read_chain: rows", &rows, &wanted_rows)?;
     let safe = zohmirka::Chain::read(&text)
         .map(|c| c.words)
         .map_err(|r| r.number());
@@ -147,4 +159,5 @@ fn spoil(dice: &mut Dice, text: &mut Vec<u8>) {
         2..=50 => damage(dice, text),
         _ => {}
     }
+    hide_rows(text);
 }

@@ -1,11 +1,12 @@
 use super::sheets::number;
 use crate::dice::Dice;
 use crate::draft::{offsets_of, Draft};
+use crate::ground::{Ground, Span};
 use crate::native;
 use crate::round::{Differs, Round};
 use crate::tally::Function;
-use crate::words::{chain_of, CHAIN_WORDS};
-use straight::judge::{judge_box, judge_kernel, MOST_PLACES};
+use crate::words::{chain_of, CHAIN_WORDS, ROW_WORDS};
+use straight::judge::{judge_box, judge_kernel, judge_window, MOST_PLACES};
 use straight::{Bounds, Order, Steps};
 use zohmirka::SHEET_BYTES;
 
@@ -29,28 +30,30 @@ pub fn steps(round: &mut Round) -> Result<(), Differs> {
     round.tally.count(Function::Plan, planned);
     round.same("plan: refusal", &wrote.refusal, &planned)?;
 
-    // In every iteration, in the box or not.
-    let steps = match straight::steps(&request.grid, &request.window, &Bounds::none()) {
-        Ok(steps) => steps,
-        Err(refusal) => {
-            let refusal = refusal.number() as u32;
-            round.holds("steps: refused by 3 to 6", (3..=6).contains(&refusal))?;
-            return round.same("steps: refusal", &wrote.refusal, &refusal);
-        }
-    };
-    let sorted = offsets_of(&steps.window, draft.sizes.len());
-    falling(round, &draft.offsets, &sorted, &steps.filters)?;
-    let iterations = iterations(&mut round.dice, &draft);
-    for iteration in &iterations {
-        apart(round, &draft.sizes, &sorted, iteration, &steps)?;
+    let (grid, window) = (&request.grid, &request.window);
+    if let Err(refusal) = judge_window(grid, window) {
+        let refusal = refusal.number() as u32;
+        let due = [3, 4, 5, 6, 16].contains(&refusal);
+        round.holds("steps: refused by 3 to 6 or 16", due)?;
+        return round.same("steps: refusal", &wrote.refusal, &refusal);
     }
+    // A box that does not fit is left out: 15 is answered, and the steps of all iterations are looked at.
+    let fits = judge_box(grid, window, &request.bounds);
+    let bounds = fits.map_or(Bounds::none(), |()| request.bounds);
+    let steps = straight::steps(grid, window, &bounds).expect("nothing turns it back");
+    let sorted = offsets_of(&steps.window, draft.ground.dims());
+    falling(round, &draft.offsets, &sorted, &steps.filters)?;
+    let iterations = match &draft.ground {
+        // In every iteration, in the box or not.
+        Ground::Sizes(sizes) => iterations(&mut round.dice, draft.iterations(sizes)),
+        Ground::Rows(_) => row_ends(&draft, &bounds),
+    };
+    apart(round, &draft.ground, &sorted, &iterations, &steps)?;
     let sum: u64 = steps.distances.iter().map(|&d| d as u64).sum();
     round.holds("total: the sum", steps.total == sum)?;
 
     let above = steps.total > MOST_PLACES;
-    let (grid, window) = (&request.grid, &request.window);
-    let judged = judge_box(grid, window, &request.bounds)
-        .and_then(|()| judge_kernel(grid, window, &request.kernel));
+    let judged = fits.and_then(|()| judge_kernel(grid, window, &request.kernel));
     let refusal = match judged {
         Err(refusal) => refusal.number() as u32,
         Ok(()) if above => 9,
@@ -62,9 +65,11 @@ pub fn steps(round: &mut Round) -> Result<(), Differs> {
         return Ok(());
     }
     let mut words = [0; CHAIN_WORDS];
-    let read = native::read_chain(&sheet[..wrote.bytes], &mut words);
+    let mut rows = [0; ROW_WORDS];
+    let read = native::read_chain(&sheet[..wrote.bytes], &mut words, &mut rows);
     round.same("read_chain", &read, &0)?;
-    let chain = chain_of(&words);
+    let chain = chain_of(&words, &rows);
+    round.same("grid", &chain.grid, &request.grid)?;
     round.same("window", &chain.window, &steps.window)?;
     round.same("box", &chain.bounds, &request.bounds)?;
     round.same("order", &chain.order, &Order::new(&steps.filters))?;
@@ -93,40 +98,60 @@ fn falling(
     round.holds("filters", held == author)
 }
 
-/// In this iteration the positions that neighbours read differ by their distance, at least 1, and those of the first and the last by the total.
+/// The positions that neighbours read differ by at least 1 and at most by their distance, which is reached. On a rectangle they differ by it in every iteration, and
+/// those of the first and the last by the total.
 fn apart(
     round: &mut Round,
-    sizes: &[u32],
+    ground: &Ground,
     sorted: &[Vec<i16>],
-    iteration: &[i64],
+    iterations: &[Vec<i64>],
     steps: &Steps,
 ) -> Result<(), Differs> {
-    let read: Vec<i64> = sorted
-        .iter()
-        .map(|offset| position(sizes, iteration, offset))
-        .collect();
-    let apart: Vec<i64> = read.windows(2).map(|pair| pair[0] - pair[1]).collect();
-    let distances: Vec<i64> = steps.distances.iter().map(|&d| d as i64).collect();
-    round.holds("distances", distances == apart)?;
-    round.holds("distances: at least 1", distances.iter().all(|&d| d >= 1))?;
-    let total = read[0] - read[read.len() - 1];
-    round.holds("total: first less last", steps.total as i64 == total)
-}
-
-/// What the reference at this offset reads in an iteration.
-fn position(sizes: &[u32], iteration: &[i64], offset: &[i16]) -> i64 {
-    let mut position = 0;
-    for (d, &size) in sizes.iter().enumerate() {
-        let index = iteration[d] + offset[d] as i64;
-        assert!(index >= 0 && index < size as i64, "inside the grid");
-        position = position * size as i64 + index;
+    let mut largest = vec![0; steps.distances.len()];
+    for iteration in iterations {
+        let read = |offset: &Vec<i16>| {
+            let cell: Vec<i64> = iteration
+                .iter()
+                .zip(offset)
+                .map(|(i, &o)| i + o as i64)
+                .collect();
+            ground.position(&cell)
+        };
+        let reads: Vec<i64> = sorted.iter().map(read).collect();
+        let apart: Vec<i64> = reads.windows(2).map(|pair| pair[0] - pair[1]).collect();
+        round.holds("distances: at least 1", apart.iter().all(|&d| d >= 1))?;
+        if let Ground::Sizes(_) = ground {
+            let same = apart
+                .iter()
+                .zip(&steps.distances)
+                .all(|(&a, &d)| a == d as i64);
+            round.holds("distances", same)?;
+            let total = reads[0] - reads[reads.len() - 1];
+            round.holds("total: first less last", steps.total as i64 == total)?;
+        }
+        for (most, &apart) in largest.iter_mut().zip(&apart) {
+            *most = apart.max(*most);
+        }
     }
-    position
+    let distances: Vec<i64> = steps.distances.iter().map(|&d| d as i64).collect();
+    round.holds("distances: the largest", distances == largest)
 }
 
-/// All iterations, or the first, the last and some.
-fn iterations(dice: &mut Dice, draft: &Draft) -> Vec<Vec<i64>> {
-    let ends = draft.iterations();
+/// On rows: the first and the last iteration of each row, of the box where one stood.
+fn row_ends(draft: &Draft, bounds: &Bounds) -> Vec<Vec<i64>> {
+    if bounds.stood {
+        let [top, left] = [0, 1].map(|d| bounds.lowest[d] as i64);
+        let [bottom, right] = [0, 1].map(|d| bounds.highest[d] as i64);
+        let both = |row: i64| [vec![row, left], vec![row, right]];
+        return (top..=bottom).flat_map(both).collect();
+    }
+    let spans = draft.ground.spans(&draft.offsets);
+    let both = |span: &Span| [vec![span.row, span.from], vec![span.row, span.to]];
+    spans.iter().flat_map(both).collect()
+}
+
+/// All iterations of a rectangle, or the first, the last and some; from the least and the greatest in each dimension.
+fn iterations(dice: &mut Dice, ends: Vec<(i64, i64)>) -> Vec<Vec<i64>> {
     let count: i64 = ends.iter().map(|(low, high)| high - low + 1).product();
     if count > FEW {
         let first = ends.iter().map(|&(low, _)| low).collect();

@@ -1,0 +1,4 @@
+pub mod TableLaws
+pub mod ShapeLaws
+pub mod DistanceLaws
+pub mod RunLaws

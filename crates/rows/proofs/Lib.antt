@@ -1,0 +1,9 @@
+pub mod BackLaws
+pub mod LentLaws
+pub mod HoldLaws
+pub mod CommonLaws
+pub mod PlacedLaws
+pub mod SpanLaws
+pub mod WindowLaws
+pub mod FitLaws
+pub mod SurveyLaws

@@ -1,0 +1,26 @@
+use Prim.Native.Nat.{ℕ, _-_, min}
+use mathlib.Core.Path.{_∙_, ap, ap₂}
+use borrow.Author.Needs.{needs}
+use Rattle.rows.specs.Courses.{lengthIn}
+use Rattle.rows.proofs.common.length_in.Statement.{statement}
+use Rattle.rows.proofs.common.length_in.Tie as tie
+
+start-in-requires : tie.Need-start-in-requires
+start-in-requires c κs = search needs
+
+end-in-requires : tie.Need-end-in-requires
+end-in-requires c κs = search needs
+
+less-requires : tie.Need-less-requires
+less-requires c κs = search needs
+
+capped-requires : tie.Need-capped-requires
+capped-requires c κs = search needs
+
+returns : tie.Need-returns
+unfolding lengthIn
+returns c = c .capped .ensures ∙ ap (λ (x : ℕ). min x 1024) (c .before .less .ensures ∙ ap₂ _-_ (c .before .before .end-in .ensures) (c .before .before .before .start-in .ensures))
+
+pub length-in-spec : {M : Type 1} → statement M
+length-in-spec =
+    tie.close (tie.spec start-in-requires end-in-requires less-requires capped-requires returns)

@@ -1,0 +1,4 @@
+pub mod Lent
+pub mod Courses
+pub mod Boxing
+pub mod Surveys

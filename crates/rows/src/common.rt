@@ -1,0 +1,159 @@
+// Rows of cells, and rows of iterations: the columns that keep each reference inside the row that it reads.
+use values::lesser;
+use values::wide_usize;
+ghost use mathlib.Core.Path.{_≡_};
+ghost use Prim.Native.Nat.{_+_, _-_, _*_, _≤_, _<_, min, max};
+ghost use Rattle.model.specs.Grounds.{Row, row, end as endOf};
+ghost use Rattle.model.specs.Values.{rowsOf};
+ghost use Rattle.geometry.specs.Parts.{numberAt};
+ghost use Rattle.rows.specs.Courses.{startIn, endIn, lengthIn};
+
+// Number i; 0 where there are too few.
+pub(crate) fn number(numbers: &[u32], i: usize) -> u32
+    ensures { λ r. ⌜ r ≡ numberAt (now (numbers .entry)) i ⌝ }
+{
+    if i < numbers.len() {
+        return numbers[i];
+    }
+    0
+}
+
+// A length of at most 1,024.
+pub(crate) fn capped(x: usize) -> u32
+    ensures { λ r. ⌜ r ≡ min x 1024 ⌝ }
+{
+    if x < 1024 {
+        return x as u32;
+    }
+    1024
+}
+
+// x less y; 0 where y is greater.
+fn less(x: usize, y: usize) -> usize
+    ensures { λ r. ⌜ r ≡ x - y ⌝ }
+{
+    if x < y {
+        return 0;
+    }
+    x - y
+}
+
+fn greater(x: usize, y: usize) -> usize
+    ensures { λ r. ⌜ r ≡ max x y ⌝ }
+{
+    if x < y {
+        return y;
+    }
+    x
+}
+
+// The start of the row that lies so far below row u; 0 past the last row.
+pub(crate) fn start_of(count: u32, rows: &[u32], down: u32, u: usize) -> usize
+    ensures { λ r. ⌜ r ≡ row (rowsOf count (now (rows .entry))) (down + u) .start ⌝ }
+{
+    let n = wide_usize(count);
+    if n <= u {
+        return 0;
+    }
+    let i = wide_usize(down) + u;
+    if n <= i {
+        return 0;
+    }
+    wide_usize(number(rows, 2 * i))
+}
+
+// The first column behind it.
+fn end_of(count: u32, rows: &[u32], down: u32, u: usize) -> usize
+    ensures { λ r. ⌜ r ≡ endOf (row (rowsOf count (now (rows .entry))) (down + u)) ⌝ }
+{
+    let n = wide_usize(count);
+    if n <= u {
+        return 0;
+    }
+    let i = wide_usize(down) + u;
+    if n <= i {
+        return 0;
+    }
+    let start = wide_usize(number(rows, 2 * i));
+    let length = wide_usize(number(rows, 2 * i + 1));
+    start + length
+}
+
+// The first column of row u of all iterations that keeps a reference inside its row, and the first behind the last that does.
+fn first_column(count: u32, rows: &[u32], down: u32, on: u32, u: usize) -> usize
+    ensures { λ r. ⌜ r ≡ row (rowsOf count (now (rows .entry))) (down + u) .start - on ⌝ }
+{
+    let start = start_of(count, rows, down, u);
+    less(start, wide_usize(on))
+}
+
+fn column_behind(count: u32, rows: &[u32], down: u32, on: u32, u: usize) -> usize
+    ensures { λ r. ⌜ r ≡ endOf (row (rowsOf count (now (rows .entry))) (down + u)) - on ⌝ }
+{
+    let end = end_of(count, rows, down, u);
+    less(end, wide_usize(on))
+}
+
+// Row u of all iterations: its first column,
+pub(crate) fn start_in(
+    count: u32,
+    rows: &[u32],
+    down: &[u32; 32],
+    on: &[u32; 32],
+    n: usize,
+    u: usize,
+) -> usize
+    requires { ⌜ n ≤ 32 ⌝ }
+    ensures { λ r. ⌜ r ≡ startIn (rowsOf count (now (rows .entry))) (now (down .entry)) (now (on .entry)) n u ⌝ }
+{
+    let mut start: usize = 0;
+    let mut k = n;
+    while 0 < k {
+        k -= 1;
+        let here = first_column(count, rows, down[k], on[k], u);
+        start = greater(here, start);
+    }
+    start
+}
+
+// the first behind it,
+pub(crate) fn end_in(
+    count: u32,
+    rows: &[u32],
+    down: &[u32; 32],
+    on: &[u32; 32],
+    n: usize,
+    u: usize,
+) -> usize
+    requires { ⌜ n ≤ 32 ⌝ }
+    ensures { λ r. ⌜ r ≡ endIn (rowsOf count (now (rows .entry))) (now (down .entry)) (now (on .entry)) n u ⌝ }
+{
+    if n == 0 {
+        return 0;
+    }
+    let mut k = n - 1;
+    let mut end = column_behind(count, rows, down[k], on[k], u);
+    while 0 < k {
+        k -= 1;
+        let here = column_behind(count, rows, down[k], on[k], u);
+        end = lesser(here, end);
+    }
+    end
+}
+
+// and how many iterations it has.
+pub(crate) fn length_in(
+    count: u32,
+    rows: &[u32],
+    down: &[u32; 32],
+    on: &[u32; 32],
+    n: usize,
+    u: usize,
+) -> u32
+    requires { ⌜ n ≤ 32 ⌝ }
+    ensures { λ r. ⌜ r ≡ lengthIn (rowsOf count (now (rows .entry))) (now (down .entry)) (now (on .entry)) n u ⌝ }
+{
+    let start = start_in(count, rows, down, on, n, u);
+    let end = end_in(count, rows, down, on, n, u);
+    capped(less(end, start))
+}
