@@ -1,6 +1,6 @@
 /* Tries what the header says beside what each function answers: slices of 0 elements whose pointer is NULL, windows by name, terms in the author's order, smaller boxes,
- * chains of earlier versions, calls in several threads at the same time, a store of any content, too few output places, and the stack that a call needs (with EDGES_STACK
- * set it prints how much). Prints what does not hold, and last `c/edges: ok` or `c/edges: failed`. */
+ * skewed grids and the rows lent beside them, chains of earlier versions, calls in several threads at the same time, a store of any content, too few output places, and the
+ * stack that a call needs (with EDGES_STACK set it prints how much). Prints what does not hold, and last `c/edges: ok` or `c/edges: failed`. */
 #define _POSIX_C_SOURCE 200809L
 #include "zohmirka.h"
 
@@ -44,29 +44,33 @@ static void null_slices(void) {
     planned = zohmirka_plan(bytes(REQUEST), strlen(REQUEST), NULL, 0);
     expect(planned.refusal == 12 && planned.bytes == 0, "plan: no output");
     expect(zohmirka_judge(NULL, 0) == 2, "judge: no sheet");
-    expect(zohmirka_read_chain(NULL, 0, NULL, 0) == 2, "read: no sheet, no output");
-    expect(zohmirka_read_chain(bytes(SHEET), n, NULL, 0) == 12, "read: no output");
-    expect(zohmirka_read_chain(bytes(SHEET), n, chain, ZOHMIRKA_CHAIN_WORDS) == 0, "read");
-    expect(zohmirka_read_chain(bytes(ALONE), strlen(ALONE), alone, ZOHMIRKA_CHAIN_WORDS) == 0, "read: one reference");
-    expect(zohmirka_judge_chain(NULL, 0) == 3, "judge_chain: no words");
-    struct zohmirka_sheet wrote = zohmirka_write_chain(NULL, 0, NULL, 0);
+    expect(zohmirka_read_chain(NULL, 0, NULL, 0, NULL, 0) == 2, "read: no sheet, no output");
+    expect(zohmirka_read_chain(bytes(SHEET), n, NULL, 0, NULL, 0) == 12, "read: no output");
+    expect(zohmirka_read_chain(bytes(SHEET), n, chain, ZOHMIRKA_CHAIN_WORDS, NULL, 0) == 0, "read");
+    expect(zohmirka_read_chain(bytes(ALONE), strlen(ALONE), alone, ZOHMIRKA_CHAIN_WORDS, NULL, 0) == 0, "read: one reference");
+    expect(zohmirka_judge_chain(NULL, 0, NULL, 0) == 3, "judge_chain: no words");
+    struct zohmirka_sheet wrote = zohmirka_write_chain(NULL, 0, NULL, 0, NULL, 0);
     expect(wrote.refusal == 3 && wrote.bytes == 0, "write_chain: no words, no output");
-    wrote = zohmirka_write_chain(chain, ZOHMIRKA_CHAIN_WORDS, NULL, 0);
+    wrote = zohmirka_write_chain(chain, ZOHMIRKA_CHAIN_WORDS, NULL, 0, NULL, 0);
     expect(wrote.refusal == 12 && wrote.bytes == 0, "write_chain: no output");
 
     expect(is(zohmirka_run(NULL, 0, NULL, 0, NULL, 0, NULL, 0, NULL, 0, 9), 2, ZOHMIRKA_REFUSED, 0, 0, 0), "run: nothing lent");
-    expect(is(zohmirka_run_chain(NULL, 0, NULL, 0, NULL, 0, NULL, 0, NULL, 0, 9), 3, ZOHMIRKA_REFUSED, 0, 0, 0), "run_chain: nothing lent");
+    expect(is(zohmirka_run_chain(NULL, 0, NULL, 0, NULL, 0, NULL, 0, NULL, 0, NULL, 0, 9), 3, ZOHMIRKA_REFUSED, 0, 0, 0), "run_chain: nothing lent");
     memset(state, 0, sizeof state);
-    expect(is(zohmirka_run_chain(chain, ZOHMIRKA_CHAIN_WORDS, state, ZOHMIRKA_STATE_WORDS, NULL, 0, CELLS, 5, out, 4, 9), 10, ZOHMIRKA_REFUSED, 0, 0, 0), "run_chain: no store");
-    expect(is(zohmirka_run_chain(chain, ZOHMIRKA_CHAIN_WORDS, NULL, 0, store, 3, CELLS, 5, out, 4, 9), 11, ZOHMIRKA_REFUSED, 0, 0, 0), "run_chain: no state");
-    expect(is(zohmirka_run_chain(chain, ZOHMIRKA_CHAIN_WORDS, state, ZOHMIRKA_STATE_WORDS, store, 3, NULL, 0, out, 4, 9), 0, ZOHMIRKA_STARVED, 0, 0, 0), "run_chain: no cells");
-    expect(is(zohmirka_run_chain(chain, ZOHMIRKA_CHAIN_WORDS, state, ZOHMIRKA_STATE_WORDS, store, 3, CELLS, 5, NULL, 0, 9), 0, ZOHMIRKA_FULL, 3, 0, 3), "run_chain: no output");
+    expect(is(zohmirka_run_chain(chain, ZOHMIRKA_CHAIN_WORDS, NULL, 0, state, ZOHMIRKA_STATE_WORDS, NULL, 0, CELLS, 5, out, 4, 9), 10, ZOHMIRKA_REFUSED, 0, 0, 0),
+           "run_chain: no store");
+    expect(is(zohmirka_run_chain(chain, ZOHMIRKA_CHAIN_WORDS, NULL, 0, NULL, 0, store, 3, CELLS, 5, out, 4, 9), 11, ZOHMIRKA_REFUSED, 0, 0, 0), "run_chain: no state");
+    expect(is(zohmirka_run_chain(chain, ZOHMIRKA_CHAIN_WORDS, NULL, 0, state, ZOHMIRKA_STATE_WORDS, store, 3, NULL, 0, out, 4, 9), 0, ZOHMIRKA_STARVED, 0, 0, 0),
+           "run_chain: no cells");
+    expect(is(zohmirka_run_chain(chain, ZOHMIRKA_CHAIN_WORDS, NULL, 0, state, ZOHMIRKA_STATE_WORDS, store, 3, CELLS, 5, NULL, 0, 9), 0, ZOHMIRKA_FULL, 3, 0, 3),
+           "run_chain: no output");
     /* A run goes on without a store, and ends Done without cells and output. */
     memset(state, 0, sizeof state);
     uint32_t five[5] = {0};
     expect(is(zohmirka_run(bytes(ALONE), strlen(ALONE), state, ZOHMIRKA_STATE_WORDS, NULL, 0, CELLS, 5, five, 5, 9), 0, ZOHMIRKA_DONE, 5, 5, 5), "run: no FIFO, no store");
     expect(memcmp(five, CELLS, sizeof five) == 0, "run: no FIFO, no store: words");
-    expect(is(zohmirka_run_chain(alone, ZOHMIRKA_CHAIN_WORDS, state, ZOHMIRKA_STATE_WORDS, NULL, 0, NULL, 0, NULL, 0, 9), 0, ZOHMIRKA_DONE, 0, 0, 0), "run_chain: done, nothing lent");
+    expect(is(zohmirka_run_chain(alone, ZOHMIRKA_CHAIN_WORDS, NULL, 0, state, ZOHMIRKA_STATE_WORDS, NULL, 0, NULL, 0, NULL, 0, 9), 0, ZOHMIRKA_DONE, 0, 0, 0),
+           "run_chain: done, nothing lent");
 }
 
 /* A window by its name and by its offsets, and 13. */
@@ -88,7 +92,7 @@ static void names(void) {
 static uint32_t sum_of(const uint32_t *chain) {
     static const uint32_t cells[3] = {0x3F800000, 0x3F800000, 0x4B800000};
     uint32_t state[ZOHMIRKA_STATE_WORDS] = {0}, store[2] = {0}, out[1] = {0};
-    expect(is(zohmirka_run_chain(chain, ZOHMIRKA_CHAIN_WORDS, state, ZOHMIRKA_STATE_WORDS, store, 2, cells, 3, out, 1, 9), 0, ZOHMIRKA_DONE, 3, 1, 3), "orders: run");
+    expect(is(zohmirka_run_chain(chain, ZOHMIRKA_CHAIN_WORDS, NULL, 0, state, ZOHMIRKA_STATE_WORDS, store, 2, cells, 3, out, 1, 9), 0, ZOHMIRKA_DONE, 3, 1, 3), "orders: run");
     return out[0];
 }
 
@@ -101,21 +105,21 @@ static void orders(void) {
     uint32_t chain[ZOHMIRKA_CHAIN_WORDS];
     struct zohmirka_sheet answer = zohmirka_plan(bytes(request), strlen(request), wrote, sizeof wrote);
     expect(answer.refusal == 0 && answer.bytes == strlen(sheet) && memcmp(wrote, sheet, answer.bytes) == 0, "plan: the order");
-    expect(zohmirka_read_chain(wrote, answer.bytes, chain, ZOHMIRKA_CHAIN_WORDS) == 0, "read: the order");
+    expect(zohmirka_read_chain(wrote, answer.bytes, chain, ZOHMIRKA_CHAIN_WORDS, NULL, 0) == 0, "read: the order");
     const uint32_t *order = chain + ZOHMIRKA_CHAIN_ORDER;
     expect(chain[ZOHMIRKA_CHAIN_ORDER_STOOD] == 1 && order[0] == 2 && order[1] == 1 && order[2] == 0 && order[3] == 0, "read: words of the order");
     expect(sum_of(chain) == 0x4B800001, "a sum in the author's order");
 
     chain[ZOHMIRKA_CHAIN_ORDER + 2] = 256;
-    expect(zohmirka_judge_chain(chain, ZOHMIRKA_CHAIN_WORDS) == 14, "judge_chain: no order");
-    expect(is(zohmirka_run_chain(chain, ZOHMIRKA_CHAIN_WORDS, NULL, 0, NULL, 0, NULL, 0, NULL, 0, 9), 14, ZOHMIRKA_REFUSED, 0, 0, 0), "run_chain: no order");
-    answer = zohmirka_write_chain(chain, ZOHMIRKA_CHAIN_WORDS, NULL, 0);
+    expect(zohmirka_judge_chain(chain, ZOHMIRKA_CHAIN_WORDS, NULL, 0) == 14, "judge_chain: no order");
+    expect(is(zohmirka_run_chain(chain, ZOHMIRKA_CHAIN_WORDS, NULL, 0, NULL, 0, NULL, 0, NULL, 0, NULL, 0, 9), 14, ZOHMIRKA_REFUSED, 0, 0, 0), "run_chain: no order");
+    answer = zohmirka_write_chain(chain, ZOHMIRKA_CHAIN_WORDS, NULL, 0, NULL, 0);
     expect(answer.refusal == 14 && answer.bytes == 0, "write_chain: no order");
     chain[ZOHMIRKA_CHAIN_ORDER_STOOD] = 0;
     expect(sum_of(chain) == 0x4B800000, "a sum in chain order");
-    answer = zohmirka_write_chain(chain, ZOHMIRKA_CHAIN_WORDS, wrote, sizeof wrote);
+    answer = zohmirka_write_chain(chain, ZOHMIRKA_CHAIN_WORDS, NULL, 0, wrote, sizeof wrote);
     expect(answer.refusal == 0 && answer.bytes == strlen(without) && memcmp(wrote, without, answer.bytes) == 0, "write_chain: an order that did not stand");
-    expect(zohmirka_read_chain(bytes(without), strlen(without), chain, ZOHMIRKA_CHAIN_WORDS) == 0, "read: without an order");
+    expect(zohmirka_read_chain(bytes(without), strlen(without), chain, ZOHMIRKA_CHAIN_WORDS, NULL, 0) == 0, "read: without an order");
     for (int i = ZOHMIRKA_CHAIN_ORDER_STOOD; i < ZOHMIRKA_CHAIN_WORDS; i++) expect(chain[i] == 0, "read: words of no order and no box");
     /* The sheet of a chain of one reference, and no request. */
     const char *alone = "010100000003\n020000\n0600\n0400\n";
@@ -127,7 +131,7 @@ static void orders(void) {
 static int runs_to(const uint32_t *chain, uint32_t cells, uint32_t firings, const uint32_t words[10]) {
     uint32_t state[ZOHMIRKA_STATE_WORDS] = {0}, store[10] = {0}, out[30] = {0}, lent[20];
     for (uint32_t i = 0; i < 20; i++) lent[i] = i + 1;
-    struct zohmirka_report r = zohmirka_run_chain(chain, ZOHMIRKA_CHAIN_WORDS, state, ZOHMIRKA_STATE_WORDS, store, 10, lent, 20, out, 30, UINT32_MAX);
+    struct zohmirka_report r = zohmirka_run_chain(chain, ZOHMIRKA_CHAIN_WORDS, NULL, 0, state, ZOHMIRKA_STATE_WORDS, store, 10, lent, 20, out, 30, UINT32_MAX);
     return is(r, 0, ZOHMIRKA_DONE, cells, firings, cells) && memcmp(out, words, 10 * sizeof *words) == 0;
 }
 
@@ -147,7 +151,7 @@ static void boxes(void) {
     expect(answer.refusal == 0 && answer.bytes == strlen(sheet) && memcmp(wrote, sheet, answer.bytes) == 0, "plan: the box");
     answer = zohmirka_plan(bytes(outside), strlen(outside), wrote, sizeof wrote);
     expect(answer.refusal == 15 && answer.bytes == 0 && memcmp(wrote, sheet, strlen(sheet)) == 0, "plan: a box that reaches outside");
-    expect(zohmirka_read_chain(bytes(sheet), strlen(sheet), chain, ZOHMIRKA_CHAIN_WORDS) == 0, "read: the box");
+    expect(zohmirka_read_chain(bytes(sheet), strlen(sheet), chain, ZOHMIRKA_CHAIN_WORDS, NULL, 0) == 0, "read: the box");
     expect(memcmp(chain + ZOHMIRKA_CHAIN_BOX_STOOD, words, sizeof words) == 0, "read: words of the box");
     expect(runs_to(chain, 14, 2, row), "a run over a box in one row");
 
@@ -158,34 +162,138 @@ static void boxes(void) {
     lowest[1] = 1;
     expect(runs_to(chain, 19, 6, all), "a run over a full box");
     lowest[1] = 0;
-    expect(zohmirka_judge_chain(chain, ZOHMIRKA_CHAIN_WORDS) == 15, "judge_chain: a box that reaches outside");
+    expect(zohmirka_judge_chain(chain, ZOHMIRKA_CHAIN_WORDS, NULL, 0) == 15, "judge_chain: a box that reaches outside");
     lowest[1] = 3;
     highest[1] = 2;
-    expect(zohmirka_judge_chain(chain, ZOHMIRKA_CHAIN_WORDS) == 15, "judge_chain: a lowest above its highest");
+    expect(zohmirka_judge_chain(chain, ZOHMIRKA_CHAIN_WORDS, NULL, 0) == 15, "judge_chain: a lowest above its highest");
     lowest[1] = UINT32_C(0x80000000);
     highest[1] = UINT32_C(0x7FFFFFFF);
-    expect(is(zohmirka_run_chain(chain, ZOHMIRKA_CHAIN_WORDS, NULL, 0, NULL, 0, NULL, 0, NULL, 0, 9), 15, ZOHMIRKA_REFUSED, 0, 0, 0), "run_chain: the widest box");
-    answer = zohmirka_write_chain(chain, ZOHMIRKA_CHAIN_WORDS, NULL, 0);
+    expect(is(zohmirka_run_chain(chain, ZOHMIRKA_CHAIN_WORDS, NULL, 0, NULL, 0, NULL, 0, NULL, 0, NULL, 0, 9), 15, ZOHMIRKA_REFUSED, 0, 0, 0), "run_chain: the widest box");
+    answer = zohmirka_write_chain(chain, ZOHMIRKA_CHAIN_WORDS, NULL, 0, NULL, 0);
     expect(answer.refusal == 15 && answer.bytes == 0, "write_chain: the widest box");
     chain[ZOHMIRKA_CHAIN_BOX_STOOD] = 0;
     expect(runs_to(chain, 19, 6, all), "a run without a box, whatever its words hold");
-    answer = zohmirka_write_chain(chain, ZOHMIRKA_CHAIN_WORDS, wrote, sizeof wrote);
+    answer = zohmirka_write_chain(chain, ZOHMIRKA_CHAIN_WORDS, NULL, 0, wrote, sizeof wrote);
     expect(answer.refusal == 0 && answer.bytes == strlen(without) && memcmp(wrote, without, answer.bytes) == 0, "write_chain: a box that did not stand");
+}
+
+/* Four rows of 5 cells, each a column further, and the five-point cross. */
+static const char *const SKEWED_REQUEST = "09000400000005000100050002000500030005\n0200000000\n020000FFFF\n0200000001\n02FFFF0000\n0200010000\n0400\n";
+static const char *const SKEWED = "09000400000005000100050002000500030005\n0200010000\n0200000001\n0200000000\n020000FFFF\n02FFFF0000\n"
+                                  "0300000003\n0300000001\n0300000001\n0300000003\n060203010400\n0400\n";
+static const uint32_t LENT[8] = {0, 5, 1, 5, 2, 5, 3, 5};
+
+/* The chain of SKEWED with these rows is turned back by 16 in every call, and nothing is written. */
+static void refused_rows(const uint32_t *chain, const uint32_t *rows, size_t numbers, const char *what) {
+    uint8_t sheet[ZOHMIRKA_SHEET_BYTES];
+    uint32_t state[ZOHMIRKA_STATE_WORDS] = {0}, store[8] = {7}, out[5] = {9};
+    sheet[0] = 0x5A;
+    struct zohmirka_sheet wrote = zohmirka_write_chain(chain, ZOHMIRKA_CHAIN_WORDS, rows, numbers, sheet, sizeof sheet);
+    struct zohmirka_report r = zohmirka_run_chain(chain, ZOHMIRKA_CHAIN_WORDS, rows, numbers, state, ZOHMIRKA_STATE_WORDS, store, 8, CELLS, 5, out, 5, 9);
+    expect(zohmirka_judge_chain(chain, ZOHMIRKA_CHAIN_WORDS, rows, numbers) == 16 && wrote.refusal == 16 && wrote.bytes == 0 && sheet[0] == 0x5A &&
+               is(r, 16, ZOHMIRKA_REFUSED, 0, 0, 0) && state[0] == 0 && store[0] == 7 && out[0] == 9,
+           what);
+}
+
+/* The chain of SKEWED in calls that lend so many cells: six firings of five words in 18 clocks. */
+static void skewed_runs(const uint32_t *chain, const uint32_t *rows, size_t numbers, uint32_t piece) {
+    static const uint32_t words[30] = {11, 8, 7, 6, 3, 12, 9, 8, 7, 4, 13, 10, 9, 8, 5, 16, 13, 12, 11, 8, 17, 14, 13, 12, 9, 18, 15, 14, 13, 10};
+    uint32_t state[2][ZOHMIRKA_STATE_WORDS] = {{0}}, store[2][8] = {{0}}, out[2][30] = {{0}}, at = 0, fired = 0, cells[20];
+    for (uint32_t i = 0; i < 20; i++) cells[i] = i + 1;
+    struct zohmirka_report r, other;
+    do {
+        uint32_t count = 20 - at < piece ? 20 - at : piece;
+        r = zohmirka_run_chain(chain, ZOHMIRKA_CHAIN_WORDS, rows, numbers, state[0], ZOHMIRKA_STATE_WORDS, store[0], 8, cells + at, count, out[0] + 5 * fired, 30 - 5 * fired, 4);
+        other = zohmirka_run(bytes(SKEWED), strlen(SKEWED), state[1], ZOHMIRKA_STATE_WORDS, store[1], 8, cells + at, count, out[1] + 5 * fired, 30 - 5 * fired, 4);
+        expect(is(other, r.refusal, r.outcome, r.cells, r.firings, r.clocks) && memcmp(state[0], state[1], sizeof state[0]) == 0 &&
+                   memcmp(store[0], store[1], sizeof store[0]) == 0,
+               "rows: a run by words and by the sheet");
+        at += r.cells;
+        fired += r.firings;
+    } while (r.refusal == 0 && (r.outcome == ZOHMIRKA_STARVED || r.outcome == ZOHMIRKA_SPENT));
+    expect(r.outcome == ZOHMIRKA_DONE && at == 18 && fired == 6 && memcmp(out[0], words, sizeof words) == 0 && memcmp(out[1], words, sizeof words) == 0, "rows: a run in pieces");
+}
+
+/* Skewed grids: a planned chain, its words and its rows, too few rows, rows past the count, runs in pieces, and 16. */
+static void skewed(void) {
+    /* Rows of 1, 1 and 2 cells, of which the last begins a column before the others: distances 1 and 2, and one place. */
+    const char *uneven = "090003000100010001000100000002\n0200000000\n02FFFF0000\n0300000001\n0400\n";
+    const char *start = "09000110000001\n0200000000\n0400\n", *none = "090000\n0200000000\n0400\n", *cut = "090002000000010000\n0200000000\n0400\n";
+    static const uint32_t sizes[5] = {2, 0, 0, 0, 0};
+    uint8_t wrote[ZOHMIRKA_SHEET_BYTES];
+    uint32_t chain[ZOHMIRKA_CHAIN_WORDS], rows[ZOHMIRKA_ROW_NUMBERS + 2], state[ZOHMIRKA_STATE_WORDS] = {0}, store[1] = {0}, out[4] = {0};
+    size_t n = strlen(SKEWED);
+    struct zohmirka_sheet answer = zohmirka_plan(bytes(SKEWED_REQUEST), strlen(SKEWED_REQUEST), wrote, sizeof wrote);
+    expect(answer.refusal == 0 && answer.bytes == n && memcmp(wrote, SKEWED, n) == 0, "plan: rows");
+    expect(zohmirka_judge(bytes(start), strlen(start)) == 16 && zohmirka_judge(bytes(none), strlen(none)) == 16, "judge: a start and a row count outside their range");
+    expect(zohmirka_judge(bytes(cut), strlen(cut)) == 1, "judge: a line of other than its rows");
+
+    memset(chain, 0x5A, sizeof chain);
+    memset(rows, 0x5A, sizeof rows);
+    expect(zohmirka_read_chain(bytes(SKEWED), n, chain, ZOHMIRKA_CHAIN_WORDS, NULL, 0) == 12 && zohmirka_read_chain(bytes(SKEWED), n, chain, ZOHMIRKA_CHAIN_WORDS, rows, 7) == 12 &&
+               zohmirka_read_chain(bytes(SKEWED), n, chain, ZOHMIRKA_CHAIN_WORDS - 1, rows, 8) == 12,
+           "read: too few places for the rows");
+    for (int i = 0; i < ZOHMIRKA_CHAIN_WORDS; i++) expect(chain[i] == UINT32_C(0x5A5A5A5A), "read: too few places, and words written");
+    for (int i = 0; i < 9; i++) expect(rows[i] == UINT32_C(0x5A5A5A5A), "read: too few places, and rows written");
+    expect(zohmirka_read_chain(bytes(SKEWED), n, chain, ZOHMIRKA_CHAIN_WORDS, rows, 8) == 0, "read: rows");
+    expect(memcmp(rows, LENT, sizeof LENT) == 0 && rows[8] == UINT32_C(0x5A5A5A5A), "read: the numbers of the rows");
+    expect(chain[ZOHMIRKA_CHAIN_SKEWED] == 1 && chain[ZOHMIRKA_CHAIN_ROWS] == 4 && memcmp(chain, sizes, sizeof sizes) == 0, "read: words of rows");
+    expect(zohmirka_read_chain(bytes(SKEWED), n, chain, ZOHMIRKA_CHAIN_WORDS, rows, ZOHMIRKA_ROW_NUMBERS) == 0 && rows[8] == UINT32_C(0x5A5A5A5A), "read: places past the rows");
+
+    /* Numbers past the count, and words of a rectangle, play no part; any kind but 0 is skewed. */
+    expect(zohmirka_judge_chain(chain, ZOHMIRKA_CHAIN_WORDS, rows, ZOHMIRKA_ROW_NUMBERS) == 0, "judge_chain: numbers past the rows");
+    for (uint32_t piece = 1; piece <= 20; piece++) skewed_runs(chain, LENT, 8, piece);
+    for (int i = 0; i < 5; i++) chain[i] = UINT32_MAX;
+    chain[ZOHMIRKA_CHAIN_SKEWED] = UINT32_C(0x80000000);
+    skewed_runs(chain, rows, ZOHMIRKA_ROW_NUMBERS, 7);
+    answer = zohmirka_write_chain(chain, ZOHMIRKA_CHAIN_WORDS, LENT, 8, wrote, sizeof wrote);
+    expect(answer.refusal == 0 && answer.bytes == n && memcmp(wrote, SKEWED, n) == 0, "write_chain: rows");
+    expect(zohmirka_write_chain(chain, ZOHMIRKA_CHAIN_WORDS, LENT, 8, wrote, n - 1).refusal == 12, "write_chain: rows, and too few places");
+
+    refused_rows(chain, NULL, 0, "no rows lent");
+    refused_rows(chain, LENT, 7, "a number of the rows too few");
+    chain[ZOHMIRKA_CHAIN_ROWS] = 5;
+    refused_rows(chain, LENT, 8, "a row too few");
+    static const uint32_t counts[4] = {0, 513, UINT32_C(0x80000002), UINT32_MAX};
+    for (int i = 0; i < ZOHMIRKA_ROW_NUMBERS + 2; i++) rows[i] = i % 2 ? 5 : 1;
+    for (int i = 0; i < 4; i++) {
+        chain[ZOHMIRKA_CHAIN_ROWS] = counts[i];
+        refused_rows(chain, rows, ZOHMIRKA_ROW_NUMBERS + 2, "a row count outside its range");
+    }
+    chain[ZOHMIRKA_CHAIN_ROWS] = 512;
+    expect(zohmirka_judge_chain(chain, ZOHMIRKA_CHAIN_WORDS, rows, ZOHMIRKA_ROW_NUMBERS) == 0, "judge_chain: 512 rows");
+    answer = zohmirka_write_chain(chain, ZOHMIRKA_CHAIN_WORDS, rows, ZOHMIRKA_ROW_NUMBERS, wrote, sizeof wrote);
+    expect(answer.refusal == 0 && zohmirka_judge(wrote, answer.bytes) == 0, "write_chain: 512 rows");
+    rows[1022] = 4096;
+    refused_rows(chain, rows, ZOHMIRKA_ROW_NUMBERS, "a start outside its range");
+    rows[1022] = 1;
+    rows[1023] = 1025;
+    refused_rows(chain, rows, ZOHMIRKA_ROW_NUMBERS, "a length outside its range");
+
+    /* What is lent beside a rectangle plays no part, nor does its row count. */
+    expect(zohmirka_read_chain(bytes(SHEET), strlen(SHEET), chain, ZOHMIRKA_CHAIN_WORDS, NULL, 0) == 0, "read: a rectangle, and no rows");
+    chain[ZOHMIRKA_CHAIN_ROWS] = UINT32_MAX;
+    answer = zohmirka_write_chain(chain, ZOHMIRKA_CHAIN_WORDS, rows, ZOHMIRKA_ROW_NUMBERS, wrote, sizeof wrote);
+    expect(answer.refusal == 0 && answer.bytes == strlen(SHEET) && memcmp(wrote, SHEET, answer.bytes) == 0, "write_chain: a rectangle beside rows");
+
+    /* A shorter FIFO than the largest distance: the firings before the first that needs more, then Stalled. */
+    struct zohmirka_report r = zohmirka_run(bytes(uneven), strlen(uneven), state, ZOHMIRKA_STATE_WORDS, store, 1, CELLS, 4, out, 4, UINT32_MAX);
+    expect(r.refusal == 0 && r.outcome == ZOHMIRKA_STALLED && r.firings == 1 && r.clocks == 2 && out[0] == 2 && out[1] == 1, "run: rows whose distances vary");
 }
 
 /* Words that earlier versions of the interface took for a chain. */
 static void earlier_versions(void) {
-    static const size_t lengths[2] = {168, 201};
+    static const size_t lengths[3] = {168, 201, 210};
     uint32_t chain[ZOHMIRKA_CHAIN_WORDS], kept[ZOHMIRKA_CHAIN_WORDS], state[ZOHMIRKA_STATE_WORDS] = {0}, store[3], out[4];
     uint8_t sheet[ZOHMIRKA_SHEET_BYTES];
-    expect(zohmirka_read_chain(bytes(SHEET), strlen(SHEET), chain, ZOHMIRKA_CHAIN_WORDS) == 0, "read");
-    for (int i = 0; i < 2; i++) {
+    expect(zohmirka_read_chain(bytes(SHEET), strlen(SHEET), chain, ZOHMIRKA_CHAIN_WORDS, NULL, 0) == 0, "read");
+    for (int i = 0; i < 3; i++) {
         size_t n = lengths[i];
         memset(kept, 0x5A, sizeof kept);
-        expect(zohmirka_read_chain(bytes(SHEET), strlen(SHEET), kept, n) == 12 && kept[0] == UINT32_C(0x5A5A5A5A), "read: places of an earlier version");
-        expect(zohmirka_judge_chain(chain, n) == 3, "judge_chain: words of an earlier version");
-        expect(zohmirka_write_chain(chain, n, sheet, sizeof sheet).refusal == 3, "write_chain: words of an earlier version");
-        expect(is(zohmirka_run_chain(chain, n, state, ZOHMIRKA_STATE_WORDS, store, 3, CELLS, 5, out, 4, 9), 3, ZOHMIRKA_REFUSED, 0, 0, 0),
+        expect(zohmirka_read_chain(bytes(SHEET), strlen(SHEET), kept, n, NULL, 0) == 12 && kept[0] == UINT32_C(0x5A5A5A5A), "read: places of an earlier version");
+        expect(zohmirka_judge_chain(chain, n, NULL, 0) == 3, "judge_chain: words of an earlier version");
+        expect(zohmirka_write_chain(chain, n, NULL, 0, sheet, sizeof sheet).refusal == 3, "write_chain: words of an earlier version");
+        expect(is(zohmirka_run_chain(chain, n, NULL, 0, state, ZOHMIRKA_STATE_WORDS, store, 3, CELLS, 5, out, 4, 9), 3, ZOHMIRKA_REFUSED, 0, 0, 0),
                "run_chain: words of an earlier version");
     }
 }
@@ -203,23 +311,30 @@ static void few_places(void) {
     expect(is(r, 0, ZOHMIRKA_DONE, 2, 2, 2) && out[0] == 4 && out[1] == 1 && out[2] == 5 && out[3] == 2, "enough places: the run goes on, whatever the store held at first");
 }
 
-/* 40 by 40 cells, and a window of 7 rows of 5 references without its corners: 31 of them. All iterations are rows 3 to 36, columns 2 to 37. */
-enum { ROWS = 40, FIRINGS = 34 * 36 };
+/* 40 by 40 cells, and a window of 7 rows of 5 references without its corners: 31 of them. All iterations are rows 3 to 36, columns 2 to 37. The same with each row a column
+ * further: all iterations are rows 3 to 36, in row y columns y + 4 to y + 35, and a box of them is rows 3 to 18, columns 22 to 38. */
+enum { ROWS = 40, FIRINGS = 34 * 36, SKEWED_FIRINGS = 34 * 32, BOX_FIRINGS = 16 * 17 };
 static const char *const KERNELS[4] = {"0400\n", "0401\n", "04023D000000\n", "04033F0000003C800000\n"};
 
-static void wide_request(char *text, const char *kernel, int boxed) {
-    text += sprintf(text, "0102%08X%08X\n", (unsigned)ROWS, (unsigned)ROWS);
+static void wide_request(char *text, const char *kernel, int skewed, int boxed) {
+    if (skewed) {
+        text += sprintf(text, "09%04X", (unsigned)ROWS);
+        for (unsigned y = 0; y < ROWS; y++) text += sprintf(text, "%04X%04X", y, (unsigned)ROWS);
+        text += sprintf(text, "\n");
+    } else {
+        text += sprintf(text, "0102%08X%08X\n", (unsigned)ROWS, (unsigned)ROWS);
+    }
     for (int y = -3; y <= 3; y++) {
         for (int x = -2; x <= 2; x++) {
             if (x * x + y * y != 13) text += sprintf(text, "02%04X%04X\n", (unsigned)(uint16_t)y, (unsigned)(uint16_t)x);
         }
     }
-    if (boxed) text += sprintf(text, "08%08X%08X%08X%08X\n", 3u, 36u, 2u, 37u);
+    if (boxed) text += skewed ? sprintf(text, "08%08X%08X%08X%08X\n", 3u, 18u, 22u, 38u) : sprintf(text, "08%08X%08X%08X%08X\n", 3u, 36u, 2u, 37u);
     strcpy(text, kernel);
 }
 
 struct job {
-    int kernel, piece, wrong;
+    int kernel, piece, skewed, wrong;
     uint32_t sum;
     /* Where the stack of a function begins that `runs` calls. */
     const char *top;
@@ -229,39 +344,45 @@ __attribute__((noinline)) static const char *stack_here(void) {
     return (const char *)__builtin_frame_address(0);
 }
 
-/* Plans, judges, reads and runs a chain, without a box or in a full one, in pieces, by its sheet or by its words; a sum over the words that it writes. */
+static int boxed(const struct job *job) {
+    return job->piece % 4 >= 2;
+}
+
+/* Plans, judges, reads and runs a chain, on a rectangle or on rows, without a box or in one, in pieces, by its sheet or by its words; a sum over the words that it writes. */
 static void *runs(void *lent) {
     struct job *job = lent;
     static const uint32_t refused_words[1] = {0};
     char request[1200];
+    uint32_t rows[ZOHMIRKA_ROW_NUMBERS];
     uint8_t sheet[ZOHMIRKA_SHEET_BYTES], again[ZOHMIRKA_SHEET_BYTES];
     uint32_t chain[ZOHMIRKA_CHAIN_WORDS], state[ZOHMIRKA_STATE_WORDS] = {0};
     uint32_t *store = malloc(ZOHMIRKA_STORE_WORDS * sizeof *store), *cells = malloc(ROWS * ROWS * sizeof *cells), *out = malloc(4096 * sizeof *out);
     for (uint32_t i = 0; i < ROWS * ROWS; i++) cells[i] = 0x3F800000u + i * 2654435761u % 0x00800000u;
     memset(store, job->piece, ZOHMIRKA_STORE_WORDS * sizeof *store);
-    wide_request(request, KERNELS[job->kernel], job->piece % 4 >= 2);
+    wide_request(request, KERNELS[job->kernel], job->skewed, boxed(job));
     job->top = stack_here();
     struct zohmirka_sheet planned = zohmirka_plan(bytes(request), strlen(request), sheet, sizeof sheet);
     job->wrong |= planned.refusal != 0 || zohmirka_version() != ZOHMIRKA_VERSION;
     job->wrong |= zohmirka_judge(sheet, planned.bytes) != 0 || zohmirka_judge(sheet, planned.bytes - 1) == 0;
-    job->wrong |= zohmirka_read_chain(sheet, planned.bytes, chain, ZOHMIRKA_CHAIN_WORDS) != 0;
-    job->wrong |= zohmirka_judge_chain(chain, ZOHMIRKA_CHAIN_WORDS) != 0;
-    struct zohmirka_sheet wrote = zohmirka_write_chain(chain, ZOHMIRKA_CHAIN_WORDS, again, sizeof again);
+    job->wrong |= zohmirka_read_chain(sheet, planned.bytes, chain, ZOHMIRKA_CHAIN_WORDS, rows, ZOHMIRKA_ROW_NUMBERS) != 0;
+    size_t numbers = 2 * (size_t)chain[ZOHMIRKA_CHAIN_ROWS];
+    job->wrong |= zohmirka_judge_chain(chain, ZOHMIRKA_CHAIN_WORDS, rows, numbers) != 0;
+    struct zohmirka_sheet wrote = zohmirka_write_chain(chain, ZOHMIRKA_CHAIN_WORDS, rows, numbers, again, sizeof again);
     job->wrong |= wrote.refusal != 0 || wrote.bytes != planned.bytes || memcmp(again, sheet, planned.bytes) != 0;
-    job->wrong |= zohmirka_run_chain(refused_words, 1, state, ZOHMIRKA_STATE_WORDS, store, 0, cells, 0, out, 0, 1).refusal != 3;
+    job->wrong |= zohmirka_run_chain(refused_words, 1, NULL, 0, state, ZOHMIRKA_STATE_WORDS, store, 0, cells, 0, out, 0, 1).refusal != 3;
     uint32_t at = 0, sum = 0, firings = 0, lent_cells = (uint32_t)job->piece;
     for (;;) {
         uint32_t count = ROWS * ROWS - at < lent_cells ? ROWS * ROWS - at : lent_cells;
         struct zohmirka_report r = job->piece % 2 ? zohmirka_run(sheet, planned.bytes, state, ZOHMIRKA_STATE_WORDS, store, ZOHMIRKA_STORE_WORDS, cells + at, count, out, 4096, 4000)
-                                                  : zohmirka_run_chain(chain, ZOHMIRKA_CHAIN_WORDS, state, ZOHMIRKA_STATE_WORDS, store, ZOHMIRKA_STORE_WORDS, cells + at, count,
-                                                                       out, 4096, 4000);
+                                                  : zohmirka_run_chain(chain, ZOHMIRKA_CHAIN_WORDS, rows, numbers, state, ZOHMIRKA_STATE_WORDS, store, ZOHMIRKA_STORE_WORDS,
+                                                                       cells + at, count, out, 4096, 4000);
         for (uint32_t i = 0; i < r.firings * (job->kernel == 0 ? chain[ZOHMIRKA_CHAIN_REFERENCES] : 1); i++) sum = sum * 31 + out[i];
         at += r.cells;
         firings += r.firings;
         job->wrong |= r.refusal != 0 || r.outcome == ZOHMIRKA_STALLED;
         if (r.outcome == ZOHMIRKA_DONE || job->wrong) break;
     }
-    job->wrong |= firings != FIRINGS;
+    job->wrong |= firings != (!job->skewed ? FIRINGS : boxed(job) ? BOX_FIRINGS : SKEWED_FIRINGS);
     job->sum = sum;
     free(store);
     free(cells);
@@ -269,19 +390,21 @@ static void *runs(void *lent) {
     return NULL;
 }
 
-/* Each kernel in pieces of two sizes, all at the same time, and each alone: the same words. */
+/* Each kernel in pieces of four sizes, on a rectangle and on rows, all at the same time, and each alone: the same words. A full box runs as none. */
 static void threads(void) {
-    pthread_t started[16];
-    struct job together[16], alone[16];
-    for (int i = 0; i < 16; i++) {
-        struct job job = {i % 4, i / 4 * 61 + 7, 0, 0, NULL};
+    pthread_t started[32];
+    struct job together[32], alone[32];
+    for (int i = 0; i < 32; i++) {
+        struct job job = {i % 4, i / 4 % 4 * 61 + 7, i / 16, 0, 0, NULL};
         together[i] = alone[i] = job;
         if (pthread_create(&started[i], NULL, runs, &together[i]) != 0) exit(2);
     }
-    for (int i = 0; i < 16; i++) pthread_join(started[i], NULL);
-    for (int i = 0; i < 16; i++) {
+    for (int i = 0; i < 32; i++) pthread_join(started[i], NULL);
+    for (int i = 0; i < 32; i++) {
         runs(&alone[i]);
-        expect(!together[i].wrong && !alone[i].wrong && together[i].sum == alone[i].sum && alone[i].sum == alone[i % 4].sum, "calls at the same time");
+        int first = 0;
+        while (alone[first].kernel != alone[i].kernel || alone[first].skewed != alone[i].skewed || (alone[i].skewed && boxed(&alone[first]) != boxed(&alone[i]))) first++;
+        expect(!together[i].wrong && !alone[i].wrong && together[i].sum == alone[i].sum && alone[i].sum == alone[first].sum, "calls at the same time");
     }
 }
 
@@ -289,14 +412,14 @@ static void threads(void) {
 static void stack(void) {
     enum { SIZE = 1 << 20 };
     size_t most = 0;
-    for (int i = 0; i < 16; i++) {
+    for (int i = 0; i < 32; i++) {
         void *lent;
         if (posix_memalign(&lent, 4096, SIZE) != 0) exit(2);
         char *low = lent;
         memset(low, 0x5A, SIZE);
         pthread_attr_t attributes;
         pthread_t started;
-        struct job job = {i % 4, i / 4 + 800, 0, 0, NULL};
+        struct job job = {i % 4, i / 4 % 4 + 800, i / 16, 0, 0, NULL};
         pthread_attr_init(&attributes);
         if (pthread_attr_setstack(&attributes, low, SIZE) != 0 || pthread_create(&started, &attributes, runs, &job) != 0) exit(2);
         pthread_join(started, NULL);
@@ -318,6 +441,7 @@ int main(void) {
     names();
     orders();
     boxes();
+    skewed();
     earlier_versions();
     few_places();
     threads();

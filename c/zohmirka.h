@@ -15,7 +15,8 @@
  * 6 no iteration, 7 difference or blend without a centre, 8 a factor that is infinite or not a number, 9 capacities summing above 16,384, 10 a store that is too
  * short, 11 a state that is too short or whose counters do not fit the chain, 12 what is to be written is longer than the slice lent for it, 13 (request sheets) a
  * byte that names no window, or one whose dimensions are not the grid's, 14 (chains; looked at after 9) an order that stood and does not hold each filter number
- * once, 15 (looked at after 6) a box that stood and has a lowest index above its highest, or an iteration that reads outside the grid.
+ * once, 15 (looked at after 6) a box that stood and has a lowest index above its highest, or an iteration that reads outside the grid, 16 (in place of 3 on a skewed
+ * grid) a row count, start or length outside its range.
  */
 #ifndef ZOHMIRKA_H
 #define ZOHMIRKA_H
@@ -28,13 +29,13 @@ extern "C" {
 #endif
 
 /* The version of this interface. */
-#define ZOHMIRKA_VERSION 3
+#define ZOHMIRKA_VERSION 4
 
 /* No call needs more bytes of stack, what it calls included. Measured, not proved. */
-#define ZOHMIRKA_STACK_BYTES 16384
+#define ZOHMIRKA_STACK_BYTES 24576
 
 /* No chain sheet has more bytes. */
-#define ZOHMIRKA_SHEET_BYTES 1141
+#define ZOHMIRKA_SHEET_BYTES 4919
 /* No chain that is accepted needs more words of store. */
 #define ZOHMIRKA_STORE_WORDS 16384
 /* No firing writes more words. Raw writes as many as there are references, the other kernels write one. */
@@ -43,9 +44,9 @@ extern "C" {
 /* A state is 33 words: the input counters of filters 0 to 31, then the firings made. All are 0 when fresh. */
 #define ZOHMIRKA_STATE_WORDS 33
 
-/* A chain is 210 words:
- *   0           the dimension count
- *   1 to 4      the sizes, slowest dimension first
+/* A chain is 212 words:
+ *   0           the dimension count, on a skewed grid 2
+ *   1 to 4      the sizes, slowest dimension first, on a skewed grid 0
  *   5           the number of references, n
  *   6 to 133    the offsets: entry d of filter k's offset, 16 bits in two's complement, at 6 + 4 * k + d
  *   134 to 164  the capacities, FIFO 0 first
@@ -56,9 +57,16 @@ extern "C" {
  *   201         1 if a box stood, else 0
  *   202 to 205  the lowest index of the box's iterations in each dimension, 32 bits in two's complement
  *   206 to 209  the highest index, the same way
+ *   210         1 if the grid is skewed, 0 if it is a rectangle
+ *   211         the number of rows of a skewed grid, else 0
  * Words past the counts are 0, and so are those of an order or a box that did not stand: then terms are added in chain order, and a run covers all iterations.
- * Version 1 had the first 168 words, version 2 the first 201. */
-#define ZOHMIRKA_CHAIN_WORDS 210
+ * Version 1 had the first 168 words, version 2 the first 201, version 3 the first 210. */
+#define ZOHMIRKA_CHAIN_WORDS 212
+
+/* The rows of a skewed grid are lent beside the words of its chain: for each row its start, 0 to 4095, then its length, 1 to 1024; 1 to 512 rows. Numbers past the
+ * count of word 211 play no part; where there are fewer, the missing ones are 0, and a length of 0 is 16. A rectangle needs none (NULL, 0), and what is lent beside it
+ * plays no part. No chain that is accepted has more numbers. */
+#define ZOHMIRKA_ROW_NUMBERS 1024
 
 /* Where the parts of a chain begin. */
 enum {
@@ -73,7 +81,9 @@ enum {
     ZOHMIRKA_CHAIN_ORDER = 169,
     ZOHMIRKA_CHAIN_BOX_STOOD = 201,
     ZOHMIRKA_CHAIN_BOX_LOWEST = 202,
-    ZOHMIRKA_CHAIN_BOX_HIGHEST = 206
+    ZOHMIRKA_CHAIN_BOX_HIGHEST = 206,
+    ZOHMIRKA_CHAIN_SKEWED = 210,
+    ZOHMIRKA_CHAIN_ROWS = 211
 };
 
 /* How a call ends. */
@@ -103,14 +113,14 @@ struct zohmirka_report {
 uint32_t zohmirka_version(void);
 
 /* Plans: the chain sheet of a request sheet goes to the first places of `sheet`, later places stay. The order of the references in the request goes with it, and
- * the kernel adds its terms in it; the request's box, where one stood, is copied. Refusals: 1 to 9, 13 and 15 of the request, then 12 if the chain sheet has more
- * bytes than `sheet`. */
+ * the kernel adds its terms in it; the request's rows and its box, where they stood, are copied. Refusals: 1 to 9, 13, 15 and 16 of the request, then 12 if the chain
+ * sheet has more bytes than `sheet`. */
 struct zohmirka_sheet zohmirka_plan(const uint8_t *request, size_t request_len, uint8_t *sheet, size_t sheet_len);
 
-/* Judges a chain sheet, which ends with its `04` line: 1 to 9, 14 or 15, or 0 if it is accepted. */
+/* Judges a chain sheet, which ends with its `04` line: 1 to 9, 14, 15 or 16, or 0 if it is accepted. */
 uint32_t zohmirka_judge(const uint8_t *sheet, size_t sheet_len);
 
-/* A run call on the chain of a sheet. Refusals: 1 to 9, 14 and 15 of the sheet, then 10, then 11.
+/* A run call on the chain of a sheet. Refusals: 1 to 9, 14, 15 and 16 of the sheet, then 10, then 11.
  *   state      33 words or more: all 0 before the first call, then as the last call left them; later words play no part and stay
  *   store      as many words as the capacities' sum or more: of any content before the first call, then as the last call left them; later words play no part and stay
  *   cells      cells of the stream, the first one at the position that word 0 of the state says
@@ -120,23 +130,26 @@ uint32_t zohmirka_judge(const uint8_t *sheet, size_t sheet_len);
 struct zohmirka_report zohmirka_run(const uint8_t *sheet, size_t sheet_len, uint32_t *state, size_t state_len, uint32_t *store, size_t store_len,
                                     const uint32_t *cells, size_t cells_len, uint32_t *out, size_t out_len, uint32_t allowance);
 
-/* Reads a chain sheet: its chain goes to the first 210 places of `chain`, later places stay. Refusals: 1 to 9, 14 and 15 of the sheet, then 12 if `chain` has fewer
- * places. */
-uint32_t zohmirka_read_chain(const uint8_t *sheet, size_t sheet_len, uint32_t *chain, size_t chain_len);
+/* Reads a chain sheet: its chain goes to the first 212 places of `chain`, the numbers of its rows, two for each, to the first places of `rows`; later places stay. Of a
+ * rectangle nothing goes to `rows`. Refusals: 1 to 9, 14, 15 and 16 of the sheet, then 12 if `chain` or `rows` has fewer places: ZOHMIRKA_ROW_NUMBERS are enough for
+ * any sheet. */
+uint32_t zohmirka_read_chain(const uint8_t *sheet, size_t sheet_len, uint32_t *chain, size_t chain_len, uint32_t *rows, size_t rows_len);
 
-/* A run call on a chain given as words, for many short calls: no sheet is read. On what zohmirka_read_chain wrote of a sheet it does what zohmirka_run does on that
- * sheet. Any other words are a chain too. Refusals: 3 to 9, 14 and 15 of the chain, then 10, then 11. Fewer than 210 words are refused by 3, the 168 and 201 words
- * of earlier versions too; later words play no part; counts and filter numbers above 255 count as 255; of an entry the low 16 bits count; a kernel above 3 is refused
- * by 8; an order stood if word 168 is not 0, and a box if word 201 is not 0, else its words play no part. */
-struct zohmirka_report zohmirka_run_chain(const uint32_t *chain, size_t chain_len, uint32_t *state, size_t state_len, uint32_t *store, size_t store_len,
-                                          const uint32_t *cells, size_t cells_len, uint32_t *out, size_t out_len, uint32_t allowance);
+/* A run call on a chain given as words, with its rows beside them, for many short calls: no sheet is read. On what zohmirka_read_chain wrote of a sheet it does what
+ * zohmirka_run does on that sheet. Any other words and numbers are a chain too. Refusals: 3 to 9, 14, 15 and 16 of the chain, then 10, then 11. Fewer than 212 words are
+ * refused by 3, the 168, 201 and 210 words of earlier versions too; later words play no part; counts and filter numbers above 255 count as 255; of an entry the low 16
+ * bits count; a kernel above 3 is refused by 8; an order stood if word 168 is not 0, and a box if word 201 is not 0, else its words play no part; the grid is skewed if
+ * word 210 is not 0, and then words 0 to 4 play no part, else word 211 and the rows do not. */
+struct zohmirka_report zohmirka_run_chain(const uint32_t *chain, size_t chain_len, const uint32_t *rows, size_t rows_len, uint32_t *state, size_t state_len,
+                                          uint32_t *store, size_t store_len, const uint32_t *cells, size_t cells_len, uint32_t *out, size_t out_len,
+                                          uint32_t allowance);
 
-/* Judges a chain given as words, as zohmirka_run_chain takes them: 3 to 9, 14 or 15, or 0 if it is accepted. */
-uint32_t zohmirka_judge_chain(const uint32_t *chain, size_t chain_len);
+/* Judges a chain given as words and rows, as zohmirka_run_chain takes them: 3 to 9, 14, 15 or 16, or 0 if it is accepted. */
+uint32_t zohmirka_judge_chain(const uint32_t *chain, size_t chain_len, const uint32_t *rows, size_t rows_len);
 
-/* Writes the sheet of a chain given as words, as zohmirka_run_chain takes them: it goes to the first places of `sheet`, later places stay. Of what zohmirka_read_chain
- * wrote of a sheet it is that sheet. Refusals: 3 to 9, 14 and 15 of the chain, then 12 if the chain sheet has more bytes than `sheet`. */
-struct zohmirka_sheet zohmirka_write_chain(const uint32_t *chain, size_t chain_len, uint8_t *sheet, size_t sheet_len);
+/* Writes the sheet of a chain given as words and rows, as zohmirka_run_chain takes them: it goes to the first places of `sheet`, later places stay. Of what
+ * zohmirka_read_chain wrote of a sheet it is that sheet. Refusals: 3 to 9, 14, 15 and 16 of the chain, then 12 if the chain sheet has more bytes than `sheet`. */
+struct zohmirka_sheet zohmirka_write_chain(const uint32_t *chain, size_t chain_len, const uint32_t *rows, size_t rows_len, uint8_t *sheet, size_t sheet_len);
 
 #ifdef __cplusplus
 }

@@ -50,38 +50,38 @@ share from count f n l e1 e2 =
     let b : n ≡ min count (length (drop f l)) = e2 ∙ ap (min count) (sym (length-rest f l)) in
     ap (λ m. take m (drop f l)) a ∙ take-least n count (drop f l) b ∙ ap (take count) (drop-least f from l e1)
 
-pub lent-part : (r : Ran) (after part : List ℕ) (c : Chain) (s : State) (h : Share) (cells store out : List ℕ) (f n end : ℕ)
+pub lent-part : (r : Ran) (after part : List ℕ) (c : Chain) (numbers : List ℕ) (s : State) (h : Share) (cells store out : List ℕ) (f n end : ℕ)
     → f ≡ min (h .from) (length cells) → n ≡ min (h .count) (length cells - f) → end ≡ min (h .places) (length out)
-    → ranOf r after part ≡ runOf c [] s store (take ((f + n) - f) (drop f cells)) (take end out) (h .clocks)
-    → ranOf r after (part ++ drop end out) ≡ lent c s h cells store out
+    → ranOf r after part ≡ runOf c numbers s store (take ((f + n) - f) (drop f cells)) (take end out) (h .clocks)
+    → ranOf r after (part ++ drop end out) ≡ lent c numbers s h cells store out
 unfolding lent
-lent-part r after part c s h cells store out f n end e1 e2 e3 e =
+lent-part r after part c numbers s h cells store out f n end e1 e2 e3 e =
     let i : take ((f + n) - f) (drop f cells) ≡ take (h .count) (drop (h .from) cells) = share (h .from) (h .count) f n cells e1 e2 in
     let j : take end out ≡ take (h .places) out = take-least end (h .places) out e3 in
     let k : drop end out ≡ drop (h .places) out = drop-least end (h .places) out e3 in
     let whole : List ℕ → Left → Left = λ rest l. record { answer = l .answer; state = l .state; store = l .store; output = l .output ++ rest } in
-    ap (whole (drop end out)) (e ∙ ap (λ x. runOf c [] s store x (take end out) (h .clocks)) i ∙ ap (λ x. runOf c [] s store (take (h .count) (drop (h .from) cells)) x (h .clocks)) j)
-    ∙ ap (λ rest. whole rest (runOf c [] s store (take (h .count) (drop (h .from) cells)) (take (h .places) out) (h .clocks))) k
+    ap (whole (drop end out)) (e ∙ ap (λ x. runOf c numbers s store x (take end out) (h .clocks)) i ∙ ap (λ x. runOf c numbers s store (take (h .count) (drop (h .from) cells)) x (h .clocks)) j)
+    ∙ ap (λ rest. whole rest (runOf c numbers s store (take (h .count) (drop (h .from) cells)) (take (h .places) out) (h .clocks))) k
 
 -- A turn of the calls: the last, or one before others.
-pub last-call : (n : ℕ) (c : Chain) (pieces : Bool) (width : ℕ) (cells : List ℕ) (k : Course) (r : Run) (store out : List ℕ)
-    → 0 < n → course r store out ≡ called c pieces width cells k → stopped (r .words) (r .done) (r .broken) ≡ true
-    → course r store out ≡ calledOn n c pieces width cells k
+pub last-call : (n : ℕ) (c : Chain) (numbers : List ℕ) (pieces : Bool) (width : ℕ) (cells : List ℕ) (k : Course) (r : Run) (store out : List ℕ)
+    → 0 < n → course r store out ≡ called c numbers pieces width cells k → stopped (r .words) (r .done) (r .broken) ≡ true
+    → course r store out ≡ calledOn n c numbers pieces width cells k
 unfolding calledOn
-last-call zero c pieces width cells k r store out h e s = absurd (omega (arith, h))
-last-call (suc n) c pieces width cells k r store out h e s = rw (sym e, s)
+last-call zero c numbers pieces width cells k r store out h e s = absurd (omega (arith, h))
+last-call (suc n) c numbers pieces width cells k r store out h e s = rw (sym e, s)
 
-pub one-call : (n : ℕ) (c : Chain) (pieces : Bool) (width : ℕ) (cells : List ℕ) (k : Course) (r : Run) (store out : List ℕ)
-    → 0 < n → course r store out ≡ called c pieces width cells k → stopped (r .words) (r .done) (r .broken) ≡ false
-    → calledOn (n - 1) c pieces width cells (course r store out) ≡ calledOn n c pieces width cells k
+pub one-call : (n : ℕ) (c : Chain) (numbers : List ℕ) (pieces : Bool) (width : ℕ) (cells : List ℕ) (k : Course) (r : Run) (store out : List ℕ)
+    → 0 < n → course r store out ≡ called c numbers pieces width cells k → stopped (r .words) (r .done) (r .broken) ≡ false
+    → calledOn (n - 1) c numbers pieces width cells (course r store out) ≡ calledOn n c numbers pieces width cells k
 unfolding calledOn
-one-call zero c pieces width cells k r store out h e s = absurd (omega (arith, h))
-one-call (suc n) c pieces width cells k r store out h e s = let m : suc n - 1 ≡ n = omega arith in rw (sym e, s, m)
+one-call zero c numbers pieces width cells k r store out h e s = absurd (omega (arith, h))
+one-call (suc n) c numbers pieces width cells k r store out h e s = let m : suc n - 1 ≡ n = omega arith in rw (sym e, s, m)
 
-pub no-calls : (n : ℕ) (c : Chain) (pieces : Bool) (width : ℕ) (cells : List ℕ) (k : Course) → n ≤ 0 → k ≡ calledOn n c pieces width cells k
+pub no-calls : (n : ℕ) (c : Chain) (numbers : List ℕ) (pieces : Bool) (width : ℕ) (cells : List ℕ) (k : Course) → n ≤ 0 → k ≡ calledOn n c numbers pieces width cells k
 unfolding calledOn
-no-calls zero c pieces width cells k h = refl
-no-calls (suc n) c pieces width cells k h = absurd (omega (arith, h))
+no-calls zero c numbers pieces width cells k h = refl
+no-calls (suc n) c numbers pieces width cells k h = absurd (omega (arith, h))
 
 pub after-call : (r : Run) (s : State) (a : Answer) (width : ℕ) (c : Counts) (e calls cells firings clocks words : ℕ)
     → c ≡ answerCounts a → e ≡ endOf a
@@ -103,17 +103,17 @@ pub after-call : (r : Run) (s : State) (a : Answer) (width : ℕ) (c : Counts) (
 unfolding afterCall
 after-call r s a width c e calls cells firings clocks words e1 e2 e3 e4 e5 e6 e7 = rw (e3, e4, e5, e6, e7, e1, e2)
 
-pub next-call : (c : Chain) (pieces : Bool) (width : ℕ) (cells store out : List ℕ) (r : Run) (h : Share) (ran : Ran) (left written : List ℕ) (n : Run)
-    → h ≡ shareOf pieces (r .calls) (r .cells) → ranOf ran left written ≡ lent c (r .state) h cells store out → n ≡ afterCall r (ran .state) (ran .answer) width
-    → course n left written ≡ called c pieces width cells (course r store out)
+pub next-call : (c : Chain) (numbers : List ℕ) (pieces : Bool) (width : ℕ) (cells store out : List ℕ) (r : Run) (h : Share) (ran : Ran) (left written : List ℕ) (n : Run)
+    → h ≡ shareOf pieces (r .calls) (r .cells) → ranOf ran left written ≡ lent c numbers (r .state) h cells store out → n ≡ afterCall r (ran .state) (ran .answer) width
+    → course n left written ≡ called c numbers pieces width cells (course r store out)
 unfolding called
-next-call c pieces width cells store out r h ran left written n e1 e2 e3 = rw (sym e1, sym e2, e3)
+next-call c numbers pieces width cells store out r h ran left written n e1 e2 e3 = rw (sym e1, sym e2, e3)
 
-pub first-clocks : (c : Chain) (s : State) (cells store out : List ℕ) (r : Ran) (left written : List ℕ) (before : Counts) (from : ℕ) (q : Ran) (left2 written2 : List ℕ) (next : Counts)
-    → s ≡ fresh → ranOf r left written ≡ lent c s (record { from = 0; count = 1048576; places = 0; clocks = 4294967295 }) cells store out
+pub first-clocks : (c : Chain) (numbers : List ℕ) (s : State) (cells store out : List ℕ) (r : Ran) (left written : List ℕ) (before : Counts) (from : ℕ) (q : Ran) (left2 written2 : List ℕ) (next : Counts)
+    → s ≡ fresh → ranOf r left written ≡ lent c numbers s (record { from = 0; count = 1048576; places = 0; clocks = 4294967295 }) cells store out
     → before ≡ answerCounts (r .answer) → from ≡ before .cells
-    → ranOf q left2 written2 ≡ lent c (r .state) (oneClock from) cells left written → next ≡ answerCounts (q .answer)
-    → (let f : FirstFiring = record { before = before; next = next } in f) ≡ firstFiring c cells store out
+    → ranOf q left2 written2 ≡ lent c numbers (r .state) (oneClock from) cells left written → next ≡ answerCounts (q .answer)
+    → (let f : FirstFiring = record { before = before; next = next } in f) ≡ firstFiring c numbers cells store out
 unfolding firstFiring
-first-clocks c s cells store out r left written before from q left2 written2 next e1 e2 e3 e4 e5 e6 =
+first-clocks c numbers s cells store out r left written before from q left2 written2 next e1 e2 e3 e4 e5 e6 =
     rw (sym e1, sym e2, sym e3, sym e4, sym e5, sym e6)

@@ -41,14 +41,34 @@ fn agreeing_at(
     agreeing(&words, width, out, at, end)
 }
 
-// Every word of a run, in order, beside what the nested loop reads.
+// How many of an iteration's references read a cell: `inside` is 1 at each cell.
+fn reads_cells(l: Loops, window: &[u8], inside: &[u32], z: usize, y: usize, x: usize) -> usize {
+    let mut cells = [0u32; 32];
+    let ones = [1u32; 32];
+    gather(l, window, inside, z, y, x, &mut cells);
+    agreeing(&cells, references(window), &ones, 0, 32)
+}
+
+// On a skewed grid the loops go over the rectangle around it, and what reads outside is no iteration.
+fn is_iteration(l: Loops, window: &[u8], inside: &[u32], z: usize, y: usize, x: usize) -> bool {
+    if inside.len() == 0 {
+        return true;
+    }
+    reads_cells(l, window, inside, z, y, x) == references(window)
+}
+
+// Every word of a run, in order, beside what the nested loop reads: from `field`, which is the stream of a rectangle, or that of a skewed grid laid into the
+// rectangle around it, where `inside` says which places are cells (empty: all).
 pub fn compare(
     l: Loops,
     kernel: Kernel,
     chain: Chain,
+    rows: &[u32],
     pieces: bool,
     window: &[u8],
     cells: &[u32],
+    field: &[u32],
+    inside: &[u32],
     store: &mut [u32],
     out: &mut [u32],
 ) -> Compared
@@ -64,15 +84,18 @@ pub fn compare(
     for z in l.z_first..z_end {
         for y in l.y_first..y_end {
             for x in l.x_first..x_end {
+                if !is_iteration(l, window, inside, z, y, x) {
+                    continue;
+                }
                 if at == run.words {
-                    run = more(chain, run, pieces, width, cells, store, out);
+                    run = more(chain, rows, run, pieces, width, cells, store, out);
                     at = 0;
                 }
                 let same = agreeing_at(
                     l,
                     kernel,
                     window,
-                    cells,
+                    field,
                     z,
                     y,
                     x,

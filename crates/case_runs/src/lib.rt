@@ -73,23 +73,24 @@ pub fn begin() -> Run
     }
 }
 
-// A call with its share of the cells and of the output, and with no rows beside the chain.
+// A call with its share of the cells and of the output.
 pub fn lend(
     chain: Chain,
+    rows: &[u32],
     state: State,
     share: Share,
     cells: &[u32],
     store: &mut [u32],
     out: &mut [u32],
 ) -> Ran
-    ensures { λ r. ⌜ ranOf r (now (store .exit)) (now (out .exit)) ≡ lent chain state share (now (cells .entry)) (now (store .entry)) (now (out .entry)) ⌝ }
+    ensures { λ r. ⌜ ranOf r (now (store .exit)) (now (out .exit)) ≡ lent chain (now (rows .entry)) state share (now (cells .entry)) (now (store .entry)) (now (out .entry)) ⌝ }
 {
     let from = lesser(share.from, cells.len());
     let count = lesser(share.count, cells.len() - from);
     let end = lesser(share.places, out.len());
     runner::run(
         chain,
-        &[],
+        rows,
         state,
         store,
         &cells[from..from + count],
@@ -119,8 +120,14 @@ pub fn counts(a: Answer) -> Counts
 }
 
 // Without an output place a fresh run makes all clocks before its first firing; then it gets places and one clock more.
-pub fn first_firing(chain: Chain, cells: &[u32], store: &mut [u32], out: &mut [u32]) -> FirstFiring
-    ensures { λ r. ⌜ r ≡ firstFiring chain (now (cells .entry)) (now (store .entry)) (now (out .entry)) ⌝ }
+pub fn first_firing(
+    chain: Chain,
+    rows: &[u32],
+    cells: &[u32],
+    store: &mut [u32],
+    out: &mut [u32],
+) -> FirstFiring
+    ensures { λ r. ⌜ r ≡ firstFiring chain (now (rows .entry)) (now (cells .entry)) (now (store .entry)) (now (out .entry)) ⌝ }
 {
     let all = Share {
         from: 0,
@@ -128,7 +135,7 @@ pub fn first_firing(chain: Chain, cells: &[u32], store: &mut [u32], out: &mut [u
         places: 0,
         clocks: 4294967295,
     };
-    let r = lend(chain, fresh(), all, cells, store, out);
+    let r = lend(chain, rows, fresh(), all, cells, store, out);
     let answer = r.answer;
     let before = counts(answer);
     let state = r.state;
@@ -138,7 +145,7 @@ pub fn first_firing(chain: Chain, cells: &[u32], store: &mut [u32], out: &mut [u
         places: 32,
         clocks: 1,
     };
-    let s = lend(chain, state, one, cells, store, out);
+    let s = lend(chain, rows, state, one, cells, store, out);
     let answer = s.answer;
     FirstFiring {
         before,
@@ -220,6 +227,7 @@ fn share_of(pieces: bool, call: usize, from: usize) -> Share
 
 fn call(
     chain: Chain,
+    rows: &[u32],
     run: Run,
     pieces: bool,
     width: usize,
@@ -227,11 +235,11 @@ fn call(
     store: &mut [u32],
     out: &mut [u32],
 ) -> Run
-    ensures { λ r. ⌜ course r (now (store .exit)) (now (out .exit)) ≡ called chain pieces width (now (cells .entry)) (course run (now (store .entry)) (now (out .entry))) ⌝ }
+    ensures { λ r. ⌜ course r (now (store .exit)) (now (out .exit)) ≡ called chain (now (rows .entry)) pieces width (now (cells .entry)) (course run (now (store .entry)) (now (out .entry))) ⌝ }
 {
     let state = run.state;
     let share = share_of(pieces, run.calls, run.cells);
-    let ran = lend(chain, state, share, cells, store, out);
+    let ran = lend(chain, rows, state, share, cells, store, out);
     after(run, ran, width)
 }
 
@@ -244,6 +252,7 @@ fn stops(words: usize, done: bool, broken: bool) -> bool
 // Calls until one has written a word, or the run has ended; at most 100,000.
 pub fn more(
     chain: Chain,
+    rows: &[u32],
     run: Run,
     pieces: bool,
     width: usize,
@@ -251,12 +260,12 @@ pub fn more(
     store: &mut [u32],
     out: &mut [u32],
 ) -> Run
-    ensures { λ r. ⌜ course r (now (store .exit)) (now (out .exit)) ≡ calledOn 100000 chain pieces width (now (cells .entry)) (course run (now (store .entry)) (now (out .entry))) ⌝ }
+    ensures { λ r. ⌜ course r (now (store .exit)) (now (out .exit)) ≡ calledOn 100000 chain (now (rows .entry)) pieces width (now (cells .entry)) (course run (now (store .entry)) (now (out .entry))) ⌝ }
 {
     let mut r = run;
     let mut left: u32 = 100000;
     while 0 < left {
-        r = call(chain, r, pieces, width, cells, store, out);
+        r = call(chain, rows, r, pieces, width, cells, store, out);
         left -= 1;
         if stops(r.words, r.done, r.broken) {
             return r;

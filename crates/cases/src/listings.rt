@@ -45,7 +45,7 @@ fn run(chain: Chain) {
 // The chain as a sheet.
 fn sheet(chain: Chain) {
     let mut text = [0u8; 256];
-    let w = sheet_calls::write_chain(chain, &mut text);
+    let w = sheet_calls::write_chain(chain, &[], &mut text);
     let n = w.bytes;
     if n <= 256 {
         io::write_all(STDOUT_FILENO, &text[..n]);

@@ -1,7 +1,8 @@
-// Cases 1 to 5 of document 01, the totals of the paper's Table 4, runs of a box and the two printed listings: the library's plans and runs, and every word of
-// the runs compared with a plain nested loop.
+// Cases 1 to 5 of document 01, the totals of the paper's Table 4, runs of a box, runs on skewed grids and the two printed listings: the library's plans and runs,
+// and every word of the runs compared with a plain nested loop.
 mod cells;
 mod listings;
+mod maps;
 mod report;
 
 fn main() {

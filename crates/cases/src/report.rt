@@ -1,4 +1,8 @@
 // What is written of each case.
+use crate::maps::COLUMNS;
+use crate::maps::lay;
+use crate::maps::slanted;
+use crate::maps::torn;
 use case_runs::compare::Compared;
 use case_runs::compare::compare;
 use libc::STDOUT_FILENO;
@@ -7,9 +11,12 @@ use model::Counts;
 use model::Factors;
 use model::Kernel;
 use model::Refusal;
+use model::Request;
 use model::Verdict;
+use nested::requests::on_rows;
 use nested::requests::request;
 use nested::windows::Loops;
+use nested::windows::around;
 use nested::windows::flat;
 use nested::windows::over_box;
 use nested::windows::small;
@@ -75,10 +82,10 @@ fn first_clock(before: Counts, next: Counts) {
     }
 }
 
-fn first_firing(chain: Chain, cells: &[u32]) {
+fn first_firing(chain: Chain, rows: &[u32], cells: &[u32]) {
     let mut store = [0u32; 16384];
     let mut out = [0u32; 32];
-    let f = case_runs::first_firing(chain, cells, &mut store, &mut out);
+    let f = case_runs::first_firing(chain, rows, cells, &mut store, &mut out);
     let before = f.before;
     let next = f.next;
     first_clock(before, next);
@@ -128,13 +135,28 @@ fn compared(
     l: Loops,
     kernel: Kernel,
     chain: Chain,
+    rows: &[u32],
     pieces: bool,
     window: &[u8],
     cells: &[u32],
+    field: &[u32],
+    inside: &[u32],
     out: &mut [u32],
 ) {
     let mut store = [0u32; 16384];
-    let c = compare(l, kernel, chain, pieces, window, cells, &mut store, out);
+    let c = compare(
+        l,
+        kernel,
+        chain,
+        rows,
+        pieces,
+        window,
+        cells,
+        field,
+        inside,
+        &mut store,
+        out,
+    );
     comparison(c, pieces);
 }
 
@@ -153,44 +175,149 @@ fn name(kernel: Kernel) {
     }
 }
 
+// The request of a case: on so many rows, on a rectangle where there are none.
+fn asked(l: Loops, author: &[u8], kernel: Kernel, count: u32) -> Request {
+    let r = request(l, author, kernel);
+    if count == 0 {
+        return r;
+    }
+    on_rows(r, count)
+}
+
 // Lent whole, and lent in pieces. `author`: the window as its author wrote it; `window`: in the order in which the nested loop goes.
 fn with_kernel(
     l: Loops,
     kernel: Kernel,
     author: &[u8],
     window: &[u8],
+    count: u32,
+    rows: &[u32],
     cells: &[u32],
+    field: &[u32],
+    inside: &[u32],
     out: &mut [u32],
 ) {
-    let p = planner::plan(request(l, author, kernel), &[]);
+    let p = planner::plan(asked(l, author, kernel, count), rows);
     let verdict = p.verdict;
     let chain = p.chain;
     name(kernel);
     match verdict {
         Verdict::Accepted => {
-            compared(l, kernel, chain, false, window, cells, out);
-            compared(l, kernel, chain, true, window, cells, out);
+            compared(
+                l,
+                kernel,
+                chain,
+                rows,
+                false,
+                window,
+                cells,
+                field,
+                inside,
+                out,
+            );
+            compared(
+                l,
+                kernel,
+                chain,
+                rows,
+                true,
+                window,
+                cells,
+                field,
+                inside,
+                out,
+            );
         }
         Verdict::Refused(r) => refused(r),
     }
 }
 
 // Kernels add in the author's order; raw keeps chain order, in which offsets fall.
-fn with_kernels(l: Loops, author: &[u8], falling: &[u8], cells: &[u32], out: &mut [u32]) {
+fn with_kernels(
+    l: Loops,
+    author: &[u8],
+    falling: &[u8],
+    count: u32,
+    rows: &[u32],
+    cells: &[u32],
+    field: &[u32],
+    inside: &[u32],
+    out: &mut [u32],
+) {
     let f = Factors { a: 0.6, b: 0.1 };
-    with_kernel(l, Kernel::Raw, author, falling, cells, out);
-    with_kernel(l, Kernel::Difference, author, author, cells, out);
-    with_kernel(l, Kernel::Scaled(0.2), author, author, cells, out);
-    with_kernel(l, Kernel::Blend(f), author, author, cells, out);
+    with_kernel(
+        l,
+        Kernel::Raw,
+        author,
+        falling,
+        count,
+        rows,
+        cells,
+        field,
+        inside,
+        out,
+    );
+    with_kernel(
+        l,
+        Kernel::Difference,
+        author,
+        author,
+        count,
+        rows,
+        cells,
+        field,
+        inside,
+        out,
+    );
+    with_kernel(
+        l,
+        Kernel::Scaled(0.2),
+        author,
+        author,
+        count,
+        rows,
+        cells,
+        field,
+        inside,
+        out,
+    );
+    with_kernel(
+        l,
+        Kernel::Blend(f),
+        author,
+        author,
+        count,
+        rows,
+        cells,
+        field,
+        inside,
+        out,
+    );
 }
 
-fn case(name: &[u8], l: Loops, author: &[u8], falling: &[u8], cells: &[u32], out: &mut [u32]) {
-    let p = planner::plan(request(l, author, Kernel::Raw), &[]);
+fn case_on(
+    name: &[u8],
+    l: Loops,
+    author: &[u8],
+    falling: &[u8],
+    count: u32,
+    rows: &[u32],
+    cells: &[u32],
+    field: &[u32],
+    inside: &[u32],
+    out: &mut [u32],
+) {
+    let p = planner::plan(asked(l, author, Kernel::Raw, count), rows);
     let chain = p.chain;
     text(name);
     fifos(chain);
-    first_firing(chain, cells);
-    with_kernels(l, author, falling, cells, out);
+    first_firing(chain, rows, cells);
+    with_kernels(l, author, falling, count, rows, cells, field, inside, out);
+}
+
+// On a rectangle, whose stream the nested loop reads as it is.
+fn case(name: &[u8], l: Loops, author: &[u8], falling: &[u8], cells: &[u32], out: &mut [u32]) {
+    case_on(name, l, author, falling, 0, &[], cells, cells, &[], out);
 }
 
 // Case 1 is Listing 1 of document 003: centre, left, right, up, down.
@@ -290,12 +417,97 @@ fn small_boxes(cells: &[u32], out: &mut [u32]) {
     );
 }
 
+// Five points on rows that slant, all of them and in a box.
+fn on_slanted(
+    rows: &[u32; 400],
+    cells: &[u32],
+    field: &[u32; 60000],
+    inside: &[u32; 60000],
+    out: &mut [u32],
+) {
+    let l = around(200, COLUMNS, 0);
+    case_on(
+        b"200 rows of 100, each a column further on\n",
+        l,
+        b"000 00- 00+ 0-0 0+0",
+        b"0+0 00+ 000 00- 0-0",
+        200,
+        rows,
+        cells,
+        field,
+        inside,
+        out,
+    );
+    let l = over_box(l, 0, 1, 100, 103, 103, 199);
+    case_on(
+        b"200 rows of 100, each a column further on, in a box: rows 100 to 102, columns 103 to 198\n",
+        l,
+        b"000 00- 00+ 0-0 0+0",
+        b"0+0 00+ 000 00- 0-0",
+        200,
+        rows,
+        cells,
+        field,
+        inside,
+        out,
+    );
+}
+
+// Nine points on rows that vary; what is lent behind the last of them plays no part.
+fn on_torn(
+    rows: &[u32; 400],
+    cells: &[u32],
+    field: &[u32; 60000],
+    inside: &[u32; 60000],
+    out: &mut [u32],
+) {
+    case_on(
+        b"40 rows of many starts and lengths\n",
+        around(40, COLUMNS, 4),
+        b"0-- 0-0 0-+ 00- 000 00+ 0+- 0+0 0++",
+        b"0++ 0+0 0+- 00+ 000 00- 0-+ 0-0 0--",
+        40,
+        rows,
+        cells,
+        field,
+        inside,
+        out,
+    );
+}
+
+fn slanted_cases(cells: &[u32], out: &mut [u32]) {
+    let mut field = [0u32; 60000];
+    let mut inside = [0u32; 60000];
+    let mut rows = [0u32; 400];
+    slanted(&mut rows);
+    lay(&rows, cells, &mut field, &mut inside);
+    on_slanted(&rows, cells, &field, &inside, out);
+}
+
+fn torn_case(cells: &[u32], out: &mut [u32]) {
+    let mut field = [0u32; 60000];
+    let mut inside = [0u32; 60000];
+    let mut rows = [0u32; 400];
+    torn(&mut rows);
+    lay(&rows, cells, &mut field, &mut inside);
+    on_torn(&rows, cells, &field, &inside, out);
+}
+
 // The smaller grid takes the first `count` cells.
 fn on_front(count: usize, cells: &[u32], out: &mut [u32]) {
     if cells.len() < count {
         return;
     }
     solid_cases(&cells[..count], out);
+}
+
+// Here too smaller grids take the first cells.
+fn maps(cells: &[u32], out: &mut [u32]) {
+    if cells.len() < 20000 {
+        return;
+    }
+    slanted_cases(&cells[..20000], out);
+    torn_case(&cells[..1000], out);
 }
 
 // Runs of a box. Here too smaller grids take the first cells.
@@ -308,9 +520,10 @@ fn boxes(cells: &[u32], out: &mut [u32]) {
     small_boxes(&cells[..20], out);
 }
 
-// Cases 1 to 5, and boxes.
+// Cases 1 to 5, boxes and skewed grids.
 pub(crate) fn cases(cells: &[u32; 786432], out: &mut [u32; 786432]) {
     flat_cases(cells, out);
     on_front(40960, cells, out);
     boxes(cells, out);
+    maps(cells, out);
 }

@@ -10,7 +10,7 @@ use lib.ListN.{length, getD, drop}
 use Rattle.model.specs.Lists.{tabulate, upTo}
 use Rattle.model.specs.Boxes.{Part}
 use Rattle.model.specs.Boxes.Part.{whole, box}
-use Rattle.model.specs.Grounds.{Row, groundSizes}
+use Rattle.model.specs.Grounds.{Row}
 use Rattle.model.specs.Grounds.Ground.{rectangle, rows}
 use Rattle.model.specs.Values.{Trimmed, sizesOf, rowsOf, groundOf, dimsOf, offsetOf, offsetsOf, partOf, capacitiesOf, orderOf, trimmedOf, onGrid, trimmed, chainOf, blankChain, Same}
 use Rattle.model.specs.Answers.{check, firstOf, byVerdict}
@@ -19,7 +19,7 @@ use Rattle.model.specs.Steps.{sorted, distances}
 use Rattle.model.specs.Planning.{trimmedRequest, judgeRequest, plannedChain, planOf}
 use Rattle.model.specs.Frames.{framed}
 use Rattle.model.specs.Numbers.{wordBytes, wordPattern}
-use Rattle.model.specs.Writing.{gridLine, offsetLine, indexPair, boxLines, capacityLine, orderLines, kernelLine, chainLines, sheetOf, writeVerdict, Written, writeOf}
+use Rattle.model.specs.Writing.{groundLine, offsetLine, indexPair, boxLines, capacityLine, orderLines, kernelLine, chainLines, sheetOf, writeVerdict, Written, writeOf}
 use Rattle.model.specs.declared.Bounds.{Bounds}
 use Rattle.model.specs.declared.Grid.{Grid}
 use Rattle.model.specs.declared.Window.{Window}
@@ -168,7 +168,7 @@ boxFrom dims whole = []
 boxFrom dims (box lowest highest) = (8 ∷ flatMap (λ d. wordBytes (wordPattern (getD lowest d (pos 0))) ++ wordBytes (wordPattern (getD highest d (pos 0)))) (upTo dims)) ∷ []
 
 linesFrom : Trimmed → List (List ℕ)
-linesFrom t = (1 ∷ t .dims ∷ flatMap wordBytes (groundSizes (t .ground))) ∷ (map offsetLine (t .offsets) ++ (boxFrom (t .dims) (t .part) ++ (map capacityLine (t .capacities) ++ (cond (t .ordered) ((6 ∷ t .order) ∷ []) [] ++ (kernelLine (t .kernel) ∷ [])))))
+linesFrom t = groundLine (t .dims) (t .ground) ∷ (map offsetLine (t .offsets) ++ (boxFrom (t .dims) (t .part) ++ (map capacityLine (t .capacities) ++ (cond (t .ordered) ((6 ∷ t .order) ∷ []) [] ++ (kernelLine (t .kernel) ∷ [])))))
 
 writtenFrom : Trimmed → List ℕ → Written
 writtenFrom t output =
@@ -199,12 +199,12 @@ box-from dims b = go (b .stood)
     go true = ap (λ (bs : List ℕ). (8 ∷ bs) ∷ []) (flat-alike dims (λ k. k) (pair (b .lowest) (b .highest)) (pair low high) same)
     go false = refl
 
-written-from : (c : Chain) (output : List ℕ) → writeOf c output ≡ writtenFrom (trimmed c []) output
-unfolding writeOf writeVerdict sheetOf chainLines gridLine orderLines judgeChain trimmed linesFrom writtenFrom
-written-from c output = rw (box-from (dimsOf (c .grid)) (c .bounds))
+written-from : (c : Chain) (numbers output : List ℕ) → writeOf c numbers output ≡ writtenFrom (trimmed c numbers) output
+unfolding writeOf writeVerdict sheetOf chainLines orderLines judgeChain trimmed linesFrom writtenFrom
+written-from c numbers output = rw (box-from (dimsOf (c .grid)) (c .bounds))
 
-written-alike : (c d : Chain) → Same c [] d [] → (output : List ℕ) → writeOf c output ≡ writeOf d output
-written-alike c d e output = written-from c output ∙ ap (λ (t : Trimmed). writtenFrom t output) e ∙ sym (written-from d output)
+written-alike : (c d : Chain) (ns ms : List ℕ) → Same c ns d ms → (output : List ℕ) → writeOf c ns output ≡ writeOf d ms output
+written-alike c d ns ms e output = written-from c ns output ∙ ap (λ (t : Trimmed). writtenFrom t output) e ∙ sym (written-from d ms output)
 
 -- What is planned of a request.
 plannedFrom : Trimmed → Planned

@@ -2,7 +2,7 @@
 -- stands in `Promises`. "A part of the record whose line is absent plays no part" (document 02, request 2).
 use Prim.Native.Nat.{ℕ, _-_, _*_, _<_}
 use mathlib.Core.Bool.{true, false}
-use mathlib.Core.List.{List, []}
+use mathlib.Core.List.{List}
 use mathlib.Core.Path.{_≡_}
 use lib.IntN.{pos}
 use lib.ListN.{getD}
@@ -65,8 +65,8 @@ pub record PastCounts : Type 0 where
   -- "the record tells a written full box from none": any written box, in a chain and in a request.
   pub box-apart : (c d : Chain) (ns ms : List ℕ) → c .bounds .stood ≡ true → d .bounds .stood ≡ false → Same c ns d ms → ⊥
   pub box-asked : (r q : Request) (ns ms : List ℕ) → r .bounds .stood ≡ true → q .bounds .stood ≡ false → SameRequest r ns q ms → ⊥
-  -- The same chain is written alike (a sheet has no line for rows),
-  pub written : (c d : Chain) → Same c [] d [] → (output : List ℕ) → writeOf c output ≡ writeOf d output
+  -- The same chain is written alike,
+  pub written : (c d : Chain) (ns ms : List ℕ) → Same c ns d ms → (output : List ℕ) → writeOf c ns output ≡ writeOf d ms output
   -- the same request judged and planned alike.
   pub judged : (r q : Request) (ns ms : List ℕ) → SameRequest r ns q ms → judgeRequest r ns ≡ judgeRequest q ms
   pub planned : (r q : Request) (ns ms : List ℕ) → SameRequest r ns q ms → planOf r ns ≡ planOf q ms

@@ -86,16 +86,18 @@ run : (t : Trimmed) (s : State) (store : List ℕ)
 unfolding numbersOf conditionsOf numberOf judgeRun
 run t s store = value-behind t _
 
-write : (c : Chain) (room : ℕ) → AnswersFirst (valueNumbers (groundOf (c .grid) []) ++ (12 ∷ [])) (valueConditions (trimmed c []) ++ (ltb room (length (sheetOf c)) ∷ [])) (writeVerdict c room)
+write : (c : Chain) (numbers : List ℕ) (room : ℕ)
+    → AnswersFirst (valueNumbers (groundOf (c .grid) numbers) ++ (12 ∷ [])) (valueConditions (trimmed c numbers) ++ (ltb room (length (sheetOf c numbers)) ∷ [])) (writeVerdict c numbers room)
 unfolding trimmed numbersOf conditionsOf numberOf writeVerdict judgeChain judged
-write c room =
-    let last = check (ltb room (length (sheetOf c))) refusal.ShortOutput ∷ [] in
-    subst (AnswersFirst (valueNumbers (groundOf (c .grid) []) ++ (12 ∷ [])) (valueConditions (trimmed c []) ++ (ltb room (length (sheetOf c)) ∷ []))) (then-checks (valueChecks (trimmed c [])) last)
-    (value-behind (trimmed c []) last)
+write c numbers room =
+    let last = check (ltb room (length (sheetOf c numbers))) refusal.ShortOutput ∷ [] in
+    subst (AnswersFirst (valueNumbers (groundOf (c .grid) numbers) ++ (12 ∷ [])) (valueConditions (trimmed c numbers) ++ (ltb room (length (sheetOf c numbers)) ∷ []))) (then-checks (valueChecks (trimmed c numbers)) last)
+    (value-behind (trimmed c numbers) last)
 
-line : (chainSheet : Bool) (r : Reading) (l : Seen) → AnswersFirst (1 ∷ 2 ∷ 3 ∷ 1 ∷ 3 ∷ 4 ∷ 13 ∷ []) (conditionsOf (lineChecks chainSheet r l)) (lineVerdict chainSheet r l)
+line : (chainSheet : Bool) (numbers : List ℕ) (r : Reading) (l : Seen)
+    → AnswersFirst (1 ∷ 2 ∷ 3 ∷ 16 ∷ 1 ∷ 3 ∷ 16 ∷ 4 ∷ 13 ∷ []) (conditionsOf (lineChecks chainSheet numbers r l)) (lineVerdict chainSheet numbers r l)
 unfolding numbersOf numberOf lineChecks lineVerdict
-line chainSheet r l = checks (lineChecks chainSheet r l)
+line chainSheet numbers r l = checks (lineChecks chainSheet numbers r l)
 
 cell : (l : Seen) → AnswersFirst (1 ∷ 2 ∷ []) (malformed (l .sound) (l .len) (kindOf l) (secondOf l) ∷ not (eqb (kindOf l) 5) ∷ []) (cellVerdict l)
 unfolding numbersOf conditionsOf numberOf cellVerdict

@@ -19,7 +19,7 @@ use Rattle.model.specs.Boxes.{course, badBox}
 use Rattle.model.specs.Values.{Trimmed}
 use Rattle.model.specs.Sized.{Bounded, Suits, Proper, Fitting}
 use Rattle.model.specs.Iterations.{cellsOf, positionOf, courseOf, iterationsOf, extentsOf, iterationOf, readsOf, distanceIn, distanceOf, newestOf}
-use Rattle.model.specs.Judging.{mostCells, badDims, badSizes, badGrid, badRow, badRows, badGround, noIteration}
+use Rattle.model.specs.Judging.{mostCells, badDims, badSizes, badGrid, badRow, badRows, badRowCount, badGround, noIteration}
 use Rattle.model.specs.Right.{RightPair}
 use Rattle.model.proofs.Tests.{neither}
 use Rattle.model.proofs.ListLaws.{length-tabulate, getD-tabulate, greatest-above, greatest-stands}
@@ -43,13 +43,13 @@ row-cells (r ∷ rs) e =
     omega (arith, ltb-false 1024 (r .length) few, row-cells rs further)
 
 few-in : (d : ℕ) (g : Ground) → badGround d g ≡ false → cellCount g ≤ mostCells
-unfolding cellCount badGrid badSizes badRows
+unfolding cellCount badGrid badSizes badRows badRowCount
 few-in d (rectangle sizes) e =
     let (_, sized) = neither (badDims d) (badSizes sizes) e in
     ltb-false mostCells (rectangular.cellCount sizes) (neither (any (λ s. eqb s 0) sizes) (ltb mostCells (rectangular.cellCount sizes)) sized .1)
 few-in d (rows rs) e =
-    let (_, rest) = neither (eqb (length rs) 0) _ e in
-    let (many, each) = neither (ltb 512 (length rs)) (any badRow rs) rest in
+    let (some, each) = neither (badRowCount (length rs)) (any badRow rs) e in
+    let (_, many) = neither (eqb (length rs) 0) (ltb 512 (length rs)) some in
     omega (arith, ltb-false 512 (length rs) many, row-cells rs each)
 
 -- What holds of each rectangle holds of a ground that is one.

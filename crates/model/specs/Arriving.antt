@@ -3,15 +3,18 @@ use Prim.Native.Nat.{ℕ, zero, suc}
 use mathlib.Core.Bool.{Bool, true, false, cond}
 use mathlib.Core.List.{List, [], _∷_}
 use lib.Dec.{eqb}
+use lib.ListN.{replicate}
 use Rattle.model.specs.declared.Arriving.{Arriving}
 use Rattle.model.specs.declared.CellLine.{CellLine}
+use Rattle.model.specs.declared.Last.{Last}
+use Rattle.model.specs.declared.Last.the-variants as stood
 use Rattle.model.specs.declared.LineStep.{LineStep}
 use Rattle.model.specs.declared.Refusal.the-variants as refusal
 use Rattle.model.specs.declared.Verdict.{Verdict}
 use Rattle.model.specs.declared.Verdict.the-variants as verdict
 use Rattle.model.specs.Answers.{byVerdict}
 use Rattle.model.specs.Lines.{lineFeed}
-use Rattle.model.specs.Frames.{emptyFrame, fed, shown}
+use Rattle.model.specs.Frames.{emptyFrame, fed, shown, rowNumbers, numbersFed}
 use Rattle.model.specs.Reading.{stepOf, start, cellVerdict, cellIn}
 
 abbrev pub opened : Arriving
@@ -21,16 +24,42 @@ opened = record { verdict = verdict.Accepted; reading = start; frame = emptyFram
 abbrev pub closed : LineStep → Arriving
 closed s = record { verdict = s .verdict; reading = s .reading; frame = emptyFrame; begun = false }
 
--- One character more. After a refusal nothing is looked at.
-unfoldable pub arrives : (chained : Bool) → Arriving → ℕ → Arriving
-arrives chained a c =
-    let line = closed (stepOf chained (a .reading) (shown (a .frame))) in
+-- One character more. After a refusal nothing is looked at. `numbers`: those on the sheet's first line, as far as they have arrived.
+unfoldable pub arrives : (chained : Bool) → (numbers : List ℕ) → Arriving → ℕ → Arriving
+arrives chained numbers a c =
+    let line = closed (stepOf chained numbers (a .reading) (shown (a .frame))) in
     let longer : Arriving = record { verdict = verdict.Accepted; reading = a .reading; frame = fed (a .frame) c; begun = true } in
     byVerdict (a .verdict) (cond (eqb c lineFeed) line longer) (λ x. a)
 
-unfoldable pub arrive : (chained : Bool) → Arriving → List ℕ → Arriving
+-- No line of the sheet was read yet.
+unfoldable pub stoodFirst : Last → Bool
+stoodFirst stood.Nothing = true
+stoodFirst stood.Grid = false
+stoodFirst stood.Offset = false
+stoodFirst stood.Name = false
+stoodFirst stood.Box = false
+stoodFirst stood.Capacity = false
+stoodFirst stood.Order = false
+stoodFirst stood.Kernel = false
+
+-- The numbers with one character more: those of the first line alone.
+unfoldable pub numbersArrive : (numbers : List ℕ) → Arriving → ℕ → List ℕ
+numbersArrive numbers a c =
+    let longer = cond (stoodFirst (a .reading .last)) (numbersFed numbers (a .frame) c) numbers in
+    byVerdict (a .verdict) longer (λ x. numbers)
+
+-- A sheet as it arrives, with the numbers on its first line.
+pub record Arrived : Type 0 where
+  pub sheet : Arriving
+  pub numbers : List ℕ
+
+abbrev pub opening : Arrived
+opening = record { sheet = opened; numbers = replicate rowNumbers 0 }
+
+unfoldable pub arrive : (chained : Bool) → Arrived → List ℕ → Arrived
 arrive chained a [] = a
-arrive chained a (c ∷ cs) = arrive chained (arrives chained a c) cs
+arrive chained a (c ∷ cs) =
+    arrive chained (record { sheet = arrives chained (a .numbers) (a .sheet) c; numbers = numbersArrive (a .numbers) (a .sheet) c }) cs
 
 -- At the end of the input a line that is open lacks its LF.
 unfoldable pub finished : Arriving → LineStep

@@ -65,7 +65,9 @@ pub record FirstChecks : Type 0 where
   pub run : (t : Trimmed) (s : State) (store : List ℕ)
       → AnswersFirst (valueNumbers (t .ground) ++ (10 ∷ 11 ∷ [])) (valueConditions t ++ (shortStore t store ∷ badState (layout t) (countersOf (t .count) s) ∷ [])) (judgeRun t s store)
   -- 12 is "looked at last".
-  pub write : (c : Chain) (room : ℕ) → AnswersFirst (valueNumbers (groundOf (c .grid) []) ++ (12 ∷ [])) (valueConditions (trimmed c []) ++ (ltb room (length (sheetOf c)) ∷ [])) (writeVerdict c room)
-  -- A sheet's line: form 1, order 2, a bad count 3, a wrong length 1, sizes 3, a 33rd `02` line 4, a bad name 13; and a line where a cell is wanted: 1, then 2.
-  pub line : (chainSheet : Bool) (r : Reading) (l : Seen) → AnswersFirst (1 ∷ 2 ∷ 3 ∷ 1 ∷ 3 ∷ 4 ∷ 13 ∷ []) (conditionsOf (lineChecks chainSheet r l)) (lineVerdict chainSheet r l)
+  pub write : (c : Chain) (numbers : List ℕ) (room : ℕ)
+      → AnswersFirst (valueNumbers (groundOf (c .grid) numbers) ++ (12 ∷ [])) (valueConditions (trimmed c numbers) ++ (ltb room (length (sheetOf c numbers)) ∷ [])) (writeVerdict c numbers room)
+  -- A sheet's line: form 1, order 2, a bad count 3 (of rows 16), a wrong length 1, sizes 3, rows 16, a 33rd `02` line 4, a bad name 13; and a line where a cell is wanted: 1, then 2.
+  pub line : (chainSheet : Bool) (numbers : List ℕ) (r : Reading) (l : Seen)
+      → AnswersFirst (1 ∷ 2 ∷ 3 ∷ 16 ∷ 1 ∷ 3 ∷ 16 ∷ 4 ∷ 13 ∷ []) (conditionsOf (lineChecks chainSheet numbers r l)) (lineVerdict chainSheet numbers r l)
   pub cell : (l : Seen) → AnswersFirst (1 ∷ 2 ∷ []) (malformed (l .sound) (l .len) (kindOf l) (secondOf l) ∷ not (eqb (kindOf l) 5) ∷ []) (cellVerdict l)

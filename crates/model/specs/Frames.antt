@@ -2,8 +2,8 @@
 use Prim.Native.Nat.{ℕ, _+_, _-_, _*_, _/_, _%_}
 use mathlib.Core.Bool.{Bool, true, false, cond, not, _&&_}
 use mathlib.Core.List.{List, [], _∷_, _++_}
-use lib.Dec.{leb, ltb}
-use lib.ListN.{length, take, set, replicate}
+use lib.Dec.{eqb, leb, ltb}
+use lib.ListN.{length, take, getD, set, replicate}
 use Rattle.model.specs.declared.Frame.{Frame}
 use Rattle.model.specs.Lines.{lineFeed}
 
@@ -36,9 +36,13 @@ digitsOf (b ∷ bs) = digitOf (b / 16) ∷ digitOf (b % 16) ∷ digitsOf bs
 unfoldable pub framed : List ℕ → List ℕ
 framed bs = digitsOf bs ++ (lineFeed ∷ [])
 
--- How many bytes of a line are kept: no line that is accepted has as many.
+-- How many bytes of a line are kept: of the lines that are accepted only an `09` line has as many.
 abbrev pub kept : ℕ
 kept = 40
+
+-- How many are counted: no line that is accepted has as many.
+abbrev pub counted : ℕ
+counted = 2052
 
 -- The first bytes of a line, 0 past its end.
 unfoldable pub padded : List ℕ → List ℕ
@@ -57,12 +61,15 @@ seenOf ended chars = record { sound = ended && whole chars; len = length (bytesO
 abbrev pub emptyFrame : Frame
 emptyFrame = record { first = replicate kept 0; len = 0; sound = true; half = false; high = 0 }
 
--- One byte more. Bytes past those kept are not counted.
+-- One byte more.
 unfoldable pub pushed : Frame → ℕ → Frame
-pushed f b =
-    cond (ltb (f .len) kept)
-    (record { first = set (f .first) (f .len) b; len = f .len + 1; sound = f .sound; half = false; high = 0 })
-    (record { first = f .first; len = f .len; sound = f .sound; half = false; high = 0 })
+pushed f b = record {
+  first = cond (ltb (f .len) kept) (set (f .first) (f .len) b) (f .first);
+  len = cond (ltb (f .len) counted) (f .len + 1) (f .len);
+  sound = f .sound;
+  half = false;
+  high = 0;
+}
 
 -- One character more.
 unfoldable pub fed : Frame → ℕ → Frame
@@ -76,6 +83,26 @@ fed f d =
 unfoldable pub feeds : Frame → List ℕ → Frame
 feeds f [] = f
 feeds f (d ∷ ds) = feeds (fed f d) ds
+
+-- How many numbers of 2 bytes each are kept of the sheet's first line, behind its row count: a start and a length of each of 512 rows.
+abbrev pub rowNumbers : ℕ
+rowNumbers = 1024
+
+-- One byte more, the one numbered i behind the row count: the upper or the lower half of a number.
+unfoldable pub withHalf : (numbers : List ℕ) → (i b : ℕ) → List ℕ
+withHalf numbers i b =
+    let at = i / 2 in
+    cond (eqb (i % 2) 0) (set numbers at (b * 256)) (set numbers at (getD numbers at 0 / 256 * 256 + b))
+
+-- One character more of a line that stands as f, and all characters of a piece of it.
+unfoldable pub numbersFed : (numbers : List ℕ) → Frame → ℕ → List ℕ
+numbersFed numbers f d =
+    let longer = withHalf numbers (f .len - 3) (f .high % 16 * 16 + valueOf d) in
+    cond (f .half && (isDigit d && leb 3 (f .len))) longer numbers
+
+unfoldable pub numbersFeeds : (numbers : List ℕ) → Frame → List ℕ → List ℕ
+numbersFeeds numbers f [] = numbers
+numbersFeeds numbers f (d ∷ ds) = numbersFeeds (numbersFed numbers f d) (fed f d) ds
 
 -- What a step sees of a frame at its LF.
 abbrev pub shown : Frame → Seen

@@ -45,8 +45,11 @@ badGrid dims sizes = badDims dims || badSizes sizes
 unfoldable pub badRow : Row → Bool
 badRow r = ltb 4095 (r .start) || (eqb (r .length) 0 || ltb 1024 (r .length))
 
+unfoldable pub badRowCount : ℕ → Bool
+badRowCount n = eqb n 0 || ltb 512 n
+
 unfoldable pub badRows : List Row → Bool
-badRows rs = eqb (length rs) 0 || (ltb 512 (length rs) || any badRow rs)
+badRows rs = badRowCount (length rs) || any badRow rs
 
 -- "in a value 16 stands where 3 does": what is looked at of a grid, and which number says it.
 abbrev pub badGround : (dims : ℕ) → Ground → Bool

@@ -9,14 +9,14 @@ use Rattle.model.specs.Lists.{tabulate, upTo, without, sum, product, gre
 use Rattle.model.specs.Vectors.{same, above, plus, equal, before, isZero}
 use Rattle.model.specs.Geometry.{place, natural, firstEntry, otherEntries, leastFrom, least, lows, extent, extents}
 use Rattle.model.specs.Geometry as rectangular
-use Rattle.model.specs.Grounds.{cellCount, inside, cellPlace, position, cellAt, isIteration}
-use Rattle.model.specs.Courses.{count, vector, allIterations}
+use Rattle.model.specs.Grounds.{cellCount, inside, cellPlace, position, cellAt, isIteration, cellsAbove, rowCells, hasColumn, insideRows, rowPlace, rowAt, columnAt}
+use Rattle.model.specs.Courses.{count, vector, allIterations, smallest, rowsDown, columnsOn, commonStart, commonEnd, commonRow}
 use Rattle.model.specs.Geometry.{indices}
-use Rattle.model.specs.Boxes.{indexCount, widths, boxShape, boxCourse, course, crossed, readsOutside, badBox}
-use Rattle.model.specs.Values.{sizesOf, offsetOf, offsetsOf, partOf, capacitiesOf, orderOf, trimmed, boundsOf, chainOf, groundOf, dimsOf, gridOf}
-use Rattle.model.specs.Iterations.{cellsOf, positionOf, courseOf, iterationsOf, iterationOf, readsOf, firsts, distanceIn, distanceOf}
+use Rattle.model.specs.Boxes.{indexCount, widths, boxShape, boxCourse, course, crossed, readsOutside, badBox, equalRows}
+use Rattle.model.specs.Values.{sizesOf, offsetOf, offsetsOf, partOf, capacitiesOf, orderOf, trimmed, boundsOf, chainOf, groundOf, dimsOf, gridOf, rowsOf}
+use Rattle.model.specs.Iterations.{cellsOf, positionOf, courseOf, iterationsOf, iterationOf, readsOf, firsts, distanceIn, distanceOf, firstsFrom}
 use Rattle.model.specs.Answers.{numberOf, verdictNumber, firstOf}
-use Rattle.model.specs.Judging.{badDims, badSizes, badGrid, badCount, repeats, noIteration, needsCentre, lacksCentre, notFinite, badFactor, tooLarge, twice, badOrder, windowChecks, kernelChecks, chainChecks, valueChecks, judged, judgeChain}
+use Rattle.model.specs.Judging.{badDims, badSizes, badGrid, badCount, repeats, noIteration, needsCentre, lacksCentre, notFinite, badFactor, tooLarge, twice, badOrder, windowChecks, kernelChecks, chainChecks, valueChecks, judged, judgeChain, badRow, badRowCount, badRows}
 use Rattle.model.specs.Steps.{insert, falling, whichOf, authorsOrder, distances, sorted}
 use Rattle.model.specs.Planning.{trimmedRequest, judgeRequest, plannedChain}
 use Rattle.model.specs.Kernels.{sumFrom, sumOf, centreOf, wordsAt, terms, squared, difference, scaled, blend, written, width}
@@ -26,11 +26,11 @@ use Rattle.model.specs.Running.{layout, words, clocked, look, call, filt
 use Rattle.model.specs.Lines.{linesOf}
 use Rattle.model.specs.Frames.{isDigit, valueOf, digitOf, whole, bytesOf, digitsOf, framed, padded}
 use Rattle.model.specs.Numbers.{halfAt, wordAt, halfBytes, wordBytes, signed, pattern, signedWord, wordPattern}
-use Rattle.model.specs.Reading.{badKernel, badForm, malformed, nextInRequest, nextInChain, miscounted, among, misplaced, badLength, sizesIn, lineChecks, lineVerdict}
+use Rattle.model.specs.Reading.{badKernel, badForm, malformed, nextInRequest, nextInChain, miscounted, among, misplaced, badLength, sizesIn, lineChecks, lineVerdict, numbersOn, numbersIn, withRows}
 use Rattle.model.specs.NamedWindows.{windows, isName, namedOf, badName, withReferences, windowNamed}
 use Rattle.model.specs.Reading.{withGrid, entriesIn, withOffset, withName, lowestIn, highestIn, withBox, withCapacity, filtersIn, withOrder, kernelIn, withKernel, taken, stepOf, closes, complete, readLines, endVerdict}
 use Rattle.model.specs.Reading.{readRequest, cellVerdict}
-use Rattle.model.specs.Writing.{gridLine, offsetLine, indexPair, boxLines, capacityLine, orderLines, kernelLine, chainLines, sheetOf}
+use Rattle.model.specs.Writing.{groundLine, offsetLine, indexPair, boxLines, capacityLine, orderLines, kernelLine, chainLines, sheetOf}
 use Rattle.model.specs.Programs.{firingLine, endLine, refusalLine, firingsText, planText, sheetAndBehind, cellsIn, behindCells, wholeRun, runText}
 use Rattle.model.specs.SheetCases.{bytesIn, five, plane, printed, sameBytes}
 
@@ -42,6 +42,13 @@ pub record Listing : Type 0 where
 abbrev pub listing : String → String → Listing
 listing input output = record { input = input; output = output }
 
+-- Rows (2, 2), (2, 1), (2, 1), and (1, 1), (1, 1), (0, 2).
+abbrev tapered : String
+tapered = "090003000200020002000100020001\n"
+
+abbrev slanted : String
+slanted = "090003000100010001000100000002\n"
+
 unfoldable pub plans : List Listing
 plans =
     -- document 01's listing, which "gains `060100`"; one reference; three, whose order is not its own inverse
@@ -50,6 +57,9 @@ plans =
     ∷ listing (five ++ "020000\n020002\n020001\n0400\n") (five ++ "020002\n020001\n020000\n0300000001\n0300000001\n06020001\n0400\n")
     ∷ listing "" "1F02\n"
     ∷ listing (five ++ "020000\n020000\n0400\n") "1F05\n"
+    -- rows: the largest distance; 16
+    ∷ listing (tapered ++ "0200000000\n02FFFF0000\n0400\n") (tapered ++ "0200000000\n02FFFF0000\n0300000002\n060001\n0400\n")
+    ∷ listing "090201\n" "1F10\n"
     ∷ listing (five ++ "020000\n020000\n0400\n05\n") "1F01\n"
     -- case 6, its window by name; a name of other dimensions
     ∷ listing (plane ++ "0701\n0400\n")
@@ -126,6 +136,9 @@ runs =
     ∷ listing (boxed ++ "080000000100000001\n0300000003\n0400\n" ++ four ++ "0500000005\n") "10000000000000000500000002\n110000000005\n"
     ∷ listing (boxed ++ "080000000000000000\n0300000003\n0400\n" ++ four ++ "x") (firing ++ "110000000004\n")
     ∷ listing (boxed ++ "080000000100000002\n0300000003\n0400\nx") "1F0F\n"
+    -- rows: firings in clocks 2 and 4, 5 clocks over 4 cells; a capacity too short
+    ∷ listing (tapered ++ "0200000000\n02FFFF0000\n0300000002\n0400\n" ++ four) "10000000000000000300000001\n10000000010000000400000003\n110000000005\n"
+    ∷ listing (slanted ++ "0200000000\n02FFFF0000\n0300000001\n0400\n" ++ four) "10000000000000000200000001\n110100000002\n"
     -- a sum of no terms
     ∷ listing "010100000001\n020000\n0401\n05FFFFFFFF\n" "100000000000000000\n110000000001\n"
     ∷ []
@@ -139,16 +152,16 @@ runRight l = sameBytes (runText (bytesIn (l .input))) (bytesIn (l .output))
 pub table : (all planRight plans && all runRight runs) ≡ true
 unfolding bytesIn plans runs sameBytes planRight runRight flatMap ofBits toBits add sub mul
     tabulate upTo without sum product greatest all any someBelow same above plus equal before isZero
-    rectangular.cellCount cellCount place natural position cellPlace cellAt firstEntry otherEntries leastFrom least lows extent extents indices count vector allIterations rectangular.inside inside isIteration indexCount widths boxShape boxCourse course crossed readsOutside badBox cellsOf positionOf courseOf iterationsOf iterationOf readsOf firsts distanceIn distanceOf
-    sizesOf groundOf dimsOf offsetOf offsetsOf partOf capacitiesOf orderOf chainOf gridOf boundsOf numberOf verdictNumber firstOf
-    badDims badSizes badGrid badCount repeats noIteration needsCentre lacksCentre notFinite badFactor tooLarge twice badOrder windowChecks kernelChecks chainChecks valueChecks judged judgeChain
+    cellsAbove rowCells hasColumn insideRows rowPlace rowAt columnAt smallest rowsDown columnsOn commonStart commonEnd commonRow equalRows firstsFrom rectangular.cellCount cellCount place natural position cellPlace cellAt firstEntry otherEntries leastFrom least lows extent extents indices count vector allIterations rectangular.inside inside isIteration indexCount widths boxShape boxCourse course crossed readsOutside badBox cellsOf positionOf courseOf iterationsOf iterationOf readsOf firsts distanceIn distanceOf
+    sizesOf rowsOf groundOf dimsOf offsetOf offsetsOf partOf capacitiesOf orderOf chainOf gridOf boundsOf numberOf verdictNumber firstOf
+    badDims badSizes badGrid badRow badRowCount badRows badCount repeats noIteration needsCentre lacksCentre notFinite badFactor tooLarge twice badOrder windowChecks kernelChecks chainChecks valueChecks judged judgeChain
     insert falling whichOf authorsOrder distances trimmedRequest judgeRequest sorted trimmed plannedChain
     sumFrom sumOf centreOf wordsAt terms squared difference scaled blend written width
     fresh ready fires turn limit turns next moves firstPlace placeIn presented stored
     layout words clocked look call filtersOf termsOf writesOf writtenBy widthOf
     linesOf isDigit valueOf digitOf whole bytesOf digitsOf framed padded halfAt wordAt halfBytes wordBytes signed pattern signedWord wordPattern
-    badKernel badForm malformed nextInRequest nextInChain miscounted among misplaced badLength sizesIn lineChecks lineVerdict
-    windows isName namedOf badName withReferences windowNamed withGrid entriesIn withOffset withName lowestIn highestIn withBox withCapacity filtersIn withOrder kernelIn withKernel taken stepOf closes complete readLines endVerdict readRequest cellVerdict
-    gridLine offsetLine indexPair boxLines capacityLine orderLines kernelLine chainLines sheetOf
+    badKernel badForm malformed nextInRequest nextInChain miscounted among misplaced badLength sizesIn numbersOn numbersIn lineChecks lineVerdict
+    windows isName namedOf badName withReferences windowNamed withGrid withRows entriesIn withOffset withName lowestIn highestIn withBox withCapacity filtersIn withOrder kernelIn withKernel taken stepOf closes complete readLines endVerdict readRequest cellVerdict
+    groundLine offsetLine indexPair boxLines capacityLine orderLines kernelLine chainLines sheetOf
     firingLine endLine refusalLine firingsText planText sheetAndBehind cellsIn behindCells wholeRun runText
 table = refl

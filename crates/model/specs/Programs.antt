@@ -1,6 +1,6 @@
 -- What the two programs write (document 01, "Lines of the sheet").
 use Prim.Native.Nat.{ℕ, zero, suc, _+_, _*_}
-use mathlib.Core.Bool.{Bool, true, false, cond}
+use mathlib.Core.Bool.{true, cond}
 use mathlib.Core.List.{List, [], _∷_, _++_, flatMap}
 use lib.ListN.{take, drop, replicate}
 use Rattle.model.specs.Lists.{sum}
@@ -13,7 +13,7 @@ use Rattle.model.specs.Running.{Ending, Done, Spent, Starved, Stalled, F
 use Rattle.model.specs.Lines.{Line, linesOf}
 use Rattle.model.specs.Frames.{framed, seenOf}
 use Rattle.model.specs.Numbers.{wordBytes}
-use Rattle.model.specs.Reading.{stepOf, start, complete, readRequest, endVerdict, cellVerdict, cellIn}
+use Rattle.model.specs.Reading.{stepOf, start, complete, readRequest, endVerdict, cellVerdict, cellIn, numbersIn}
 use Rattle.model.specs.Writing.{sheetOf}
 use Rattle.model.specs.declared.LineStep.{LineStep}
 use Rattle.model.specs.declared.Reading.{Reading}
@@ -45,7 +45,8 @@ firingsText size index (suc n) words = framed (firingLine index (take size words
 unfoldable pub planText : (input : List ℕ) → List ℕ
 planText input =
     let r = readRequest input in
-    let sheet = sheetOf (plannedChain (r .request) []) in
+    let rows = numbersIn input in
+    let sheet = sheetOf (plannedChain (r .request) rows) rows in
     byVerdict (r .verdict) sheet refusalText
 
 -- "`run` reads a chain sheet followed by `05` lines": the lines of the sheet, to its `04`, and the lines behind it.
@@ -53,12 +54,12 @@ pub record Split : Type 0 where
   pub step : LineStep
   pub behind : List Line
 
-unfoldable pub sheetAndBehind : Reading → List Line → Split
-sheetAndBehind r [] = record { step = record { verdict = verdict.Accepted; reading = r }; behind = [] }
-sheetAndBehind r (l ∷ ls) =
-    let s = stepOf true r (seenOf (l .ended) (l .chars)) in
+unfoldable pub sheetAndBehind : (numbers : List ℕ) → Reading → List Line → Split
+sheetAndBehind numbers r [] = record { step = record { verdict = verdict.Accepted; reading = r }; behind = [] }
+sheetAndBehind numbers r (l ∷ ls) =
+    let s = stepOf true numbers r (seenOf (l .ended) (l .chars)) in
     let here : Split = record { step = s; behind = ls } in
-    let further = sheetAndBehind (s .reading) ls in
+    let further = sheetAndBehind numbers (s .reading) ls in
     byVerdict (s .verdict) (cond (complete (s .reading)) here further) (λ x. here)
 
 -- The cells of `05` lines, up to the first line that is turned back; and that line's verdict, or Accepted where the input ends.
@@ -98,13 +99,14 @@ wholeRun t cells =
 
 unfoldable pub runText : (input : List ℕ) → List ℕ
 runText input =
-    let p = sheetAndBehind start (linesOf input) in
+    let rows = numbersIn input in
+    let p = sheetAndBehind rows start (linesOf input) in
     let chain = p .step .reading .chain in
-    let t = trimmed chain [] in
+    let t = trimmed chain rows in
     let e = wholeRun t (cellsIn (p .behind)) in
     let done = e .standing .done in
     let text = firingsText (widthOf t) 0 (done .firings) (e .standing .output) ++ endText (e .ending) (done .clocks) (behindCells (p .behind)) in
-    byVerdict (endVerdict (p .step) (judgeChain chain [])) text refusalText
+    byVerdict (endVerdict (p .step) (judgeChain chain rows)) text refusalText
 
 -- No firing writes more words, and no `10` line has more characters.
 abbrev pub mostWords : ℕ

@@ -1,10 +1,10 @@
--- Reading a sheet line by line (document 01, "Lines of the sheet", "Turned back on account of the input"; document 02, requests 1, 2 and 4).
+-- Reading a sheet line by line (document 01, "Lines of the sheet", "Turned back on account of the input"; document 02, requests 1, 2, 4 and 5).
 use Prim.Native.Nat.{ℕ, _+_, _*_}
 use mathlib.Core.Bool.{Bool, true, false, cond, not, _&&_}
 use mathlib.Core.List.{List, [], _∷_}
 use lib.Dec.{eqb, leb, ltb}
 use lib.IntN.{ℤ}
-use lib.ListN.{take, set}
+use lib.ListN.{take, set, replicate}
 use lib.Ieee.{ofBits, binary32}
 use Rattle.model.specs.declared.Kernel.{Kernel}
 use Rattle.model.specs.declared.Kernel.the-variants as kernel
@@ -18,12 +18,12 @@ use Rattle.model.specs.declared.LineStep.{LineStep}
 use Rattle.model.specs.declared.ReadChain.{ReadChain}
 use Rattle.model.specs.declared.ReadRequest.{ReadRequest}
 use Rattle.model.specs.Lists.{tabulate, any}
-use Rattle.model.specs.Values.{withReference, blankChain, requestOf, setGrid, setWindow, setBounds, setCapacities, setOrder, setKernel}
+use Rattle.model.specs.Values.{rowsOf, dimsOf, withReference, blankChain, requestOf, setGrid, setWindow, setBounds, setCapacities, setOrder, setKernel}
 use Rattle.model.specs.Answers.{Check, check, firstOf, byVerdict}
-use Rattle.model.specs.Judging.{badDims, badSizes, judgeChain}
+use Rattle.model.specs.Judging.{badDims, badSizes, badRowCount, badRow, judgeChain}
 use Rattle.model.specs.Planning.{judgeRequest}
 use Rattle.model.specs.Lines.{Line, linesOf}
-use Rattle.model.specs.Frames.{Seen, seenOf}
+use Rattle.model.specs.Frames.{Seen, bytesOf, seenOf, rowNumbers}
 use Rattle.model.specs.Numbers.{byteAt, halfAt, wordAt, signed, signedWord}
 use Rattle.model.specs.NamedWindows.{badName, windowNamed}
 
@@ -42,7 +42,7 @@ badKernel len second =
     (cond (eqb second 3) (not (eqb len 10))
     true))
 
--- 1: an unknown first byte or kernel byte, a missing dimension count, or a length other than the one that the line itself sets.
+-- 1: an unknown first byte or kernel byte, a missing dimension count or row count, or a length other than the one that the line itself sets.
 unfoldable pub badForm : (len kind second : ℕ) → Bool
 badForm len kind second =
     cond (eqb kind 1) (ltb len 2)
@@ -53,16 +53,17 @@ badForm len kind second =
     (cond (eqb kind 6) false
     (cond (eqb kind 7) (not (eqb len 2))
     (cond (eqb kind 8) false
-    true)))))))
+    (cond (eqb kind 9) (ltb len 3)
+    true))))))))
 
 -- 1, before the order of lines: no sound frame, an empty line, or a bad form.
 unfoldable pub malformed : (sound : Bool) (len kind second : ℕ) → Bool
 malformed sound len kind second = cond sound (cond (eqb len 0) true (badForm len kind second)) true
 
--- What may come next, by what stood last: "A request sheet is one `01`, one or more `02`, one `04`."; "A line `07` with one byte may stand for all `02` lines"; "a line
+-- What may come next, by what stood last: "A request sheet is one `01`, one or more `02`, one `04`."; "A line `09` may stand in place of `01`"; "A line `07` with one byte may stand for all `02` lines"; "a line
 -- `08` just after the last `02` or the `07`".
 unfoldable pub nextInRequest : Last → List ℕ
-nextInRequest stood.Nothing = 1 ∷ []
+nextInRequest stood.Nothing = 1 ∷ 9 ∷ []
 nextInRequest stood.Grid = 2 ∷ 7 ∷ []
 nextInRequest stood.Offset = 2 ∷ 8 ∷ 4 ∷ []
 nextInRequest stood.Name = 8 ∷ 4 ∷ []
@@ -73,7 +74,7 @@ nextInRequest stood.Kernel = []
 
 -- "A chain sheet has n−1 `03` lines before the `04`", and may carry "a line `06` just before `04`": by what stood last,
 unfoldable pub nextInChain : Last → List ℕ
-nextInChain stood.Nothing = 1 ∷ []
+nextInChain stood.Nothing = 1 ∷ 9 ∷ []
 nextInChain stood.Grid = 2 ∷ []
 nextInChain stood.Offset = 2 ∷ 8 ∷ 3 ∷ 6 ∷ 4 ∷ []
 nextInChain stood.Name = []
@@ -100,43 +101,60 @@ misplaced chainSheet last given count kind =
     (cond (among kind (nextInChain last)) (miscounted given count kind) true)
     (not (among kind (nextInRequest last)))
 
--- 1: a length other than the one that the dimension count sets, for an `02` or `08` line that of the `01` line read before; or, for an `06` line, the `02` lines read before.
-unfoldable pub badLength : (len kind second dims count : ℕ) → Bool
-badLength len kind second dims count =
+-- 1: a length other than the one that the dimension count or the row count sets, for an `02` or `08` line that of the grid read before; or, for an `06` line, the `02` lines read before.
+unfoldable pub badLength : (len kind second rows dims count : ℕ) → Bool
+badLength len kind second rows dims count =
     cond (eqb kind 1) (not (eqb len (2 + 4 * second)))
+    (cond (eqb kind 9) (not (eqb len (3 + 4 * rows)))
     (cond (eqb kind 2) (not (eqb len (1 + 2 * dims)))
     (cond (eqb kind 6) (not (eqb len (1 + count)))
     (cond (eqb kind 8) (not (eqb len (1 + 8 * dims)))
-    false)))
+    false))))
 
 -- The sizes on an `01` line with the bytes x, 0 past its end.
 unfoldable pub sizesIn : List ℕ → List ℕ
 sizesIn x = wordAt x 2 ∷ wordAt x 6 ∷ wordAt x 10 ∷ wordAt x 14 ∷ []
 
+-- The row count on an `09` line; and the numbers behind it on a line with the bytes x, as many as 512 rows have, 0 past its end.
+abbrev pub rowCountOf : Seen → ℕ
+rowCountOf l = halfAt (l .first) 1
+
+unfoldable pub numbersOn : List ℕ → List ℕ
+numbersOn x = tabulate rowNumbers (λ i. halfAt x (3 + 2 * i))
+
 -- "On one line 1 comes before 2, but a length that another line sets, as in `02`, is checked after 2; on an `01` line a fault of the frame or a missing count
 -- is 1, then its order 2, then a bad count 3, then a wrong length 1, then sizes 3. 4 comes at the 33rd line, after 1 and 2." 13 is "looked at on its line, after
--- 1 and 2".
-unfoldable pub lineChecks : (chainSheet : Bool) → Reading → Seen → List Check
-lineChecks chainSheet r l =
+-- 1 and 2". On an `09` line "the order is that of `01`, with 16 for 3". `numbers`: those on the sheet's first line, behind its row count.
+unfoldable pub lineChecks : (chainSheet : Bool) → (numbers : List ℕ) → Reading → Seen → List Check
+lineChecks chainSheet numbers r l =
     let kind = kindOf l in
     let second = secondOf l in
+    let rows = rowCountOf l in
+    let dims = dimsOf (r .chain .grid) in
     let count = r .chain .window .count in
     check (malformed (l .sound) (l .len) kind second) refusal.Malformed
     ∷ check (misplaced chainSheet (r .last) (r .given) count kind) refusal.Misplaced
     ∷ check (eqb kind 1 && badDims second) refusal.BadGrid
-    ∷ check (badLength (l .len) kind second (r .chain .grid .dims) count) refusal.Malformed
+    ∷ check (eqb kind 9 && badRowCount rows) refusal.BadRows
+    ∷ check (badLength (l .len) kind second rows dims count) refusal.Malformed
     ∷ check (eqb kind 1 && badSizes (take second (sizesIn (l .first)))) refusal.BadGrid
+    ∷ check (eqb kind 9 && any badRow (rowsOf rows numbers)) refusal.BadRows
     ∷ check (eqb kind 2 && leb 32 count) refusal.BadCount
-    ∷ check (eqb kind 7 && badName second (r .chain .grid .dims)) refusal.BadName
+    ∷ check (eqb kind 7 && badName second dims) refusal.BadName
     ∷ []
 
-unfoldable pub lineVerdict : (chainSheet : Bool) → Reading → Seen → Verdict
-lineVerdict chainSheet r l = firstOf (lineChecks chainSheet r l)
+unfoldable pub lineVerdict : (chainSheet : Bool) → (numbers : List ℕ) → Reading → Seen → Verdict
+lineVerdict chainSheet numbers r l = firstOf (lineChecks chainSheet numbers r l)
 
 -- What a line with the bytes x adds. An `01` line: the grid.
 unfoldable pub withGrid : Reading → List ℕ → Reading
 withGrid r x =
     record { last = stood.Grid; given = r .given; chain = setGrid (record { skewed = false; rows = 0; dims = byteAt x 1; sizes = sizesIn x }) (r .chain) }
+
+-- An `09` line: the rows, which stand beside the reading.
+unfoldable pub withRows : Reading → List ℕ → Reading
+withRows r x =
+    record { last = stood.Grid; given = r .given; chain = setGrid (record { skewed = true; rows = halfAt x 1; dims = 2; sizes = replicate 4 0 }) (r .chain) }
 
 -- The entries on an `02` line, 0 past its end.
 unfoldable pub entriesIn : List ℕ → List ℤ
@@ -202,12 +220,13 @@ taken r x =
     (cond (eqb kind 6) (withOrder r x)
     (cond (eqb kind 7) (withName r x)
     (cond (eqb kind 8) (withBox r x)
-    (withKernel r x))))))
+    (cond (eqb kind 9) (withRows r x)
+    (withKernel r x)))))))
 
 -- One line, read.
-unfoldable pub stepOf : (chainSheet : Bool) → Reading → Seen → LineStep
-stepOf chainSheet r l =
-    let v = lineVerdict chainSheet r l in
+unfoldable pub stepOf : (chainSheet : Bool) → (numbers : List ℕ) → Reading → Seen → LineStep
+stepOf chainSheet numbers r l =
+    let v = lineVerdict chainSheet numbers r l in
     record { verdict = v; reading = byVerdict v (taken r (l .first)) (λ x. r) }
 
 -- Before the first line.
@@ -229,29 +248,37 @@ unfoldable pub complete : Reading → Bool
 complete r = closes (r .last)
 
 -- The lines from the top, up to the first that is turned back.
-unfoldable pub readLines : (chainSheet : Bool) → Reading → List Line → LineStep
-readLines chainSheet r [] = record { verdict = verdict.Accepted; reading = r }
-readLines chainSheet r (l ∷ ls) =
-    let s = stepOf chainSheet r (seenOf (l .ended) (l .chars)) in
-    let rest = readLines chainSheet (s .reading) ls in
+unfoldable pub readLines : (chainSheet : Bool) → (numbers : List ℕ) → Reading → List Line → LineStep
+readLines chainSheet numbers r [] = record { verdict = verdict.Accepted; reading = r }
+readLines chainSheet numbers r (l ∷ ls) =
+    let s = stepOf chainSheet numbers r (seenOf (l .ended) (l .chars)) in
+    let rest = readLines chainSheet numbers (s .reading) ls in
     byVerdict (s .verdict) rest (λ x. s)
 
--- After the last line: 2 where one is "missing at the end"; then 5 to 9, 14 and 15, by judging the value that was read, of which 3 and 4 hold no more.
+-- After the last line: 2 where one is "missing at the end"; then 5 to 9, 14 and 15, by judging the value that was read, of which 3, 16 and 4 hold no more.
 unfoldable pub endVerdict : LineStep → (judged : Verdict) → Verdict
 endVerdict s judged =
     let atEnd = cond (complete (s .reading)) judged (verdict.Refused refusal.Misplaced) in
     byVerdict (s .verdict) atEnd verdict.Refused
 
+-- The numbers on a sheet's first line: the rows of its grid, where it is skewed.
+abbrev pub firstNumbers : List Line → List ℕ
+firstNumbers [] = numbersOn []
+firstNumbers (l ∷ ls) = numbersOn (bytesOf (l .chars))
+
+unfoldable pub numbersIn : List ℕ → List ℕ
+numbersIn sheet = firstNumbers (linesOf sheet)
+
 unfoldable pub readChain : List ℕ → ReadChain
 readChain sheet =
-    let s = readLines true start (linesOf sheet) in
-    let v = endVerdict s (judgeChain (s .reading .chain) []) in
+    let s = readLines true (numbersIn sheet) start (linesOf sheet) in
+    let v = endVerdict s (judgeChain (s .reading .chain) (numbersIn sheet)) in
     record { verdict = v; chain = byVerdict v (s .reading .chain) (λ x. blankChain) }
 
 unfoldable pub readRequest : List ℕ → ReadRequest
 readRequest sheet =
-    let s = readLines false start (linesOf sheet) in
-    let v = endVerdict s (judgeRequest (requestOf (s .reading .chain)) []) in
+    let s = readLines false (numbersIn sheet) start (linesOf sheet) in
+    let v = endVerdict s (judgeRequest (requestOf (s .reading .chain)) (numbersIn sheet)) in
     record { verdict = v; request = requestOf (byVerdict v (s .reading .chain) (λ x. blankChain)) }
 
 -- Where a cell is wanted: 1 as on any line, then 2 for a line other than `05`; and the cell of an `05` line.

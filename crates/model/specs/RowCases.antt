@@ -17,7 +17,7 @@ use Rattle.model.specs.Boxes.Part.{whole, box}
 use Rattle.model.specs.Values.{Trimmed}
 use Rattle.model.specs.Iterations.{cellsOf, positionOf, courseOf, iterationsOf, iterationOf, readsOf, firstsFrom, firsts, distanceIn, distanceOf}
 use Rattle.model.specs.Answers.{numberOf, verdictNumber, outcomeCase, outcomeCounts, answerCounts, answerNumber, firstOf}
-use Rattle.model.specs.Judging.{badRow, badRows, badCount, repeats, noIteration, needsCentre, lacksCentre, badFactor, tooLarge, twice, badOrder, windowChecks, kernelChecks, chainChecks, valueChecks, judged}
+use Rattle.model.specs.Judging.{badRow, badRows, badCount, repeats, noIteration, needsCentre, lacksCentre, badFactor, tooLarge, twice, badOrder, windowChecks, kernelChecks, chainChecks, valueChecks, judged, badRowCount}
 use Rattle.model.specs.Steps.{insert, falling, whichOf, authorsOrder, distances, sorted}
 use Rattle.model.specs.Kernels.{wordsAt, terms, written, width, centreOf}
 use Rattle.model.specs.Clock.{turn, limit, turns, ready, fires, next, moves}
@@ -168,7 +168,7 @@ unfolding planned plans down up alone column zigzag
     cellsAbove rowCells cellCount hasColumn insideRows inside rowPlace cellPlace position rowAt columnAt cellAt isIteration
     count vector smallest rowsDown columnsOn commonStart commonEnd commonRow allIterations indexCount widths equalRows boxShape boxCourse course crossed readsOutside badBox
     cellsOf positionOf courseOf iterationsOf iterationOf readsOf firstsFrom firsts distanceIn distanceOf numberOf verdictNumber firstOf
-    badRow badRows badCount repeats noIteration needsCentre lacksCentre badFactor tooLarge twice badOrder windowChecks kernelChecks chainChecks valueChecks judged
+    badRow badRowCount badRows badCount repeats noIteration needsCentre lacksCentre badFactor tooLarge twice badOrder windowChecks kernelChecks chainChecks valueChecks judged
     insert falling whichOf authorsOrder distances sorted
 plan-table = refl
 
@@ -178,7 +178,7 @@ unfolding ran runs down up start endOf firingClocks
     cellsAbove rowCells cellCount hasColumn insideRows inside rowPlace cellPlace position rowAt columnAt cellAt isIteration
     count vector smallest rowsDown columnsOn commonStart commonEnd commonRow allIterations indexCount widths equalRows boxShape boxCourse course crossed readsOutside badBox
     cellsOf positionOf courseOf iterationsOf iterationOf readsOf numberOf outcomeCase outcomeCounts answerCounts answerNumber firstOf
-    badRow badRows badCount repeats noIteration needsCentre lacksCentre badFactor tooLarge twice badOrder windowChecks kernelChecks chainChecks valueChecks
+    badRow badRowCount badRows badCount repeats noIteration needsCentre lacksCentre badFactor tooLarge twice badOrder windowChecks kernelChecks chainChecks valueChecks
     wordsAt terms written width centreOf turn limit turns ready fires next moves firstPlace placeIn presented stored
     layout countersOf withCounters outcomeOf words clocked look call events shortStore notPast badCounter badFifo badFilters badState judgeRun begun filtersOf termsOf writesOf writtenBy widthOf
     ended runTrimmed eventsTrimmed

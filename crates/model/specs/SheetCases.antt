@@ -14,24 +14,24 @@ use Rattle.model.specs.Lists.{tabulate, upTo, sum, product, greatest, al
 use Rattle.model.specs.Vectors.{same, above, plus, equal, before, isZero}
 use Rattle.model.specs.Geometry.{place, natural, firstEntry, otherEntries, leastFrom, least, lows, extent, extents}
 use Rattle.model.specs.Geometry as rectangular
-use Rattle.model.specs.Grounds.{cellCount, inside, cellPlace, position, cellAt, isIteration}
-use Rattle.model.specs.Courses.{count, vector, allIterations}
+use Rattle.model.specs.Grounds.{cellCount, inside, cellPlace, position, cellAt, isIteration, cellsAbove, rowCells, hasColumn, insideRows, rowPlace, rowAt, columnAt}
+use Rattle.model.specs.Courses.{count, vector, allIterations, smallest, rowsDown, columnsOn, commonStart, commonEnd, commonRow}
 use Rattle.model.specs.Geometry.{indices}
-use Rattle.model.specs.Boxes.{indexCount, widths, boxShape, boxCourse, course, crossed, readsOutside, badBox}
-use Rattle.model.specs.Values.{sizesOf, offsetOf, offsetsOf, partOf, capacitiesOf, orderOf, trimmed, blankChain, groundOf, dimsOf}
-use Rattle.model.specs.Iterations.{positionOf, courseOf, iterationOf, readsOf, firsts, distanceIn, distanceOf}
+use Rattle.model.specs.Boxes.{indexCount, widths, boxShape, boxCourse, course, crossed, readsOutside, badBox, equalRows}
+use Rattle.model.specs.Values.{sizesOf, offsetOf, offsetsOf, partOf, capacitiesOf, orderOf, trimmed, blankChain, groundOf, dimsOf, rowsOf}
+use Rattle.model.specs.Iterations.{positionOf, courseOf, iterationOf, readsOf, firsts, distanceIn, distanceOf, firstsFrom}
 use Rattle.model.specs.Answers.{numberOf, verdictNumber, firstOf, byVerdict}
-use Rattle.model.specs.Judging.{badDims, badSizes, badGrid, badCount, repeats, noIteration, needsCentre, lacksCentre, notFinite, badFactor, tooLarge, twice, badOrder, windowChecks, kernelChecks, chainChecks, valueChecks, judged, judgeChain}
+use Rattle.model.specs.Judging.{badDims, badSizes, badGrid, badCount, repeats, noIteration, needsCentre, lacksCentre, notFinite, badFactor, tooLarge, twice, badOrder, windowChecks, kernelChecks, chainChecks, valueChecks, judged, judgeChain, badRow, badRowCount, badRows}
 use Rattle.model.specs.Steps.{insert, falling, whichOf, authorsOrder, sorted, distances}
 use Rattle.model.specs.Planning.{trimmedRequest, judgeRequest}
 use Rattle.model.specs.Lines.{linesOf}
 use Rattle.model.specs.Frames.{isDigit, valueOf, digitOf, whole, bytesOf, digitsOf, framed, padded, seenOf}
 use Rattle.model.specs.Numbers.{halfAt, wordAt, halfBytes, wordBytes, signed, pattern, signedWord, wordPattern}
-use Rattle.model.specs.Reading.{badKernel, badForm, malformed, nextInRequest, nextInChain, miscounted, among, misplaced, badLength, sizesIn, lineChecks, lineVerdict}
+use Rattle.model.specs.Reading.{badKernel, badForm, malformed, nextInRequest, nextInChain, miscounted, among, misplaced, badLength, sizesIn, lineChecks, lineVerdict, numbersOn, numbersIn, withRows}
 use Rattle.model.specs.NamedWindows.{windows, isName, namedOf, badName, withReferences, windowNamed}
 use Rattle.model.specs.Reading.{withGrid, entriesIn, withOffset, withName, lowestIn, highestIn, withBox, withCapacity, filtersIn, withOrder, kernelIn, withKernel, taken, stepOf, closes, complete, readLines, endVerdict}
 use Rattle.model.specs.Reading.{readChain, readRequest, cellVerdict}
-use Rattle.model.specs.Writing.{gridLine, offsetLine, indexPair, boxLines, capacityLine, orderLines, kernelLine, chainLines, sheetOf, writeVerdict, writeOf}
+use Rattle.model.specs.Writing.{groundLine, offsetLine, indexPair, boxLines, capacityLine, orderLines, kernelLine, chainLines, sheetOf, writeVerdict, writeOf}
 
 -- A text's characters, as bytes.
 unfoldable pub bytesIn : String → List ℕ
@@ -74,6 +74,10 @@ all32 = "1F1E1D1C1B1A191817161514131211100F0E0D0C0B0A09080706050403020100"
 abbrev pub printed : String
 printed = "010100000005\n020003\n020000\n0300000003\n0400\n"
 
+-- Rows (2, 2), (2, 1), (2, 1).
+abbrev tapered : String
+tapered = "090003000200020002000100020001\n"
+
 unfoldable pub requests : List Case
 requests =
     -- document 01's; a single reference; the most cells; the most places
@@ -98,6 +102,23 @@ requests =
     ∷ case "020\0\n" 1
     ∷ case "02 0\n" 1
     ∷ case "ï»¿010100000005\n" 1
+    -- an `09` line: accepted; a missing count, also out of order; its order; its count; its length; starts and lengths; the length of an `02` line behind it
+    ∷ case (tapered ++ "0200000000\n02FFFF0000\n0400\n") 0
+    ∷ case "0900010FFF0400\n0200000000\n0400\n" 0
+    ∷ case "09\n" 1
+    ∷ case "0900\n" 1
+    ∷ case (five ++ "0900\n") 1
+    ∷ case (five ++ "090000\n") 2
+    ∷ case (tapered ++ "09000100000001\n") 2
+    ∷ case "090000\n" 16
+    ∷ case "0900000000\n" 16
+    ∷ case "090201\n" 16
+    ∷ case "090001\n" 1
+    ∷ case "090001100004010000\n" 1
+    ∷ case "09000110000001\n" 16
+    ∷ case "09000100000401\n" 16
+    ∷ case "09000100000000\n" 16
+    ∷ case (tapered ++ "020000\n") 1
     -- unknown first bytes
     ∷ case "100000000000000001\n" 1
     ∷ case "110000000000\n" 1
@@ -329,11 +350,11 @@ unfoldable pub requestRight : Case → Bool
 requestRight c = eqb (verdictNumber (readRequest (bytesIn (c .sheet)) .verdict)) (c .number)
 
 -- The sheet is what is written to an output with two places more, which stay as they were; with a place too few it is 12, and all stay.
-unfoldable pub writesBack : Chain → List ℕ → Bool
-writesBack c sheet =
+unfoldable pub writesBack : Chain → (numbers : List ℕ) → List ℕ → Bool
+writesBack c numbers sheet =
     let room = length sheet in
-    let long = writeOf c (replicate (room + 2) 7) in
-    let short = writeOf c (replicate (room - 1) 7) in
+    let long = writeOf c numbers (replicate (room + 2) 7) in
+    let short = writeOf c numbers (replicate (room - 1) 7) in
     eqb (verdictNumber (long .answer .verdict)) 0
     && (eqb (long .answer .bytes) room
     && (sameBytes (take room (long .output)) sheet
@@ -346,7 +367,7 @@ unfoldable pub chainRight : Case → Bool
 chainRight c =
     let sheet = bytesIn (c .sheet) in
     let r = readChain sheet in
-    eqb (verdictNumber (r .verdict)) (c .number) && byVerdict (r .verdict) (writesBack (r .chain) sheet) (λ x. true)
+    eqb (verdictNumber (r .verdict)) (c .number) && byVerdict (r .verdict) (writesBack (r .chain) (numbersIn sheet) sheet) (λ x. true)
 
 unfoldable pub cellRight : Case → Bool
 cellRight c = all (λ l. eqb (verdictNumber (cellVerdict (seenOf (l .ended) (l .chars)))) (c .number)) (linesOf (bytesIn (c .sheet)))
@@ -354,18 +375,18 @@ cellRight c = all (λ l. eqb (verdictNumber (cellVerdict (seenOf (l .ended) (l .
 -- 3 comes before 12.
 unfoldable pub blankRight : Bool
 blankRight =
-    let w = writeOf blankChain (7 ∷ []) in
+    let w = writeOf blankChain [] (7 ∷ []) in
     eqb (verdictNumber (w .answer .verdict)) 3 && (eqb (w .answer .bytes) 0 && sameBytes (w .output) (7 ∷ []))
 
 pub table : (all requestRight requests && (all chainRight chains && (all cellRight cells && blankRight))) ≡ true
 unfolding bytesIn times requests chains cells sameBytes requestRight writesBack chainRight cellRight blankRight flatMap ofBits toBits
     tabulate upTo sum product greatest all any someBelow same above plus equal before isZero
-    rectangular.cellCount cellCount place natural position cellPlace cellAt firstEntry otherEntries leastFrom least lows extent extents indices count vector allIterations rectangular.inside inside isIteration indexCount widths boxShape boxCourse course crossed readsOutside badBox positionOf courseOf iterationOf readsOf firsts distanceIn distanceOf
-    sizesOf groundOf dimsOf offsetOf offsetsOf partOf capacitiesOf orderOf numberOf verdictNumber firstOf
-    badDims badSizes badGrid badCount repeats noIteration needsCentre lacksCentre notFinite badFactor tooLarge twice badOrder windowChecks kernelChecks chainChecks valueChecks judged judgeChain
+    cellsAbove rowCells hasColumn insideRows rowPlace rowAt columnAt smallest rowsDown columnsOn commonStart commonEnd commonRow equalRows firstsFrom rectangular.cellCount cellCount place natural position cellPlace cellAt firstEntry otherEntries leastFrom least lows extent extents indices count vector allIterations rectangular.inside inside isIteration indexCount widths boxShape boxCourse course crossed readsOutside badBox positionOf courseOf iterationOf readsOf firsts distanceIn distanceOf
+    sizesOf rowsOf groundOf dimsOf offsetOf offsetsOf partOf capacitiesOf orderOf numberOf verdictNumber firstOf
+    badDims badSizes badGrid badRow badRowCount badRows badCount repeats noIteration needsCentre lacksCentre notFinite badFactor tooLarge twice badOrder windowChecks kernelChecks chainChecks valueChecks judged judgeChain
     insert falling whichOf authorsOrder sorted distances trimmedRequest judgeRequest trimmed
     linesOf isDigit valueOf digitOf whole bytesOf digitsOf framed padded halfAt wordAt halfBytes wordBytes signed pattern signedWord wordPattern
-    badKernel badForm malformed nextInRequest nextInChain miscounted among misplaced badLength sizesIn lineChecks lineVerdict
-    windows isName namedOf badName withReferences windowNamed withGrid entriesIn withOffset withName lowestIn highestIn withBox withCapacity filtersIn withOrder kernelIn withKernel taken stepOf closes complete readLines endVerdict readChain readRequest cellVerdict
-    gridLine offsetLine indexPair boxLines capacityLine orderLines kernelLine chainLines sheetOf writeVerdict writeOf
+    badKernel badForm malformed nextInRequest nextInChain miscounted among misplaced badLength sizesIn numbersOn numbersIn lineChecks lineVerdict
+    windows isName namedOf badName withReferences windowNamed withGrid withRows entriesIn withOffset withName lowestIn highestIn withBox withCapacity filtersIn withOrder kernelIn withKernel taken stepOf closes complete readLines endVerdict readChain readRequest cellVerdict
+    groundLine offsetLine indexPair boxLines capacityLine orderLines kernelLine chainLines sheetOf writeVerdict writeOf
 table = refl

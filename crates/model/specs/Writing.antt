@@ -1,4 +1,4 @@
--- Writing a chain sheet (document 01, "Lines of the sheet"; number 12; document 02, requests 2 and 4).
+-- Writing a chain sheet (document 01, "Lines of the sheet"; number 12; document 02, requests 2, 4 and 5).
 use Prim.Native.Nat.{ℕ}
 use mathlib.Core.Bool.{cond}
 use mathlib.Core.List.{List, [], _∷_, _++_, map, flatMap}
@@ -17,16 +17,21 @@ use Rattle.model.specs.declared.Verdict.{Verdict}
 use Rattle.model.specs.declared.Verdict.the-variants as verdict
 use Rattle.model.specs.declared.Wrote.{Wrote}
 use Rattle.model.specs.Lists.{upTo}
-use Rattle.model.specs.Grounds.{groundSizes}
+use Rattle.model.specs.Grounds.{Ground}
+use Rattle.model.specs.Grounds.Ground.{rectangle, rows}
 use Rattle.model.specs.Values.{groundOf, dimsOf, offsetsOf, capacitiesOf, orderOf}
 use Rattle.model.specs.Answers.{check, firstOf, byVerdict}
 use Rattle.model.specs.Judging.{judgeChain}
 use Rattle.model.specs.Frames.{framed}
 use Rattle.model.specs.Numbers.{halfBytes, wordBytes, pattern, wordPattern}
 
--- "`01` dimension count (1 byte), then each size (4 bytes)"
-unfoldable pub gridLine : Grid → List ℕ
-gridLine g = 1 ∷ dimsOf g ∷ flatMap wordBytes (groundSizes (groundOf g []))
+-- "`01` dimension count (1 byte), then each size (4 bytes)"; "A line `09` may stand in place of `01`: a row count, .. then for each row a start .. and a length .., 2 bytes each number"
+unfoldable pub groundLine : (dims : ℕ) → Ground → List ℕ
+groundLine dims (rectangle sizes) = 1 ∷ dims ∷ flatMap wordBytes sizes
+groundLine dims (rows rs) = 9 ∷ (halfBytes (length rs) ++ flatMap (λ r. halfBytes (r .start) ++ halfBytes (r .length)) rs)
+
+abbrev pub gridLine : Grid → (numbers : List ℕ) → List ℕ
+gridLine g numbers = groundLine (dimsOf g) (groundOf g numbers)
 
 -- "`02` one offset, 2 bytes an entry, two's complement"
 unfoldable pub offsetLine : List ℤ → List ℕ
@@ -55,23 +60,23 @@ kernelLine (kernel.Scaled f) = 4 ∷ 2 ∷ wordBytes (toBits binary32 f)
 kernelLine (kernel.Blend g) = 4 ∷ 3 ∷ (wordBytes (toBits binary32 (g .a)) ++ wordBytes (toBits binary32 (g .b)))
 
 -- The lines of a chain sheet, as their bytes. "A chain sheet has n−1 `03` lines before the `04`, FIFO 0 first; its `02` lines are filter 0 first".
-unfoldable pub chainLines : Chain → List (List ℕ)
-chainLines c =
-    gridLine (c .grid)
+unfoldable pub chainLines : Chain → (numbers : List ℕ) → List (List ℕ)
+chainLines c numbers =
+    gridLine (c .grid) numbers
     ∷ (map offsetLine (offsetsOf (dimsOf (c .grid)) (c .window)) ++ (boxLines (dimsOf (c .grid)) (c .bounds) ++ (map capacityLine (capacitiesOf c) ++ (orderLines (c .window .count) (c .order) ++ (kernelLine (c .kernel) ∷ [])))))
 
-unfoldable pub sheetOf : Chain → List ℕ
-sheetOf c = flatMap framed (chainLines c)
+unfoldable pub sheetOf : Chain → (numbers : List ℕ) → List ℕ
+sheetOf c numbers = flatMap framed (chainLines c numbers)
 
 -- No chain sheet has more characters.
 abbrev pub longestSheet : ℕ
-longestSheet = 1141
+longestSheet = 4919
 
 -- What turns the chain back as a value, then 12: "a sheet to be written is longer than the output lent; looked at last".
-unfoldable pub writeVerdict : Chain → (room : ℕ) → Verdict
-writeVerdict c room =
-    let last = firstOf (check (ltb room (length (sheetOf c))) refusal.ShortOutput ∷ []) in
-    byVerdict (judgeChain c []) last verdict.Refused
+unfoldable pub writeVerdict : Chain → (numbers : List ℕ) → (room : ℕ) → Verdict
+writeVerdict c numbers room =
+    let last = firstOf (check (ltb room (length (sheetOf c numbers))) refusal.ShortOutput ∷ []) in
+    byVerdict (judgeChain c numbers) last verdict.Refused
 
 -- What a write call answers, and the output as it leaves it.
 pub record Written : Type 0 where
@@ -79,10 +84,10 @@ pub record Written : Type 0 where
   pub output : List ℕ
 
 -- The sheet from the first place on; later places, and after a refusal all places, stay as they were.
-unfoldable pub writeOf : Chain → List ℕ → Written
-writeOf c output =
-    let v = writeVerdict c (length output) in
-    let sheet = sheetOf c in
+unfoldable pub writeOf : Chain → (numbers : List ℕ) → List ℕ → Written
+writeOf c numbers output =
+    let v = writeVerdict c numbers (length output) in
+    let sheet = sheetOf c numbers in
     byVerdict v
     (record { answer = record { verdict = verdict.Accepted; bytes = length sheet }; output = sheet ++ drop (length sheet) output })
     (λ r. record { answer = record { verdict = verdict.Refused r; bytes = 0 }; output = output })

@@ -140,6 +140,23 @@ smallLoops centre = record {
   centre = centre;
 }
 
+-- The rectangle around a skewed grid, gone over whole.
+abbrev pub aroundLoops : (rows columns centre : ℕ) → Loops
+aroundLoops rows columns centre = record {
+  dims = 2;
+  planes = 1;
+  rows = rows;
+  columns = columns;
+  «z_first» = 0;
+  «z_end» = 1;
+  «y_first» = 0;
+  «y_end» = rows;
+  «x_first» = 0;
+  «x_end» = columns;
+  boxed = false;
+  centre = centre;
+}
+
 -- The same grid and window, over a box.
 abbrev pub boxLoops : Loops → (zFirst zEnd yFirst yEnd xFirst xEnd : ℕ) → Loops
 boxLoops l zFirst zEnd yFirst yEnd xFirst xEnd = record {
@@ -218,3 +235,7 @@ boundsOf l =
 
 unfoldable pub requestOf : Loops → (window : List ℕ) → Kernel → Request
 requestOf l window k = record { grid = gridOf l; window = listed (l .dims) window; bounds = boundsOf l; kernel = k }
+
+-- The same on a skewed grid of so many rows.
+abbrev pub onRows : Request → (rows : ℕ) → Request
+onRows r rows = record { grid = record { skewed = true; rows = rows; dims = 2; sizes = replicate 4 0 }; window = r .window; bounds = r .bounds; kernel = r .kernel }

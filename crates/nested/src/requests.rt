@@ -6,7 +6,7 @@ use model::Kernel;
 use model::Request;
 use model::Window;
 ghost use mathlib.Core.Path.{_≡_};
-ghost use Rattle.nested.specs.Nested.{sizeOf, gridOf, entryOf, placed, listed as listedIn, indexOf, lastBefore, alongDims, lowestOf, highestOf, boundsOf, requestOf};
+ghost use Rattle.nested.specs.Nested.{sizeOf, gridOf, entryOf, placed, listed as listedIn, indexOf, lastBefore, alongDims, lowestOf, highestOf, boundsOf, requestOf, onRows};
 
 fn size(x: usize) -> u32
     ensures { λ r. ⌜ r ≡ sizeOf x ⌝ }
@@ -157,6 +157,27 @@ pub fn request(l: Loops, window: &[u8], kernel: Kernel) -> Request
         grid: grid(l),
         window: listed(l.dims, window),
         bounds: bounds(l),
+        kernel,
+    }
+}
+
+// The same on a skewed grid of so many rows, which are lent beside it.
+pub fn on_rows(r: Request, rows: u32) -> Request
+    ensures { λ q. ⌜ q ≡ onRows r rows ⌝ }
+{
+    let grid = Grid {
+        skewed: true,
+        rows,
+        dims: 2,
+        sizes: [0u32; 4],
+    };
+    let window = r.window;
+    let bounds = r.bounds;
+    let kernel = r.kernel;
+    Request {
+        grid,
+        window,
+        bounds,
         kernel,
     }
 }

@@ -2,7 +2,7 @@
 ghost use Prim.Native.Nat.{_+_, _/_};
 ghost use mathlib.Core.Path.{_≡_};
 ghost use lib.ListN.{length};
-ghost use Rattle.nested.specs.Nested.{flatLoops, solidLoops, smallLoops, boxLoops};
+ghost use Rattle.nested.specs.Nested.{flatLoops, solidLoops, smallLoops, aroundLoops, boxLoops};
 
 // A grid as the nested loop sees it, one plane where it has two dimensions; the iterations that it goes over, each index from its first to before its end, and
 // whether they are a box's; and which reference of the window is the centre, or their number if none is.
@@ -76,6 +76,26 @@ pub fn small(centre: usize) -> Loops
         y_end: 3,
         x_first: 1,
         x_end: 4,
+        boxed: false,
+        centre,
+    }
+}
+
+// The rectangle around a skewed grid, gone over whole.
+pub fn around(rows: usize, columns: usize, centre: usize) -> Loops
+    ensures { λ r. ⌜ r ≡ aroundLoops rows columns centre ⌝ }
+{
+    Loops {
+        dims: 2,
+        planes: 1,
+        rows,
+        columns,
+        z_first: 0,
+        z_end: 1,
+        y_first: 0,
+        y_end: rows,
+        x_first: 0,
+        x_end: columns,
         boxed: false,
         centre,
     }

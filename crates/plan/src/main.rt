@@ -5,7 +5,13 @@ use model::Arriving;
 use model::BLOCK_PLACES;
 use model::PLAN_TEXT_PLACES;
 use model::Verdict;
+ghost use mathlib.Core.Path.{_≡_};
+ghost use lib.ListN.{replicate};
+ghost use Rattle.model.specs.Frames.{rowNumbers};
 ghost use Rattle.program_laws.specs.Loops.{TakenUnless, PlanDue};
+
+// A start and a length of each of 512 rows.
+const ROW_NUMBERS: usize = 1024;
 
 // The sheet as far as it was read; `failed` where a read failed.
 struct Received {
@@ -13,9 +19,10 @@ struct Received {
     arriving: Arriving,
 }
 
-// Reads block after block, to the end of the input or to the first line that is turned back.
-fn receive(block: &mut [u8]) -> Received
-    ensures { λ r. ⌜ TakenUnless (r .failed) (r .arriving) ⌝ }
+// Reads block after block, to the end of the input or to the first line that is turned back; the numbers on the sheet's first line go to `rows`.
+fn receive(block: &mut [u8], rows: &mut [u32]) -> Received
+    requires { ⌜ now rows ≡ replicate rowNumbers 0 ⌝ }
+    ensures { λ r. ⌜ TakenUnless (r .failed) (r .arriving) (now (rows .exit)) ⌝ }
 {
     let mut arriving = program_intake::open();
     // A loop has to end, and nothing says that the input does: no input has so many blocks.
@@ -33,7 +40,7 @@ fn receive(block: &mut [u8]) -> Received
         if len == 0 {
             break;
         }
-        arriving = program_intake::take_block(false, arriving, &block[..len]);
+        arriving = program_intake::take_block(false, arriving, rows, &block[..len]);
         let v = arriving.verdict;
         match v {
             Verdict::Accepted => {}
@@ -46,9 +53,9 @@ fn receive(block: &mut [u8]) -> Received
     }
 }
 
-// Writes the text that is due of this sheet.
-fn write_due(arriving: Arriving, text: &[u8])
-    requires { ⌜ PlanDue arriving (now text) ⌝ }
+// Writes the text that is due of this sheet and its rows.
+fn write_due(arriving: Arriving, rows: &[u32], text: &[u8])
+    requires { ⌜ PlanDue arriving (now rows) (now text) ⌝ }
 {
     io::write_all(STDOUT_FILENO, text);
 }
@@ -56,12 +63,13 @@ fn write_due(arriving: Arriving, text: &[u8])
 // Where a read fails, the program ends without a line.
 fn main() {
     let mut block = [0u8; BLOCK_PLACES];
+    let mut rows = [0u32; ROW_NUMBERS];
     let mut text = [0u8; PLAN_TEXT_PLACES];
-    let s = receive(&mut block);
+    let s = receive(&mut block, &mut rows);
     if s.failed {
         return;
     }
     let arriving = s.arriving;
-    let bytes = program_answer::plan_answer(arriving, &mut text);
-    write_due(arriving, &text[..bytes]);
+    let bytes = program_answer::plan_answer(arriving, &rows, &mut text);
+    write_due(arriving, &rows, &text[..bytes]);
 }

@@ -1,6 +1,6 @@
 -- What the program `plan` writes at the end of its input.
 use Prim.Native.Nat.{ℕ}
-use mathlib.Core.List.{List, []}
+use mathlib.Core.List.{List}
 use Rattle.model.specs.declared.Arriving.{Arriving}
 use Rattle.model.specs.Answers.{byVerdict}
 use Rattle.model.specs.Planning.{judgeRequest, plannedChain}
@@ -10,10 +10,10 @@ use Rattle.model.specs.Writing.{sheetOf}
 use Rattle.model.specs.Arriving.{finished}
 use Rattle.model.specs.Programs.{refusalText}
 
--- What `plan` writes of what arrived, at the end of its input.
-unfoldable pub planAnswer : Arriving → List ℕ
-planAnswer a =
+-- What `plan` writes of what arrived, with the rows' numbers beside it, at the end of its input.
+unfoldable pub planAnswer : Arriving → (numbers : List ℕ) → List ℕ
+planAnswer a numbers =
     let s = finished a in
     let request = requestOf (s .reading .chain) in
-    let sheet = sheetOf (plannedChain request []) in
-    byVerdict (endVerdict s (judgeRequest request [])) sheet refusalText
+    let sheet = sheetOf (plannedChain request numbers) numbers in
+    byVerdict (endVerdict s (judgeRequest request numbers)) sheet refusalText

@@ -1,17 +1,16 @@
 -- A call takes no more cells than it is lent.
-use Prim.Native.Nat.{ℕ, suc, _+_, _-_, _≤_, _<_}
+use Prim.Native.Nat.{ℕ, suc, _≤_}
 use mathlib.Core.Bool.{Bool}
 use mathlib.Core.List.{List, [], _∷_, map}
 use mathlib.Core.Path.{_≡_, refl}
 use native.Mathlib.Omega.{arith}
 use lib.ListN.{length}
 use Rattle.model.specs.declared.Counts.{Counts}
-use Rattle.model.specs.declared.Refusal.{Refusal}
 use Rattle.model.specs.declared.State.{State}
 use Rattle.model.specs.declared.Verdict.{Verdict}
 use Rattle.model.specs.declared.Verdict.the-variants as verdict
 use Rattle.model.specs.declared.Chain.{Chain}
-use Rattle.model.specs.Answers.{answerCounts, outcomeCounts, byVerdict}
+use Rattle.model.specs.Answers.{answerCounts, outcomeCounts}
 use Rattle.model.specs.Clock.{Layout, Counters, first, turns, next}
 use Rattle.model.specs.Values.{trimmed}
 use Rattle.model.specs.Running.{Standing, Ended, Ending, Done, Spent, Starved, Stalled, Full, goes, outcomeOf, clocked, call, layout, writtenBy, widthOf, begun, ended, judgeRun, runTrimmed, runOf}
@@ -49,13 +48,13 @@ counts-back Starved c = refl
 counts-back Stalled c = refl
 counts-back Full c = refl
 
-pub lent-at-most : (c : Chain) (s : State) (store lent output : List ℕ) (allowance : ℕ)
-    → answerCounts (runOf c [] s store lent output allowance .answer) .cells ≤ length lent
+pub lent-at-most : (c : Chain) (rows : List ℕ) (s : State) (store lent output : List ℕ) (allowance : ℕ)
+    → answerCounts (runOf c rows s store lent output allowance .answer) .cells ≤ length lent
 unfolding runOf runTrimmed answerCounts ended begun
-lent-at-most c s store lent output allowance = go (judgeRun (trimmed c []) s store) refl
+lent-at-most c rows s store lent output allowance = go (judgeRun (trimmed c rows) s store) refl
   where
-    go : (v : Verdict) → judgeRun (trimmed c []) s store ≡ v → answerCounts (runOf c [] s store lent output allowance .answer) .cells ≤ length lent
+    go : (v : Verdict) → judgeRun (trimmed c rows) s store ≡ v → answerCounts (runOf c rows s store lent output allowance .answer) .cells ≤ length lent
     go (verdict.Refused x) e = rw e (omega arith)
     go verdict.Accepted e =
-        rw (e, counts-back (ended (trimmed c []) s store lent output allowance .ending) (ended (trimmed c []) s store lent output allowance .standing .done))
-        (no-more (layout (trimmed c [])) (writtenBy (trimmed c [])) (widthOf (trimmed c [])) lent allowance (begun (trimmed c []) s store output) (omega arith))
+        rw (e, counts-back (ended (trimmed c rows) s store lent output allowance .ending) (ended (trimmed c rows) s store lent output allowance .standing .done))
+        (no-more (layout (trimmed c rows)) (writtenBy (trimmed c rows)) (widthOf (trimmed c rows)) lent allowance (begun (trimmed c rows) s store output) (omega arith))

@@ -13,13 +13,13 @@ use Rattle.program_driver.specs.declared.Step.{Step}
 use Rattle.program_driver.specs.Steps.{Left, left, sheetRead, cellsRead, ranOn, lastLine, advancedBy, advanced}
 
 -- What a step of `run` writes.
-pub step-within : (s : Step) (store cells words text : List ℕ) (j : Job) (block : List ℕ) (at : ℕ) (store₀ cells₀ words₀ text₀ : List ℕ)
-    → left s store cells words text ≡ advanced j block at store₀ cells₀ words₀ text₀ → Within (s .bytes) text
+pub step-within : (s : Step) (rows store cells words text : List ℕ) (j : Job) (block : List ℕ) (at : ℕ) (rows₀ store₀ cells₀ words₀ text₀ : List ℕ)
+    → left s rows store cells words text ≡ advanced j block at rows₀ store₀ cells₀ words₀ text₀ → Within (s .bytes) text
 unfolding advanced advancedBy sheetRead cellsRead ranOn lastLine firingsLaid
-step-within s store cells words text j block at store₀ cells₀ words₀ text₀ e =
+step-within s rows store cells words text j block at rows₀ store₀ cells₀ words₀ text₀ e =
     there (s .bytes) text (subst (λ (x : Left). x .step .bytes ≤ length (x .text)) (sym e) (by-stage (j .stage)))
   where
-    by-stage : (x : Stage) → advancedBy x j block at store₀ cells₀ words₀ text₀ .step .bytes ≤ length (advancedBy x j block at store₀ cells₀ words₀ text₀ .text)
+    by-stage : (x : Stage) → advancedBy x j block at rows₀ store₀ cells₀ words₀ text₀ .step .bytes ≤ length (advancedBy x j block at rows₀ store₀ cells₀ words₀ text₀ .text)
     by-stage stage.Sheet = omega arith
     by-stage stage.Cells = omega arith
     by-stage stage.Clocks = over-within _ _

@@ -1,7 +1,7 @@
 -- A step of the program `run`.
 use Prim.Native.Nat.{ℕ, _+_, _%_, _^_, min}
 use mathlib.Core.Bool.{true}
-use mathlib.Core.List.{List, [], _++_}
+use mathlib.Core.List.{List, _++_}
 use mathlib.Core.Path.{_≡_}
 use lib.ListN.{length, take, drop}
 use Rattle.model.specs.declared.Answer.{Answer}
@@ -14,7 +14,7 @@ use Rattle.model.specs.Kernels.{width}
 use Rattle.model.specs.Running.{Run, runOf}
 use Rattle.model.specs.Programs.{endLine, refusalText}
 use Rattle.runner.specs.Runs.{ranOf}
-use Rattle.program_intake.specs.Taken.{lineTaken, cellsTaken}
+use Rattle.program_intake.specs.Taken.{beside, lineTaken, cellsTaken}
 use Rattle.program_lines.specs.Texts.{laidIfFits, roomFor, firingsLaid}
 use Rattle.program_stages.specs.declared.Job.{Job}
 use Rattle.program_stages.specs.declared.Stage.{Stage}
@@ -22,37 +22,45 @@ use Rattle.program_stages.specs.declared.Stage.the-variants as stage
 use Rattle.program_stages.specs.Stages.{staged, sheetStage, cellsStage, answerStage}
 use Rattle.program_driver.specs.declared.Step.{Step}
 
+-- All that a step leaves: what it hands back, and what it was lent.
+pub record Left : Type 0 where
+  pub step : Step
+  pub rows : List ℕ
+  pub store : List ℕ
+  pub cells : List ℕ
+  pub words : List ℕ
+  pub text : List ℕ
+
+abbrev pub left : Step → (rows store cells words text : List ℕ) → Left
+left step rows store cells words text = record { step = step; rows = rows; store = store; cells = cells; words = words; text = text }
+
 -- A line of the sheet.
-unfoldable pub sheetRead : Job → (block : List ℕ) → (at : ℕ) → Step
-sheetRead j block at =
-    let t = lineTaken true (j .arriving) block at in
-    record {
+unfoldable pub sheetRead : Job → (block : List ℕ) → (at : ℕ) → (rows store cells words text : List ℕ) → Left
+sheetRead j block at rows store cells words text =
+    let t = lineTaken true (beside (j .arriving) rows) block at in
+    let a = t .answer in
+    let step : Step = record {
       job = record {
-        stage = sheetStage (t .arriving);
-        arriving = t .arriving;
+        stage = sheetStage (a .arriving) (t .numbers);
+        arriving = a .arriving;
         state = j .state;
         clocks = j .clocks;
         line = j .line;
         from = j .from;
         count = j .count;
       };
-      at = t .at;
+      at = a .at;
       bytes = 0;
-    }
+    } in
+    left step (t .numbers) store cells words text
 
--- All that a step leaves: what it hands back, and what it was lent.
-pub record Left : Type 0 where
-  pub step : Step
-  pub store : List ℕ
-  pub cells : List ℕ
-  pub words : List ℕ
-  pub text : List ℕ
+-- A step that was lent no more than the block and the rows.
+abbrev pub LeavesRows : Step → Job → (block : List ℕ) → (at : ℕ) → (before after : List ℕ) → Type 0
+LeavesRows s j block at before after = (store cells words text : List ℕ) → left s after store cells words text ≡ sheetRead j block at before store cells words text
 
-abbrev pub left : Step → (store cells words text : List ℕ) → Left
-left step store cells words text = record { step = step; store = store; cells = cells; words = words; text = text }
-
-unfoldable pub cellsRead : Job → (block : List ℕ) → (at : ℕ) → (store cells words text : List ℕ) → Left
-cellsRead j block at store cells words text =
+-- `05` lines.
+unfoldable pub cellsRead : Job → (block : List ℕ) → (at : ℕ) → (rows store cells words text : List ℕ) → Left
+cellsRead j block at rows store cells words text =
     let t = cellsTaken (j .line) block at cells in
     let a = t .answer in
     let step : Step = record {
@@ -68,15 +76,15 @@ cellsRead j block at store cells words text =
       at = a .at;
       bytes = 0;
     } in
-    left step store (t .cells) words text
+    left step rows store (t .cells) words text
 
 -- A step that was lent no more than the block and the cells.
 abbrev pub LeavesCells : Step → Job → (block : List ℕ) → (at : ℕ) → (before after : List ℕ) → Type 0
-LeavesCells s j block at before after = (store words text : List ℕ) → left s store after words text ≡ cellsRead j block at store before words text
+LeavesCells s j block at before after = (rows store words text : List ℕ) → left s rows store after words text ≡ cellsRead j block at rows store before words text
 
--- The call: it is lent no rows, the cells from `from` to before `to`, and the first `places` words as its output.
-abbrev pub partRun : Chain → State → (store cells words : List ℕ) → (from to places : ℕ) → Run
-partRun c s store cells words from to places = runOf c [] s store (drop from (take to cells)) (take places words) 4294967295
+-- The call: it is lent the cells from `from` to before `to`, and the first `places` words as its output.
+abbrev pub partRun : Chain → (rows : List ℕ) → State → (store cells words : List ℕ) → (from to places : ℕ) → Run
+partRun c rows s store cells words from to places = runOf c rows s store (drop from (take to cells)) (take places words) 4294967295
 
 -- What it leaves, where `store` and `words` are as it left them.
 abbrev pub partLeft : Ran → (store words : List ℕ) → (places : ℕ) → Run
@@ -99,32 +107,32 @@ jobAfter j a s from to = record {
 }
 
 -- A run call over the cells at hand, with as many output places as there is room for their lines.
-unfoldable pub ranOn : Job → (at : ℕ) → (store cells words text : List ℕ) → Left
-ranOn j at store cells words text =
+unfoldable pub ranOn : Job → (at : ℕ) → (rows store cells words text : List ℕ) → Left
+ranOn j at rows store cells words text =
     let chain = j .arriving .reading .chain in
     let size = width (chain .kernel) (chain .window .count) in
     let places = min (length words) (roomFor size (length text)) in
     let to = min (j .count) (length cells) in
     let from = min (j .from) to in
-    let r = partRun chain (j .state) store cells words from to places in
+    let r = partRun chain rows (j .state) store cells words from to places in
     let output = r .output ++ drop places words in
     let t = firingsLaid size (j .state .fired .0) (answerCounts (r .answer) .firings) output text in
-    left (record { job = jobAfter j (r .answer) (r .state) from to; at = at; bytes = t .chars }) (r .store) cells output (t .output)
+    left (record { job = jobAfter j (r .answer) (r .state) from to; at = at; bytes = t .chars }) rows (r .store) cells output (t .output)
 
 -- The last line.
-unfoldable pub lastLine : Job → (line : List ℕ) → (at : ℕ) → (store cells words text : List ℕ) → Left
-lastLine j line at store cells words text =
+unfoldable pub lastLine : Job → (line : List ℕ) → (at : ℕ) → (rows store cells words text : List ℕ) → Left
+lastLine j line at rows store cells words text =
     let t = laidIfFits line text in
-    left (record { job = staged j stage.Over; at = at; bytes = t .chars }) store cells words (t .output)
+    left (record { job = staged j stage.Over; at = at; bytes = t .chars }) rows store cells words (t .output)
 
 -- One step.
-unfoldable pub advancedBy : Stage → Job → (block : List ℕ) → (at : ℕ) → (store cells words text : List ℕ) → Left
-advancedBy stage.Sheet j block at store cells words text = left (sheetRead j block at) store cells words text
-advancedBy stage.Cells j block at store cells words text = cellsRead j block at store cells words text
-advancedBy stage.Clocks j block at store cells words text = ranOn j at store cells words text
-advancedBy (stage.Ending way) j block at store cells words text = lastLine j (framed (endLine way (j .clocks))) at store cells words text
-advancedBy (stage.Refusing x) j block at store cells words text = lastLine j (refusalText x) at store cells words text
-advancedBy stage.Over j block at store cells words text = left (record { job = j; at = at; bytes = 0 }) store cells words text
+unfoldable pub advancedBy : Stage → Job → (block : List ℕ) → (at : ℕ) → (rows store cells words text : List ℕ) → Left
+advancedBy stage.Sheet j block at rows store cells words text = sheetRead j block at rows store cells words text
+advancedBy stage.Cells j block at rows store cells words text = cellsRead j block at rows store cells words text
+advancedBy stage.Clocks j block at rows store cells words text = ranOn j at rows store cells words text
+advancedBy (stage.Ending way) j block at rows store cells words text = lastLine j (framed (endLine way (j .clocks))) at rows store cells words text
+advancedBy (stage.Refusing x) j block at rows store cells words text = lastLine j (refusalText x) at rows store cells words text
+advancedBy stage.Over j block at rows store cells words text = left (record { job = j; at = at; bytes = 0 }) rows store cells words text
 
-unfoldable pub advanced : Job → (block : List ℕ) → (at : ℕ) → (store cells words text : List ℕ) → Left
-advanced j block at store cells words text = advancedBy (j .stage) j block at store cells words text
+unfoldable pub advanced : Job → (block : List ℕ) → (at : ℕ) → (rows store cells words text : List ℕ) → Left
+advanced j block at rows store cells words text = advancedBy (j .stage) j block at rows store cells words text

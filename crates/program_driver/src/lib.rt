@@ -11,7 +11,7 @@ ghost use lib.ListN.{length};
 ghost use Rattle.model.specs.Answers.{answerCounts};
 ghost use Rattle.model.specs.Kernels.{width};
 ghost use Rattle.program_lines.specs.Texts.{Within};
-ghost use Rattle.program_driver.specs.Steps.{sheetRead, left, LeavesCells, partRun, partLeft, KeptBehind, jobAfter, ranOn, advanced};
+ghost use Rattle.program_driver.specs.Steps.{left, LeavesRows, LeavesCells, partRun, partLeft, KeptBehind, jobAfter, ranOn, advanced};
 
 // What a step leaves: the job, the place in the block behind what was looked at, and how many characters of text are to be written.
 pub struct Step {
@@ -20,17 +20,17 @@ pub struct Step {
     pub bytes: usize,
 }
 
-fn read_sheet(j: Job, block: &[u8], at: usize) -> Step
-    ensures { λ r. ⌜ r ≡ sheetRead j (now (block .entry)) at ⌝ }
+fn read_sheet(j: Job, block: &[u8], at: usize, rows: &mut [u32]) -> Step
+    ensures { λ r. ⌜ LeavesRows r j (now (block .entry)) at (now (rows .entry)) (now (rows .exit)) ⌝ }
 {
     let old = j.arriving;
-    let t = program_intake::take_line(true, old, block, at);
+    let t = program_intake::take_line(true, old, rows, block, at);
     let arriving = t.arriving;
     let state = j.state;
     let line = j.line;
     Step {
         job: Job {
-            stage: program_stages::sheet_stage(arriving),
+            stage: program_stages::sheet_stage(arriving, rows),
             arriving,
             state,
             clocks: j.clocks,
@@ -76,9 +76,10 @@ fn firing_size(chain: Chain) -> usize
     kernel::width(kernel, window.count as usize)
 }
 
-// A run call with no rows beside the chain, over the cells from `from` to before `to`, with the first `places` words as its output.
+// A run call over the cells from `from` to before `to`, with the first `places` words as its output.
 fn run_part(
     chain: Chain,
+    rows: &[u32],
     state: State,
     store: &mut [u32],
     cells: &[u32],
@@ -88,12 +89,12 @@ fn run_part(
     places: usize,
 ) -> Ran
     requires { ⌜ (from ≤ to) × (to ≤ length (now cells)) × (places ≤ length (now words)) ⌝ }
-    ensures { λ r. ⌜ partLeft r (now (store .exit)) (now (words .exit)) places ≡ partRun chain state (now (store .entry)) (now (cells .entry)) (now (words .entry)) from to places ⌝ }
+    ensures { λ r. ⌜ partLeft r (now (store .exit)) (now (words .exit)) places ≡ partRun chain (now (rows .entry)) state (now (store .entry)) (now (cells .entry)) (now (words .entry)) from to places ⌝ }
     ensures { λ r. ⌜ KeptBehind places (now (words .entry)) (now (words .exit)) ⌝ }
 {
     runner::run(
         chain,
-        &[],
+        rows,
         state,
         store,
         &cells[from..to],
@@ -127,12 +128,13 @@ fn ran_on(j: Job, ran: Ran, from: usize, to: usize) -> Job
 fn run_on(
     j: Job,
     at: usize,
+    rows: &[u32],
     store: &mut [u32],
     cells: &[u32],
     words: &mut [u32],
     text: &mut [u8],
 ) -> Step
-    ensures { λ r. ⌜ left r (now (store .exit)) (now (cells .entry)) (now (words .exit)) (now (text .exit)) ≡ ranOn j at (now (store .entry)) (now (cells .entry)) (now (words .entry)) (now (text .entry)) ⌝ }
+    ensures { λ r. ⌜ left r (now (rows .entry)) (now (store .exit)) (now (cells .entry)) (now (words .exit)) (now (text .exit)) ≡ ranOn j at (now (rows .entry)) (now (store .entry)) (now (cells .entry)) (now (words .entry)) (now (text .entry)) ⌝ }
 {
     let arriving = j.arriving;
     let reading = arriving.reading;
@@ -142,7 +144,7 @@ fn run_on(
     let places = lesser(words.len(), program_lines::room_for(size, text.len()));
     let to = lesser(j.count, cells.len());
     let from = lesser(j.from, to);
-    let ran = run_part(chain, state, store, cells, from, to, words, places);
+    let ran = run_part(chain, rows, state, store, cells, from, to, words, places);
     let fired = state.fired;
     let answer = ran.answer;
     let c = program_stages::counts_of(answer);
@@ -159,19 +161,20 @@ pub fn advance(
     j: Job,
     block: &[u8],
     at: usize,
+    rows: &mut [u32],
     store: &mut [u32],
     cells: &mut [u32],
     words: &mut [u32],
     text: &mut [u8],
 ) -> Step
-    ensures { λ r. ⌜ left r (now (store .exit)) (now (cells .exit)) (now (words .exit)) (now (text .exit)) ≡ advanced j (now (block .entry)) at (now (store .entry)) (now (cells .entry)) (now (words .entry)) (now (text .entry)) ⌝ }
+    ensures { λ r. ⌜ left r (now (rows .exit)) (now (store .exit)) (now (cells .exit)) (now (words .exit)) (now (text .exit)) ≡ advanced j (now (block .entry)) at (now (rows .entry)) (now (store .entry)) (now (cells .entry)) (now (words .entry)) (now (text .entry)) ⌝ }
     ensures { λ r. ⌜ Within (r .bytes) (now (text .exit)) ⌝ }
 {
     let stage = j.stage;
     match stage {
-        Stage::Sheet => read_sheet(j, block, at),
+        Stage::Sheet => read_sheet(j, block, at, rows),
         Stage::Cells => read_cells(j, block, at, cells),
-        Stage::Clocks => run_on(j, at, store, cells, words, text),
+        Stage::Clocks => run_on(j, at, rows, store, cells, words, text),
         Stage::Ending(way) => {
             let bytes = program_lines::put_end(way, j.clocks, text);
             Step {

@@ -13,27 +13,37 @@ use Rattle.model.specs.declared.Verdict.the-variants as verdict
 use Rattle.model.specs.Lines.{lineOf}
 use Rattle.model.specs.Frames.{feeds, shown}
 use Rattle.model.specs.Reading.{stepOf}
-use Rattle.model.specs.Arriving.{closed, arrive, throughFeed}
+use Rattle.model.specs.Arriving.{closed, Arrived, arrive, throughFeed}
 use Rattle.sheet_trips.proofs.AsItArrives.{stays}
 use Rattle.program_intake.specs.declared.LineTaken.{LineTaken}
-use Rattle.program_intake.specs.Taken.{longer, lineTaken}
+use Rattle.program_intake.specs.Taken.{longer, numbersTaken, beside, TookLine, tookLine, lineTaken}
 use Rattle.program_intake.proofs.PieceLaws.{through-ended, through-open, through-some}
 use Rattle.program_intake.proofs.ArrivingLaws.{midway, line-ends, line-stays-open, arrive-on}
 
 -- What a line of a block leaves, by what arrived and where it ends.
-made : (chained : Bool) (a b : Arriving) (block : List ℕ) (at end : ℕ)
-    → b ≡ arrive chained a (throughFeed (drop at block)) → end ≡ at + length (throughFeed (drop at block))
-    → record { arriving = b; at = end } ≡ lineTaken chained a block at
+made : (chained : Bool) (a : Arrived) (b : Arriving) (ns block : List ℕ) (at end : ℕ)
+    → beside b ns ≡ arrive chained a (throughFeed (drop at block)) → end ≡ at + length (throughFeed (drop at block))
+    → tookLine (record { arriving = b; at = end }) ns ≡ lineTaken chained a block at
 unfolding lineTaken
-made chained a b block at end p q = rw (p, q)
+made chained a b ns block at end p q =
+    ap (λ (t : Arrived). tookLine (record { arriving = t .sheet; at = end }) (t .numbers)) p
+    ∙ ap (λ k. tookLine (record { arriving = arrive chained a (throughFeed (drop at block)) .sheet; at = k }) (arrive chained a (throughFeed (drop at block)) .numbers)) q
 
 -- Where nothing was refused.
 accepted : (a : Arriving) → a .verdict ≡ verdict.Accepted → a ≡ midway (a .reading) (a .frame) (a .begun)
 accepted a e = ap (λ v. record { verdict = v; reading = a .reading; frame = a .frame; begun = a .begun }) e
 
-module _ (chained : Bool) (a : Arriving) (block : List ℕ) (at : ℕ) (piece : List ℕ) (is : piece ≡ lineOf (drop at block)) where
+module _ (chained : Bool) (a : Arriving) (numbers block : List ℕ) (at : ℕ) (piece : List ℕ) (is : piece ≡ lineOf (drop at block)) where
   abbrev rest : List ℕ
   rest = drop at block
+
+  -- All that arrives, by what it makes of an open line; and that it is nothing after a refusal.
+  all-arrives : a .verdict ≡ verdict.Accepted → (t : Arrived)
+      → arrive chained (beside (midway (a .reading) (a .frame) (a .begun)) numbers) (throughFeed rest) ≡ t → t ≡ arrive chained (beside a numbers) (throughFeed rest)
+  all-arrives e t p = sym p ∙ ap (λ g. arrive chained (beside g numbers) (throughFeed rest)) (sym (accepted a e))
+
+  none-arrives : (x : Refusal) → a .verdict ≡ verdict.Refused x → beside a numbers ≡ arrive chained (beside a numbers) (throughFeed rest)
+  none-arrives x e = sym (stays chained (beside a numbers) x (throughFeed rest) e)
 
   -- The line has its LF in the block.
   module _ (short : at + length piece < length block) where
@@ -43,18 +53,21 @@ module _ (chained : Bool) (a : Arriving) (block : List ℕ) (at : ℕ) (piece : 
     behind : at + length piece + 1 ≡ at + length (throughFeed rest)
     behind = omega (arith, ap length is, through-ended rest ended)
 
-    pub ended-refused : (x : Refusal) → a .verdict ≡ verdict.Refused x → record { arriving = a; at = at + length piece + 1 } ≡ lineTaken chained a block at
-    ended-refused x e = made chained a a block at _ (sym (stays chained a x (throughFeed rest) e)) behind
+    pub ended-refused : (x : Refusal) → a .verdict ≡ verdict.Refused x
+        → tookLine (record { arriving = a; at = at + length piece + 1 }) numbers ≡ lineTaken chained (beside a numbers) block at
+    ended-refused x e = made chained _ a numbers block at _ (none-arrives x e) behind
 
-    pub ended-accepted : a .verdict ≡ verdict.Accepted → (f : Frame) → f ≡ feeds (a .frame) piece
-        → (b : Arriving) → b ≡ closed (stepOf chained (a .reading) (shown f))
-        → record { arriving = b; at = at + length piece + 1 } ≡ lineTaken chained a block at
-    ended-accepted e f q b t =
-        made chained a b block at _
-        (t
-        ∙ ap (λ g. closed (stepOf chained (a .reading) (shown g))) (q ∙ ap (feeds (a .frame)) is)
-        ∙ sym (line-ends chained (a .reading) rest (a .frame) (a .begun) ended)
-        ∙ ap (λ g. arrive chained g (throughFeed rest)) (sym (accepted a e)))
+    pub ended-accepted : a .verdict ≡ verdict.Accepted → (ns : List ℕ) → ns ≡ numbersTaken (a .reading .last) numbers (a .frame) piece
+        → (f : Frame) → f ≡ feeds (a .frame) piece
+        → (b : Arriving) → b ≡ closed (stepOf chained ns (a .reading) (shown f))
+        → tookLine (record { arriving = b; at = at + length piece + 1 }) ns ≡ lineTaken chained (beside a numbers) block at
+    ended-accepted e ns m f q b t =
+        made chained _ b ns block at _
+        (ap (λ g. beside g ns) t
+        ∙ ap (λ g. beside (closed (stepOf chained ns (a .reading) (shown g))) ns) (q ∙ ap (feeds (a .frame)) is)
+        ∙ ap (λ k. beside (closed (stepOf chained k (a .reading) (shown (feeds (a .frame) (lineOf rest))))) k)
+        (m ∙ ap (numbersTaken (a .reading .last) numbers (a .frame)) is)
+        ∙ all-arrives e _ (line-ends chained (a .reading) rest numbers (a .frame) (a .begun) ended))
         behind
 
   -- It has none.
@@ -65,35 +78,39 @@ module _ (chained : Bool) (a : Arriving) (block : List ℕ) (at : ℕ) (piece : 
     to-end : at + length piece ≡ at + length (throughFeed rest)
     to-end = omega (arith, ap length is, through-open rest unended)
 
-    pub open-refused : (x : Refusal) → a .verdict ≡ verdict.Refused x → record { arriving = a; at = at + length piece } ≡ lineTaken chained a block at
-    open-refused x e = made chained a a block at _ (sym (stays chained a x (throughFeed rest) e)) to-end
+    pub open-refused : (x : Refusal) → a .verdict ≡ verdict.Refused x
+        → tookLine (record { arriving = a; at = at + length piece }) numbers ≡ lineTaken chained (beside a numbers) block at
+    open-refused x e = made chained _ a numbers block at _ (none-arrives x e) to-end
 
-    pub open-accepted : a .verdict ≡ verdict.Accepted → (f : Frame) → f ≡ feeds (a .frame) piece
+    pub open-accepted : a .verdict ≡ verdict.Accepted → (ns : List ℕ) → ns ≡ numbersTaken (a .reading .last) numbers (a .frame) piece
+        → (f : Frame) → f ≡ feeds (a .frame) piece
         → (b : Arriving) → b ≡ longer a f (length piece)
-        → record { arriving = b; at = at + length piece } ≡ lineTaken chained a block at
-    open-accepted e f q b t =
-        made chained a b block at _
-        (t
-        ∙ ap (λ g. longer a g (length piece)) (q ∙ ap (feeds (a .frame)) is)
-        ∙ ap (λ p. longer a (feeds (a .frame) (lineOf rest)) (length p)) is
-        ∙ sym (line-stays-open chained (a .reading) rest (a .frame) (a .begun) unended)
-        ∙ ap (λ g. arrive chained g (throughFeed rest)) (sym (accepted a e)))
+        → tookLine (record { arriving = b; at = at + length piece }) ns ≡ lineTaken chained (beside a numbers) block at
+    open-accepted e ns m f q b t =
+        made chained _ b ns block at _
+        (ap (λ g. beside g ns) t
+        ∙ ap (λ g. beside (longer a g (length piece)) ns) (q ∙ ap (feeds (a .frame)) is)
+        ∙ ap (λ p. beside (longer a (feeds (a .frame) (lineOf rest)) (length p)) ns) is
+        ∙ ap (beside (longer a (feeds (a .frame) (lineOf rest)) (length (lineOf rest)))) (m ∙ ap (numbersTaken (a .reading .last) numbers (a .frame)) is)
+        ∙ all-arrives e _ (line-stays-open chained (a .reading) rest numbers (a .frame) (a .begun) unended))
         to-end
 
 -- The block behind the line, and that there is less of it.
-module _ (chained : Bool) (a : Arriving) (block : List ℕ) (at : ℕ) (t : LineTaken) (is : t ≡ lineTaken chained a block at) where
-  pub goes-on : arrive chained (t .arriving) (drop (t .at) block) ≡ arrive chained a (drop at block)
+module _ (chained : Bool) (a : Arrived) (block : List ℕ) (at : ℕ) (t : LineTaken) (ns : List ℕ) (is : tookLine t ns ≡ lineTaken chained a block at) where
+  pub goes-on : arrive chained (beside (t .arriving) ns) (drop (t .at) block) ≡ arrive chained a (drop at block)
   unfolding lineTaken
   goes-on =
-      rw is
-      (ap (arrive chained (arrive chained a (throughFeed (drop at block)))) (sym (drop-drop (length (throughFeed (drop at block))) at block))
-      ∙ arrive-on chained (drop at block) a)
+      ap (λ (k : TookLine). arrive chained (beside (k .answer .arriving) (k .numbers)) (drop (k .answer .at) block)) is
+      ∙ ap (arrive chained (arrive chained a (throughFeed (drop at block)))) (sym (drop-drop (length (throughFeed (drop at block))) at block))
+      ∙ arrive-on chained (drop at block) a
 
   pub moves : at < length block → at < t .at
   unfolding lineTaken
-  moves h = rw is (omega (arith, through-some (drop at block) (omega (arith, length-drop at block))))
+  moves h =
+      let e : t .at ≡ at + length (throughFeed (drop at block)) = ap (λ (k : TookLine). k .answer .at) is in
+      omega (arith, e, through-some (drop at block) (omega (arith, length-drop at block)))
 
 -- At the block's end.
-pub arrived : (chained : Bool) (a : Arriving) (block : List ℕ) (at : ℕ) → length block ≤ at → a ≡ arrive chained a (drop at block)
+pub at-end : (chained : Bool) (a : Arrived) (block : List ℕ) (at : ℕ) → length block ≤ at → a ≡ arrive chained a (drop at block)
 unfolding arrive
-arrived chained a block at h = rw (drop-of-length-le block {i = at} h)
+at-end chained a block at h = rw (drop-of-length-le block {i = at} h)

@@ -2,15 +2,16 @@
 use model::Arriving;
 use model::CellLine;
 use model::Frame;
+use model::Last;
 use model::LineStep;
 use model::Refusal;
 use model::Verdict;
 ghost use mathlib.Core.Path.{_≡_};
 ghost use Rattle.model.specs.declared.Verdict.the-variants.{Accepted};
-ghost use Rattle.model.specs.Arriving.{opened, closed, arrive, finished, newLine};
+ghost use Rattle.model.specs.Arriving.{opened, closed, stoodFirst, arrive, finished, newLine};
 ghost use Rattle.model.specs.Frames.{shown};
 ghost use Rattle.model.specs.Reading.{stepOf};
-ghost use Rattle.program_intake.specs.Taken.{started, longer, lineTaken, took, cellsTaken};
+ghost use Rattle.program_intake.specs.Taken.{started, longer, numbersTaken, beside, tookLine, lineTaken, took, cellsTaken};
 
 // A line taken from a block, or as much of it as the block has, and the place behind it.
 pub struct LineTaken {
@@ -60,12 +61,37 @@ fn lengthen(a: Arriving, frame: Frame, chars: usize) -> Arriving
     }
 }
 
+// No line of the sheet was read yet.
+fn is_first(last: Last) -> bool
+    ensures { λ r. ⌜ r ≡ stoodFirst last ⌝ }
+{
+    match last {
+        Last::Nothing => true,
+        Last::Grid => false,
+        Last::Offset => false,
+        Last::Name => false,
+        Last::Box => false,
+        Last::Capacity => false,
+        Last::Order => false,
+        Last::Kernel => false,
+    }
+}
+
+// The rows' numbers in a piece of the open line: on the sheet's first line alone are any.
+fn take_numbers(last: Last, f: Frame, piece: &[u8], rows: &mut [u32])
+    ensures { λ _. ⌜ now (rows .exit) ≡ numbersTaken last (now (rows .entry)) f (now (piece .entry)) ⌝ }
+{
+    if is_first(last) {
+        sheet_frames::more_numbers(f, piece, rows);
+    }
+}
+
 // The open line at its LF.
-fn close(chained: bool, a: Arriving, frame: Frame) -> Arriving
-    ensures { λ r. ⌜ r ≡ closed (stepOf chained (a .reading) (shown frame)) ⌝ }
+fn close(chained: bool, a: Arriving, rows: &[u32], frame: Frame) -> Arriving
+    ensures { λ r. ⌜ r ≡ closed (stepOf chained (now (rows .entry)) (a .reading) (shown frame)) ⌝ }
 {
     let r = a.reading;
-    let s = sheet_lines::step(chained, r, frame);
+    let s = sheet_lines::step(chained, rows, r, frame);
     let verdict = s.verdict;
     let reading = s.reading;
     Arriving {
@@ -76,9 +102,9 @@ fn close(chained: bool, a: Arriving, frame: Frame) -> Arriving
     }
 }
 
-// The block's characters from `at` through the first LF, or to its end.
-pub fn take_line(chained: bool, a: Arriving, block: &[u8], at: usize) -> LineTaken
-    ensures { λ r. ⌜ r ≡ lineTaken chained a (now (block .entry)) at ⌝ }
+// The block's characters from `at` through the first LF, or to its end; the numbers on the sheet's first line go to `rows`.
+pub fn take_line(chained: bool, a: Arriving, rows: &mut [u32], block: &[u8], at: usize) -> LineTaken
+    ensures { λ r. ⌜ tookLine r (now (rows .exit)) ≡ lineTaken chained (beside a (now (rows .entry))) (now (block .entry)) at ⌝ }
 {
     let piece = sheet_frames::line(block, at);
     let chars = piece.len();
@@ -100,10 +126,13 @@ pub fn take_line(chained: bool, a: Arriving, block: &[u8], at: usize) -> LineTak
         }
         Verdict::Accepted => {
             let f = a.frame;
+            let r = a.reading;
+            let last = r.last;
+            take_numbers(last, f, piece, rows);
             let open = sheet_frames::more(f, piece);
             if has_feed {
                 return LineTaken {
-                    arriving: close(chained, a, open),
+                    arriving: close(chained, a, rows, open),
                     at: end + 1,
                 };
             }
@@ -116,13 +145,13 @@ pub fn take_line(chained: bool, a: Arriving, block: &[u8], at: usize) -> LineTak
 }
 
 // The whole block.
-pub fn take_block(chained: bool, a: Arriving, block: &[u8]) -> Arriving
-    ensures { λ r. ⌜ r ≡ arrive chained a (now (block .entry)) ⌝ }
+pub fn take_block(chained: bool, a: Arriving, rows: &mut [u32], block: &[u8]) -> Arriving
+    ensures { λ r. ⌜ beside r (now (rows .exit)) ≡ arrive chained (beside a (now (rows .entry))) (now (block .entry)) ⌝ }
 {
     let mut arriving = a;
     let mut at: usize = 0;
     while at < block.len() {
-        let t = take_line(chained, arriving, block, at);
+        let t = take_line(chained, arriving, rows, block, at);
         let next = t.arriving;
         arriving = next;
         at = t.at;

@@ -6,7 +6,7 @@ use mathlib.Core.Path.{_≡_, refl, sym, _∙_, ap, ap₂, subst}
 use native.Mathlib.Omega.{arith}
 use lib.Dec.{eqb}
 use lib.IntN.{ℤ, pos, negsuc}
-use lib.ListN.{length, take}
+use lib.ListN.{length, take, replicate}
 use lib.Seq.{length-take-le}
 use borrow.Author.Tests.{eq-eqb, ne-eqb}
 use Rattle.model.specs.declared.Arriving.{Arriving}
@@ -15,7 +15,8 @@ use Rattle.model.specs.declared.Refusal.the-variants as refusal
 use Rattle.model.specs.declared.Verdict.{Verdict}
 use Rattle.model.specs.declared.Verdict.the-variants as verdict
 use Rattle.model.specs.Answers.{starvedByte, byVerdict}
-use Rattle.model.specs.Arriving.{opened, arrive}
+use Rattle.model.specs.Arriving.{Arrived, opening, arrive}
+use Rattle.model.specs.Frames.{rowNumbers}
 use Rattle.model.specs.Writing.{longestSheet}
 use Rattle.model.specs.Programs.{storePlaces, cellPlaces, wordPlaces, runTextPlaces}
 use Rattle.sheet_laws.proofs.Cases.{never}
@@ -26,7 +27,7 @@ use Rattle.program_stages.specs.Stages.{begun, staged, closedBy, closed, afterR
 use Rattle.program_lines.specs.Texts.{Laid, laid, laidIfFits}
 use Rattle.program_answer.specs.Answer.{planAnswer}
 use Rattle.program_driver.specs.Steps.{Left, lastLine, advancedBy, advanced}
-use Rattle.program_laws.specs.Whole.{Loop, withBlock, received, supplied, stepped, turn, turns, Lent, NonEmpty, startOf, ReadFails, planTaken}
+use Rattle.program_laws.specs.Whole.{Loop, received, supplied, stepped, turn, turns, Lent, NonEmpty, startOf, ReadFails, planTaken}
 use Rattle.program_laws.specs.Loops.{given, readDue, SuppliedBy, Supplied, loopOf, InLoop, going, ended, RunDue, turn-text, read-failed, Taking, Taken, PlanDue}
 use Rattle.program_laws.proofs.Plan.{plan-writes}
 
@@ -40,10 +41,10 @@ more-blocks [] b some h = (h, tt)
 more-blocks (p ∷ ps) b some h = (some .0, more-blocks ps b (some .1) h)
 
 -- Before the first turn.
-pub in-loop-start : (j : Job) → j ≡ begun → (store cells words text : List ℕ)
-    → length store ≡ storePlaces → length cells ≡ cellPlaces → length words ≡ wordPlaces → length text ≡ runTextPlaces → InLoop j [] 0 store cells words text
+pub in-loop-start : (j : Job) → j ≡ begun → (rows store cells words text : List ℕ) → rows ≡ replicate rowNumbers 0
+    → length store ≡ storePlaces → length cells ≡ cellPlaces → length words ≡ wordPlaces → length text ≡ runTextPlaces → InLoop j [] 0 rows store cells words text
 unfolding turns startOf
-in-loop-start j e store cells words text a b c d =
+in-loop-start j e rows store cells words text z a b c d =
     let lent : Lent = record {
       store = store;
       cells = cells;
@@ -54,7 +55,8 @@ in-loop-start j e store cells words text a b c d =
       some-words = omega arith;
       some-text = omega arith;
     } in
-    subst (λ (x : Job). InLoop x [] 0 store cells words text) (sym e) (going lent [] tt 0 [] (λ _. refl))
+    subst (λ (x : Job). InLoop x [] 0 rows store cells words text) (sym e)
+    (subst (λ (xs : List ℕ). InLoop begun [] 0 xs store cells words text) (sym z) (going lent [] tt 0 [] (λ _. refl)))
 
 pub turn-over : (l : Loop) → over (l .job .stage) ≡ true → turn l ≡ l
 unfolding turn
@@ -62,40 +64,40 @@ turn-over l e = rw e refl
 
 -- The loop after a step.
 abbrev pub after : Left → (block written : List ℕ) → (blocks : List (List ℕ)) → Loop
-after s block written blocks = loopOf (s .step .job) block (s .step .at) (s .store) (s .cells) (s .words) (s .text) (written ++ take (s .step .bytes) (s .text)) blocks
+after s block written blocks = loopOf (s .step .job) block (s .step .at) (s .rows) (s .store) (s .cells) (s .words) (s .text) (written ++ take (s .step .bytes) (s .text)) blocks
 
 turn-by : (l : Loop) (r : Bool) → over (l .job .stage) ≡ false → readDue (l .job) (l .at) (length (l .block)) ≡ r → turn l ≡ stepped (cond r (received (l .blocks) l) l)
 unfolding turn supplied
 turn-by l r on e = ap (λ (o : Bool). cond o l (stepped (supplied l))) on ∙ ap (λ (b : Bool). stepped (cond b (received (l .blocks) l) l)) e
 
-module _ (j : Job) (at : ℕ) (store cells words text : List ℕ) (on : over (j .stage) ≡ false) where
+module _ (j : Job) (at : ℕ) (rows store cells words text : List ℕ) (on : over (j .stage) ≡ false) where
   -- A turn that reads nothing, one that reads a block, and one that finds the end of the input.
   pub turn-kept : (block written : List ℕ) (blocks : List (List ℕ)) → readDue j at (length block) ≡ false
-      → turn (loopOf j block at store cells words text written blocks) ≡ after (advanced j block at store cells words text) block written blocks
+      → turn (loopOf j block at rows store cells words text written blocks) ≡ after (advanced j block at rows store cells words text) block written blocks
   unfolding stepped
-  turn-kept block written blocks e = turn-by (loopOf j block at store cells words text written blocks) false on e
+  turn-kept block written blocks e = turn-by (loopOf j block at rows store cells words text written blocks) false on e
 
   pub turn-read : (block b written : List ℕ) (blocks : List (List ℕ)) → readDue j at (length block) ≡ true
-      → turn (loopOf j block at store cells words text written (b ∷ blocks)) ≡ after (advanced j b 0 store cells words text) b written blocks
+      → turn (loopOf j block at rows store cells words text written (b ∷ blocks)) ≡ after (advanced j b 0 rows store cells words text) b written blocks
   unfolding stepped
-  turn-read block b written blocks e = turn-by (loopOf j block at store cells words text written (b ∷ blocks)) true on e
+  turn-read block b written blocks e = turn-by (loopOf j block at rows store cells words text written (b ∷ blocks)) true on e
 
   turn-ends : (block written : List ℕ) → readDue j at (length block) ≡ true
-      → turn (loopOf j block at store cells words text written []) ≡ after (advanced (closed j) [] 0 store cells words text) [] written []
+      → turn (loopOf j block at rows store cells words text written []) ≡ after (advanced (closed j) [] 0 rows store cells words text) [] written []
   unfolding stepped
-  turn-ends block written e = turn-by (loopOf j block at store cells words text written []) true on e
+  turn-ends block written e = turn-by (loopOf j block at rows store cells words text written []) true on e
 
 -- At the end of the input the last line is written.
-ends-over : (j : Job) (block : List ℕ) (at : ℕ) (store cells words text : List ℕ) → wantsInput j ≡ true
-    → over (advanced (closed j) block at store cells words text .step .job .stage) ≡ true
+ends-over : (j : Job) (block : List ℕ) (at : ℕ) (rows store cells words text : List ℕ) → wantsInput j ≡ true
+    → over (advanced (closed j) block at rows store cells words text .step .job .stage) ≡ true
 unfolding wantsInput wantsBy closed closedBy advanced advancedBy lastLine over
-ends-over j block at store cells words text w = go (j .stage) w
+ends-over j block at rows store cells words text w = go (j .stage) w
   where
-    go : (s : Stage) → wantsBy s (j .line .verdict) ≡ true → over (advanced (closedBy s j) block at store cells words text .step .job .stage) ≡ true
+    go : (s : Stage) → wantsBy s (j .line .verdict) ≡ true → over (advanced (closedBy s j) block at rows store cells words text .step .job .stage) ≡ true
     go stage.Sheet w = refl
     go stage.Cells w = by (j .line .begun)
       where
-        by : (b : Bool) → over (advanced (staged j (cond b (stage.Refusing refusal.Malformed) (stage.Ending starvedByte))) block at store cells words text .step .job .stage) ≡ true
+        by : (b : Bool) → over (advanced (staged j (cond b (stage.Refusing refusal.Malformed) (stage.Ending starvedByte))) block at rows store cells words text .step .job .stage) ≡ true
         by true = refl
         by false = refl
     go stage.Clocks w = absurd (never (sym w))
@@ -105,28 +107,28 @@ ends-over j block at store cells words text w = go (j .stage) w
 
 pub read-fails : ReadFails
 unfolding afterRead advanced advancedBy over
-read-fails j n block at store cells words text = (refl, refl)
+read-fails j n block at rows store cells words text = (refl, refl)
 
 -- What a turn leaves with a step s.
 abbrev pub TurnLeaves : (block : List ℕ) → Left → Type 0
-TurnLeaves block s = InLoop (s .step .job) block (s .step .at) (s .store) (s .cells) (s .words) (s .text) × RunDue (s .step .job) (take (s .step .bytes) (s .text))
+TurnLeaves block s = InLoop (s .step .job) block (s .step .at) (s .rows) (s .store) (s .cells) (s .words) (s .text) × RunDue (s .step .job) (take (s .step .bytes) (s .text))
 
-module _ (j : Job) (block : List ℕ) (at len : ℕ) (store cells words text : List ℕ) (fits : len ≤ length block) (on : over (j .stage) ≡ false) where
-  same-step : (j₁ j₂ : Job) (b₁ b₂ : List ℕ) (a₁ a₂ : ℕ) → j₁ ≡ j₂ → b₁ ≡ b₂ → a₁ ≡ a₂ → advanced j₁ b₁ a₁ store cells words text ≡ advanced j₂ b₂ a₂ store cells words text
+module _ (j : Job) (block : List ℕ) (at len : ℕ) (rows store cells words text : List ℕ) (fits : len ≤ length block) (on : over (j .stage) ≡ false) where
+  same-step : (j₁ j₂ : Job) (b₁ b₂ : List ℕ) (a₁ a₂ : ℕ) → j₁ ≡ j₂ → b₁ ≡ b₂ → a₁ ≡ a₂ → advanced j₁ b₁ a₁ rows store cells words text ≡ advanced j₂ b₂ a₂ rows store cells words text
   same-step j₁ j₂ b₁ b₂ a₁ a₂ e d c =
-      ap (λ (x : Job). advanced x b₁ a₁ store cells words text) e ∙ ap (λ (x : List ℕ). advanced j₂ x a₁ store cells words text) d
-      ∙ ap (λ (x : ℕ). advanced j₂ b₂ x store cells words text) c
+      ap (λ (x : Job). advanced x b₁ a₁ rows store cells words text) e ∙ ap (λ (x : List ℕ). advanced j₂ x a₁ rows store cells words text) d
+      ∙ ap (λ (x : ℕ). advanced j₂ b₂ x rows store cells words text) c
 
   same-due : (b : Bool) → readDue j at len ≡ b → readDue j at (length (take len block)) ≡ b
   same-due b e = ap (λ (n : ℕ). readDue j at n) (length-take-le len block fits) ∙ e
 
   module _ (lent : Lent) (past : List (List ℕ)) (some : NonEmpty past) (n : ℕ) (written : List ℕ)
-      (same : (further : List (List ℕ)) → turns n (startOf (past ++ further) lent) ≡ loopOf j (take len block) at store cells words text written further) where
-    next : (further : List (List ℕ)) (l : Loop) → turn (loopOf j (take len block) at store cells words text written further) ≡ l → turns (suc n) (startOf (past ++ further) lent) ≡ l
+      (same : (further : List (List ℕ)) → turns n (startOf (past ++ further) lent) ≡ loopOf j (take len block) at rows store cells words text written further) where
+    next : (further : List (List ℕ)) (l : Loop) → turn (loopOf j (take len block) at rows store cells words text written further) ≡ l → turns (suc n) (startOf (past ++ further) lent) ≡ l
     next further l e = turns-suc n (startOf (past ++ further) lent) ∙ ap turn (same further) ∙ e
 
     due : (blocks further : List (List ℕ)) (b : List ℕ) (s : Left) (blocks′ : List (List ℕ)) → NonEmpty blocks → past ++ further ≡ blocks
-        → turn (loopOf j (take len block) at store cells words text written further) ≡ after s b written blocks′ → RunDue (s .step .job) (take (s .step .bytes) (s .text))
+        → turn (loopOf j (take len block) at rows store cells words text written further) ≡ after s b written blocks′ → RunDue (s .step .job) (take (s .step .bytes) (s .text))
     due blocks further b s blocks′ full e t =
         turn-text blocks full lent n
         (subst (λ (bs : List (List ℕ)). turns (suc n) (startOf bs lent) .job ≡ s .step .job) e (ap (λ (l : Loop). l .job) (next further (after s b written blocks′) t)))
@@ -134,30 +136,30 @@ module _ (j : Job) (block : List ℕ) (at len : ℕ) (store cells words text : L
         (ap (λ (l : Loop). l .written) (next further (after s b written blocks′) t)
         ∙ ap (λ (l : Loop). l .written ++ take (s .step .bytes) (s .text)) (sym (same further))))
 
-    kept : readDue j at len ≡ false → TurnLeaves (take len block) (advanced j (take len block) at store cells words text)
+    kept : readDue j at len ≡ false → TurnLeaves (take len block) (advanced j (take len block) at rows store cells words text)
     kept e =
-        let t : (further : List (List ℕ)) → _ = λ further. turn-kept j at store cells words text on (take len block) written further (same-due false e) in
-        (going lent past some (suc n) _ (λ further. next further _ (t further)), due past [] (take len block) (advanced j (take len block) at store cells words text) [] some (append-nil past) (t []))
+        let t : (further : List (List ℕ)) → _ = λ further. turn-kept j at rows store cells words text on (take len block) written further (same-due false e) in
+        (going lent past some (suc n) _ (λ further. next further _ (t further)), due past [] (take len block) (advanced j (take len block) at rows store cells words text) [] some (append-nil past) (t []))
 
-    read : readDue j at len ≡ true → (b : List ℕ) → 0 < length b → TurnLeaves b (advanced j b 0 store cells words text)
+    read : readDue j at len ≡ true → (b : List ℕ) → 0 < length b → TurnLeaves b (advanced j b 0 rows store cells words text)
     read e b h =
-        let t : (further : List (List ℕ)) → _ = λ further. turn-read j at store cells words text on (take len block) b written further (same-due true e) in
+        let t : (further : List (List ℕ)) → _ = λ further. turn-read j at rows store cells words text on (take len block) b written further (same-due true e) in
         let more = more-blocks past b some h in (
           going lent (past ++ (b ∷ [])) more (suc n) _
               (λ further. ap (λ (bs : List (List ℕ)). turns (suc n) (startOf bs lent)) (append-assoc past (b ∷ []) further) ∙ next (b ∷ further) _ (t further)),
-          due (past ++ (b ∷ [])) (b ∷ []) b (advanced j b 0 store cells words text) [] more refl (t []),
+          due (past ++ (b ∷ [])) (b ∷ []) b (advanced j b 0 rows store cells words text) [] more refl (t []),
         )
 
-    finish : readDue j at len ≡ true → wantsInput j ≡ true → TurnLeaves [] (advanced (closed j) [] 0 store cells words text)
+    finish : readDue j at len ≡ true → wantsInput j ≡ true → TurnLeaves [] (advanced (closed j) [] 0 rows store cells words text)
     finish e w = (
-      ended (ends-over j [] 0 store cells words text w),
-      due past [] [] (advanced (closed j) [] 0 store cells words text) [] some (append-nil past) (turn-ends j at store cells words text on (take len block) written (same-due true e)),
+      ended (ends-over j [] 0 rows store cells words text w),
+      due past [] [] (advanced (closed j) [] 0 rows store cells words text) [] some (append-nil past) (turn-ends j at rows store cells words text on (take len block) written (same-due true e)),
     )
 
-    fail : (k : ℕ) → TurnLeaves [] (advanced (afterRead (negsuc k) j) [] 0 store cells words text)
+    fail : (k : ℕ) → TurnLeaves [] (advanced (afterRead (negsuc k) j) [] 0 rows store cells words text)
     fail k =
-        let f = read-fails j k [] 0 store cells words text in
-        let s = advanced (afterRead (negsuc k) j) [] 0 store cells words text in
+        let f = read-fails j k [] 0 rows store cells words text in
+        let s = advanced (afterRead (negsuc k) j) [] 0 rows store cells words text in
         (ended (f .0), subst (λ (n : ℕ). RunDue (s .step .job) (take n (s .text))) (sym (f .1)) (read-failed (f .0)))
 
   wants : (a b : Bool) → (a && b) ≡ true → b ≡ true
@@ -165,13 +167,13 @@ module _ (j : Job) (block : List ℕ) (at len : ℕ) (store cells words text : L
   wants false b e = absurd (never (sym e))
 
   -- A turn that begins with these variables, its supply and its step.
-  pub turn-leaves : InLoop j (take len block) at store cells words text → (job : Job) (at′ len′ : ℕ) (block′ : List ℕ) → length block′ ≡ length block
-      → Supplied j at len block job at′ len′ block′ → (s : Left) → s ≡ advanced job (take len′ block′) at′ store cells words text → TurnLeaves (take len′ block′) s
+  pub turn-leaves : InLoop j (take len block) at rows store cells words text → (job : Job) (at′ len′ : ℕ) (block′ : List ℕ) → length block′ ≡ length block
+      → Supplied j at len block job at′ len′ block′ → (s : Left) → s ≡ advanced job (take len′ block′) at′ rows store cells words text → TurnLeaves (take len′ block′) s
   unfolding afterRead
   turn-leaves (ended e) job at′ len′ block′ size sup s step = absurd (never (sym e ∙ on))
   turn-leaves (going lent past some n written same) job at′ len′ block′ size sup s step = go (readDue j at len) refl sup
     where
-      move : (k : Job) (b : List ℕ) (a : ℕ) → job ≡ k → take len′ block′ ≡ b → at′ ≡ a → TurnLeaves b (advanced k b a store cells words text) → TurnLeaves (take len′ block′) s
+      move : (k : Job) (b : List ℕ) (a : ℕ) → job ≡ k → take len′ block′ ≡ b → at′ ≡ a → TurnLeaves b (advanced k b a rows store cells words text) → TurnLeaves (take len′ block′) s
       move k b a e d c h =
           subst (λ (x : List ℕ). TurnLeaves x s) (sym d)
           (subst (λ (x : Left). TurnLeaves b x) (sym (step ∙ same-step job k (take len′ block′) b at′ a e d c)) h)
@@ -224,18 +226,18 @@ module _ (j : Job) (at len : ℕ) (block : List ℕ) where
       go false e = absurd (never e)
 
 -- `plan`: before the first block; after a block; at the end of the input; at a line that is turned back.
-pub taking-start : Taking opened
+pub taking-start : Taking opening
 taking-start = record { past = []; same = λ _. refl }
 
-module _ (a : Arriving) (t : Taking a) where
-  taken-on : (b : List ℕ) (further : List (List ℕ)) → planTaken opened ((t .past ++ (b ∷ [])) ++ further) ≡ planTaken a (b ∷ further)
-  taken-on b further = ap (planTaken opened) (append-assoc (t .past) (b ∷ []) further) ∙ t .same (b ∷ further)
+module _ (a : Arrived) (t : Taking a) where
+  taken-on : (b : List ℕ) (further : List (List ℕ)) → planTaken opening ((t .past ++ (b ∷ [])) ++ further) ≡ planTaken a (b ∷ further)
+  taken-on b further = ap (planTaken opening) (append-assoc (t .past) (b ∷ []) further) ∙ t .same (b ∷ further)
 
-  pub taking-more : (b : List ℕ) (r : Arriving) → r ≡ arrive false a b → r .verdict ≡ verdict.Accepted → Taking r
+  pub taking-more : (b : List ℕ) (r : Arrived) → r ≡ arrive false a b → r .sheet .verdict ≡ verdict.Accepted → Taking r
   unfolding planTaken
   taking-more b r e v = record {
     past = t .past ++ (b ∷ []);
-    same = λ further. taken-on b further ∙ ap (λ (x : Arriving). byVerdict (x .verdict) (planTaken x further) (λ y. x)) (sym e)
+    same = λ further. taken-on b further ∙ ap (λ (x : Arrived). byVerdict (x .sheet .verdict) (planTaken x further) (λ y. x)) (sym e)
         ∙ ap (λ (x : Verdict). byVerdict x (planTaken r further) (λ y. r)) v;
   }
 
@@ -243,19 +245,19 @@ module _ (a : Arriving) (t : Taking a) where
   unfolding planTaken
   taking-ended = record { blocks = t .past ++ []; same = t .same [] }
 
-  pub taking-back : (b : List ℕ) (r : Arriving) (x : Refusal) → r ≡ arrive false a b → r .verdict ≡ verdict.Refused x → Taken r
+  pub taking-back : (b : List ℕ) (r : Arrived) (x : Refusal) → r ≡ arrive false a b → r .sheet .verdict ≡ verdict.Refused x → Taken r
   unfolding planTaken
   taking-back b r x e v = record {
     blocks = (t .past ++ (b ∷ [])) ++ [];
-    same = taken-on b [] ∙ ap (λ (y : Arriving). byVerdict (y .verdict) (planTaken y []) (λ z. y)) (sym e)
+    same = taken-on b [] ∙ ap (λ (y : Arrived). byVerdict (y .sheet .verdict) (planTaken y []) (λ z. y)) (sym e)
         ∙ ap (λ (y : Verdict). byVerdict y (planTaken r []) (λ z. r)) v;
   }
 
 -- The text that `plan` lays of what it took is due.
-pub plan-due : (a : Arriving) → Taken a → (before : List ℕ) → longestSheet ≤ length before → (chars : ℕ) (after : List ℕ) → laid chars after ≡ laidIfFits (planAnswer a) before
-    → PlanDue a (take chars after)
-plan-due a t before room chars after e = record {
+pub plan-due : (a : Arriving) (rows : List ℕ) → Taken (record { sheet = a; numbers = rows }) → (before : List ℕ) → longestSheet ≤ length before → (chars : ℕ) (after : List ℕ)
+    → laid chars after ≡ laidIfFits (planAnswer a rows) before → PlanDue a rows (take chars after)
+plan-due a rows t before room chars after e = record {
   blocks = t .blocks;
   same = t .same;
-  due = ap (λ (x : Laid). take (x .chars) (x .output)) (e ∙ ap (λ (y : Arriving). laidIfFits (planAnswer y) before) (sym (t .same))) ∙ plan-writes (t .blocks) before room;
+  due = ap (λ (x : Laid). take (x .chars) (x .output)) (e ∙ ap (λ (y : Arrived). laidIfFits (planAnswer (y .sheet) (y .numbers)) before) (sym (t .same))) ∙ plan-writes (t .blocks) before room;
 }

@@ -17,11 +17,10 @@ use Rattle.model.specs.Values.{blankChain, requestOf}
 use Rattle.model.specs.Lines.{linesOf}
 use Rattle.model.specs.Judging.{judgeChain}
 use Rattle.model.specs.Planning.{judgeRequest, plannedChain, planOf}
-use Rattle.model.specs.Reading.{start, complete, readLines, endVerdict, readRequest}
+use Rattle.model.specs.Reading.{start, complete, readLines, endVerdict, numbersIn, readRequest}
 use Rattle.model.specs.Writing.{sheetOf, longestSheet}
-use Rattle.model.specs.Arriving.{opened, arrive, finished}
+use Rattle.model.specs.Arriving.{Arrived, opening, arrive, finished}
 use Rattle.model.specs.Programs.{refusalText, planText}
-use Rattle.model.proofs.ChainLaws.{dims-flat}
 use Rattle.sheet_laws.proofs.SheetLength.{sheet-length}
 use Rattle.sheet_laws.proofs.AcceptedChains.{accepted-chain}
 use Rattle.run_laws.proofs.Plans.{plan-accepted}
@@ -31,58 +30,75 @@ use Rattle.program_laws.specs.Whole.{planTaken, PlanWrites}
 use Rattle.program_laws.proofs.Texts.{laid-fitting, refusal-length}
 
 -- After a refusal no further block matters.
-all-taken : (a : Arriving) (blocks : List (List ℕ)) → planTaken a blocks ≡ arrive false a (flatten blocks)
+all-taken : (a : Arrived) (blocks : List (List ℕ)) → planTaken a blocks ≡ arrive false a (flatten blocks)
 unfolding planTaken arrive flatten
 all-taken a [] = refl
-all-taken a (b ∷ bs) = go (arrive false a b .verdict) refl (all-taken (arrive false a b) bs)
+all-taken a (b ∷ bs) = go (arrive false a b .sheet .verdict) refl (all-taken (arrive false a b) bs)
   where
-    go : (v : Verdict) → arrive false a b .verdict ≡ v → planTaken (arrive false a b) bs ≡ arrive false (arrive false a b) (flatten bs)
+    go : (v : Verdict) → arrive false a b .sheet .verdict ≡ v → planTaken (arrive false a b) bs ≡ arrive false (arrive false a b) (flatten bs)
         → planTaken a (b ∷ bs) ≡ arrive false a (b ++ flatten bs)
     go verdict.Accepted e ih = rw e (ih ∙ in-pieces false a b (flatten bs))
     go (verdict.Refused x) e ih = rw e (sym (stays false (arrive false a b) x (flatten bs) e) ∙ in-pieces false a b (flatten bs))
 
+-- What is written of a sheet's reading, with these rows beside it.
+abbrev answerOf : LineStep → (rows : List ℕ) → List ℕ
+answerOf s rows =
+    let request = requestOf (s .reading .chain) in
+    byVerdict (endVerdict s (judgeRequest request rows)) (sheetOf (plannedChain request rows) rows) refusalText
+
+-- Where a line was turned back, they play no part.
+answer-alike : (s : LineStep) (rows other : List ℕ) → (s .verdict ≡ verdict.Accepted → rows ≡ other) → answerOf s rows ≡ answerOf s other
+unfolding endVerdict
+answer-alike s rows other h = go (s .verdict) refl
+  where
+    go : (v : Verdict) → s .verdict ≡ v → answerOf s rows ≡ answerOf s other
+    go verdict.Accepted e = ap (answerOf s) (h e)
+    go (verdict.Refused x) e = rw e
+
 -- The answer is a function of the whole sheet's reading.
-answered : (input : List ℕ) → planAnswer (arrive false opened input) ≡ planText input
+answered : (input : List ℕ) → let a = arrive false opening input in planAnswer (a .sheet) (a .numbers) ≡ planText input
 unfolding planAnswer planText readRequest
 answered input =
-    ap (λ (s : LineStep). byVerdict (endVerdict s (judgeRequest (requestOf (s .reading .chain)) [])) (sheetOf (plannedChain (requestOf (s .reading .chain)) [])) refusalText)
-    (as-it-arrives false input)
-    ∙ go (endVerdict s (judgeRequest (requestOf (s .reading .chain)) []))
+    let a = as-it-arrives false input in
+    ap (λ (s : LineStep). answerOf s (arrive false opening input .numbers)) (a .read)
+    ∙ answer-alike s (arrive false opening input .numbers) (numbersIn input) (a .numbers)
+    ∙ go (endVerdict s (judgeRequest (requestOf (s .reading .chain)) (numbersIn input)))
   where
     s : LineStep
-    s = readLines false start (linesOf input)
+    s = readLines false (numbersIn input) start (linesOf input)
 
-    go : (v : Verdict) → byVerdict v (sheetOf (plannedChain (requestOf (s .reading .chain)) [])) refusalText
-        ≡ byVerdict v (sheetOf (plannedChain (requestOf (byVerdict v (s .reading .chain) (λ x. blankChain))) [])) refusalText
+    sheet : Chain → List ℕ
+    sheet c = sheetOf (plannedChain (requestOf c) (numbersIn input)) (numbersIn input)
+
+    go : (v : Verdict) → byVerdict v (sheet (s .reading .chain)) refusalText ≡ byVerdict v (sheet (byVerdict v (s .reading .chain) (λ x. blankChain))) refusalText
     go verdict.Accepted = refl
     go (verdict.Refused x) = refl
 
 -- It fits.
-chain-fits : (c : Chain) → judgeChain c [] ≡ verdict.Accepted → length (sheetOf c) ≤ longestSheet
-chain-fits c e =
-    let a = accepted-chain c e in
-    sheet-length c (omega (arith, dims-flat (c .grid) (a .flat), a .few-dims)) (a .few)
+chain-fits : (c : Chain) (rows : List ℕ) → judgeChain c rows ≡ verdict.Accepted → length (sheetOf c rows) ≤ longestSheet
+chain-fits c rows e = sheet-length c rows (accepted-chain c rows e)
 
-planned-fits : (r : Request) → judgeRequest r [] ≡ verdict.Accepted → length (sheetOf (plannedChain r [])) ≤ longestSheet
+planned-fits : (r : Request) (rows : List ℕ) → judgeRequest r rows ≡ verdict.Accepted → length (sheetOf (plannedChain r rows) rows) ≤ longestSheet
 unfolding planOf
-planned-fits r e = chain-fits (plannedChain r []) (rw e at (plan-accepted r [] e))
+planned-fits r rows e = chain-fits (plannedChain r rows) rows (rw e at (plan-accepted r rows e))
 
-text-fits : (s : LineStep) (r : Request) → length (byVerdict (endVerdict s (judgeRequest r [])) (sheetOf (plannedChain r [])) refusalText) ≤ longestSheet
+text-fits : (s : LineStep) (r : Request) (rows : List ℕ) → length (byVerdict (endVerdict s (judgeRequest r rows)) (sheetOf (plannedChain r rows) rows) refusalText) ≤ longestSheet
 unfolding endVerdict
-text-fits s r = go (s .verdict) (complete (s .reading)) (judgeRequest r []) refl
+text-fits s r rows = go (s .verdict) (complete (s .reading)) (judgeRequest r rows) refl
   where
-    go : (v : Verdict) (b : Bool) (w : Verdict) → judgeRequest r [] ≡ w
-        → length (byVerdict (byVerdict v (cond b w (verdict.Refused refusal.Misplaced)) verdict.Refused) (sheetOf (plannedChain r [])) refusalText) ≤ longestSheet
+    go : (v : Verdict) (b : Bool) (w : Verdict) → judgeRequest r rows ≡ w
+        → length (byVerdict (byVerdict v (cond b w (verdict.Refused refusal.Misplaced)) verdict.Refused) (sheetOf (plannedChain r rows) rows) refusalText) ≤ longestSheet
     go (verdict.Refused x) b w e = omega (arith, refusal-length x)
     go verdict.Accepted false w e = omega (arith, refusal-length refusal.Misplaced)
     go verdict.Accepted true (verdict.Refused x) e = omega (arith, refusal-length x)
-    go verdict.Accepted true verdict.Accepted e = planned-fits r e
+    go verdict.Accepted true verdict.Accepted e = planned-fits r rows e
 
-answer-fits : (a : Arriving) → length (planAnswer a) ≤ longestSheet
+answer-fits : (a : Arriving) (rows : List ℕ) → length (planAnswer a rows) ≤ longestSheet
 unfolding planAnswer
-answer-fits a = text-fits (finished a) (requestOf (finished a .reading .chain))
+answer-fits a rows = text-fits (finished a) (requestOf (finished a .reading .chain)) rows
 
 pub plan-writes : PlanWrites
 plan-writes blocks text room =
-    let a = planTaken opened blocks in
-    laid-fitting (planAnswer a) text (omega (arith, answer-fits a)) .0 ∙ ap planAnswer (all-taken opened blocks) ∙ answered (flatten blocks)
+    let a = planTaken opening blocks in
+    laid-fitting (planAnswer (a .sheet) (a .numbers)) text (omega (arith, answer-fits (a .sheet) (a .numbers))) .0
+    ∙ ap (λ (x : Arrived). planAnswer (x .sheet) (x .numbers)) (all-taken opening blocks) ∙ answered (flatten blocks)

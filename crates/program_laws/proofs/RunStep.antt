@@ -1,6 +1,6 @@
 -- A step of the program `run` that is a run call.
 use Prim.Native.Nat.{ℕ, _+_, _*_, _-_, _%_, _^_, _≤_, _<_, min}
-use mathlib.Core.List.{List, [], _++_}
+use mathlib.Core.List.{List, _++_}
 use mathlib.Core.Path.{_≡_, refl, sym, _∙_, ap, ap₂, subst}
 use native.Mathlib.Nat.{min-eq-left, mod-eq-of-lt, min-le-left, min-le-right, le-min}
 use native.Mathlib.Omega.{arith}
@@ -80,16 +80,16 @@ result l size places r s c clocks =
       at = l .at;
       bytes = t .chars;
     })
-    (r .store) (l .cells) (r .output ++ drop places (l .words)) (t .output)
+    (l .rows) (r .store) (l .cells) (r .output ++ drop places (l .words)) (t .output)
 
-module _ (input : List ℕ) (l : Loop) (h : Holds input l) (i : InClocks input (l .job) (restOf l) (l .store) (l .cells) (l .written))
-    (places : ℕ) (fits : places ≤ length (l .words)) (lines : places ≤ roomFor (widthOf (trimmed (chainOf (l .job)) [])) (length (l .text)))
-    (r : Run) (w : Went (chainOf (l .job)) (i .run .ok) (i .run .all) (i .run .stands) (take places (l .words)) 4294967295 r) where
+module _ (input : List ℕ) (l : Loop) (h : Holds input l) (i : InClocks input (l .job) (l .rows) (restOf l) (l .store) (l .cells) (l .written))
+    (places : ℕ) (fits : places ≤ length (l .words)) (lines : places ≤ roomFor (widthOf (trimmed (chainOf (l .job)) (l .rows))) (length (l .text)))
+    (r : Run) (w : Went (chainOf (l .job)) (l .rows) (i .run .ok) (i .run .all) (i .run .stands) (take places (l .words)) 4294967295 r) where
   abbrev j : Job
   j = l .job
 
   abbrev size : ℕ
-  size = widthOf (trimmed (chainOf (l .job)) [])
+  size = widthOf (trimmed (chainOf (l .job)) (l .rows))
 
   abbrev ran : Left
   ran = result l size places r (stageOf (w .ending)) (w .counts) (l .job .clocks + w .counts .clocks)
@@ -101,14 +101,14 @@ module _ (input : List ℕ) (l : Loop) (h : Holds input l) (i : InClocks input (
   output-length = omega (arith, length-append (r .output) (drop places (l .words)), length-drop places (l .words), w .same-length, lent)
 
   -- The text of the call's firings.
-  laid : (take (ran .step .bytes) (ran .text) ≡ firingsText size (countersOf (trimmed (chainOf j) [] .count) (j .state) .fired) (w .counts .firings) (r .output))
+  laid : (take (ran .step .bytes) (ran .text) ≡ firingsText size (countersOf (trimmed (chainOf j) (l .rows) .count) (j .state) .fired) (w .counts .firings) (r .output))
       × (length (l .text) ≤ length (ran .text))
   unfolding countersOf
   laid =
       let f = j .state .fired .0 in
       let n = w .counts .firings in
-      let wide = some-width (trimmed (chainOf j) []) (accepted-chain (chainOf j) [] (i .run .ok)) in
-      let few = fired-few (chainOf j) (i .run .ok) (i .run .all) (w .stands) in
+      let wide = some-width (trimmed (chainOf j) (l .rows)) (accepted-chain (chainOf j) (l .rows) (i .run .ok)) in
+      let few = fired-few (chainOf j) (l .rows) (i .run .ok) (i .run .all) (w .stands) in
       let put = firings-laid size f n (r .output ++ drop places (l .words)) (l .text) (wide .0) (wide .1) (omega (arith, w .fits, lent, output-length)) (omega (arith, w .fits, lent))
       (omega (arith, w .fired)) in (
         put .0 ∙ sym (words-only size f n (r .output ++ drop places (l .words)))
@@ -124,15 +124,16 @@ module _ (input : List ℕ) (l : Loop) (h : Holds input l) (i : InClocks input (
   abbrev written : List ℕ
   written = l .written ++ take (ran .step .bytes) (ran .text)
 
-  stands : Stands (chainOf j) (i .run .ok) (i .run .all) (r .state) (r .store) (j .clocks + w .counts .clocks) written
+  stands : Stands (chainOf j) (l .rows) (i .run .ok) (i .run .all) (r .state) (r .store) (j .clocks + w .counts .clocks) written
       (drop (w .counts .cells) (drop (j .from) (take (j .count) (l .cells)))) (i .run .later)
   stands = rw (laid .0) (w .stands)
 
   runs-on : (s : Stage)
-      → Runs input (result l size places r s (w .counts) (j .clocks + w .counts .clocks) .step .job) (restOf l) (r .store) written
+      → Runs input (result l size places r s (w .counts) (j .clocks + w .counts .clocks) .step .job) (l .rows) (restOf l) (r .store) written
       (drop (w .counts .cells) (drop (j .from) (take (j .count) (l .cells))))
   runs-on s = record {
     ok = i .run .ok;
+    numbers = i .run .numbers;
     all = i .run .all;
     behind = i .run .behind;
     later = i .run .later;
@@ -143,7 +144,7 @@ module _ (input : List ℕ) (l : Loop) (h : Holds input l) (i : InClocks input (
     due = i .run .due;
   }
 
-  on-clocks : InClocks input (result l size places r stage.Clocks (w .counts) (j .clocks + w .counts .clocks) .step .job) (restOf l) (r .store) (l .cells) written
+  on-clocks : InClocks input (result l size places r stage.Clocks (w .counts) (j .clocks + w .counts .clocks) .step .job) (l .rows) (restOf l) (r .store) (l .cells) written
   on-clocks = record {
     run = rw (← hand-left) (runs-on stage.Clocks);
     from = omega (arith, w .within, i .from, i .count, length-drop (j .from) (take (j .count) (l .cells)), length-take-le (j .count) (l .cells) (i .count));
@@ -151,34 +152,34 @@ module _ (input : List ℕ) (l : Loop) (h : Holds input l) (i : InClocks input (
   }
 
   abbrev DueAfter : Ending → Type 0
-  DueAfter e = Due input (stageOf e) (result l size places r (stageOf e) (w .counts) (j .clocks + w .counts .clocks) .step .job) (restOf l) (r .store) (l .cells) written
+  DueAfter e = Due input (stageOf e) (result l size places r (stageOf e) (w .counts) (j .clocks + w .counts .clocks) .step .job) (l .rows) (restOf l) (r .store) (l .cells) written
 
   due-after : (e : Ending)
-      → Stopped (chainOf j) (i .run .ok) (i .run .all) (take places (l .words)) 4294967295 (w .counts .clocks) (countersOf (trimmed (chainOf j) [] .count) (r .state))
+      → Stopped (chainOf j) (l .rows) (i .run .ok) (i .run .all) (take places (l .words)) 4294967295 (w .counts .clocks) (countersOf (trimmed (chainOf j) (l .rows) .count) (r .state))
       (drop (w .counts .cells) (drop (j .from) (take (j .count) (l .cells)))) e
       → DueAfter e
   unfolding stageOf runs-on
   due-after Done (at-done stop x) =
-      ap (λ (e : Ending). written ++ endText e (j .clocks + w .counts .clocks) (i .run .behind)) (sym x) ∙ run-stops input _ (restOf l) (r .store) written _ (runs-on (stage.Ending doneByte)) stop
+      ap (λ (e : Ending). written ++ endText e (j .clocks + w .counts .clocks) (i .run .behind)) (sym x) ∙ run-stops input _ (l .rows) (restOf l) (r .store) written _ (runs-on (stage.Ending doneByte)) stop
   due-after Stalled (at-stalled stop x) =
-      ap (λ (e : Ending). written ++ endText e (j .clocks + w .counts .clocks) (i .run .behind)) (sym x) ∙ run-stops input _ (restOf l) (r .store) written _ (runs-on (stage.Ending stalledByte)) stop
+      ap (λ (e : Ending). written ++ endText e (j .clocks + w .counts .clocks) (i .run .behind)) (sym x) ∙ run-stops input _ (l .rows) (restOf l) (r .store) written _ (runs-on (stage.Ending stalledByte)) stop
   due-after Starved (at-starved more none) = record {
-    run = subst (λ (hand : List ℕ). Runs input (result l size places r stage.Cells (w .counts) (j .clocks + w .counts .clocks) .step .job) (restOf l) (r .store) written hand) none (runs-on stage.Cells);
+    run = subst (λ (hand : List ℕ). Runs input (result l size places r stage.Cells (w .counts) (j .clocks + w .counts .clocks) .step .job) (l .rows) (restOf l) (r .store) written hand) none (runs-on stage.Cells);
     left = more;
   }
   due-after Spent (at-spent made) = on-clocks
   due-after Full (at-full made) = on-clocks
 
   nearer-after : size ≤ places → (e : Ending)
-      → Stopped (chainOf j) (i .run .ok) (i .run .all) (take places (l .words)) 4294967295 (w .counts .clocks) (countersOf (trimmed (chainOf j) [] .count) (r .state))
+      → Stopped (chainOf j) (l .rows) (i .run .ok) (i .run .all) (take places (l .words)) 4294967295 (w .counts .clocks) (countersOf (trimmed (chainOf j) (l .rows) .count) (r .state))
       (drop (w .counts .cells) (drop (j .from) (take (j .count) (l .cells)))) e
       → 3 * (33554432 - (j .clocks + w .counts .clocks)) + rank (stageOf e) < 3 * (33554432 - j .clocks) + 3
   unfolding stageOf
   nearer-after enough Done _ = omega arith
   nearer-after enough Stalled _ = omega arith
   nearer-after enough Starved _ = omega arith
-  nearer-after enough Spent (at-spent made) = omega (arith, made (omega arith), clocks-few (chainOf j) (i .run .ok) (i .run .all) (w .stands))
-  nearer-after enough Full (at-full made) = omega (arith, made (omega (arith, lent)), clocks-few (chainOf j) (i .run .ok) (i .run .all) (w .stands))
+  nearer-after enough Spent (at-spent made) = omega (arith, made (omega arith), clocks-few (chainOf j) (l .rows) (i .run .ok) (i .run .all) (w .stands))
+  nearer-after enough Full (at-full made) = omega (arith, made (omega (arith, lent)), clocks-few (chainOf j) (l .rows) (i .run .ok) (i .run .all) (w .stands))
 
   result-step : l .job .stage ≡ stage.Clocks → size ≤ places → Advances input l ran
   result-step e enough = record {
@@ -196,33 +197,33 @@ module _ (input : List ℕ) (l : Loop) (h : Holds input l) (i : InClocks input (
 
 -- The step is that result.
 module _ (input : List ℕ) (l : Loop) (h : Holds input l) (e : l .job .stage ≡ stage.Clocks) where
-  i : InClocks input (l .job) (restOf l) (l .store) (l .cells) (l .written)
+  i : InClocks input (l .job) (l .rows) (restOf l) (l .store) (l .cells) (l .written)
   i = due-at input l h stage.Clocks e
 
   abbrev width-of : ℕ
-  width-of = widthOf (trimmed (chainOf (l .job)) [])
+  width-of = widthOf (trimmed (chainOf (l .job)) (l .rows))
 
   places-of : ℕ
   places-of = min (length (l .words)) (roomFor width-of (length (l .text)))
 
   run-of : Run
-  run-of = runOf (chainOf (l .job)) [] (l .job .state) (l .store) (drop (l .job .from) (take (l .job .count) (l .cells))) (take places-of (l .words)) 4294967295
+  run-of = runOf (chainOf (l .job)) (l .rows) (l .job .state) (l .store) (drop (l .job .from) (take (l .job .count) (l .cells))) (take places-of (l .words)) 4294967295
 
-  went-so : Went (chainOf (l .job)) (i .run .ok) (i .run .all) (i .run .stands) (take places-of (l .words)) 4294967295 run-of
+  went-so : Went (chainOf (l .job)) (l .rows) (i .run .ok) (i .run .all) (i .run .stands) (take places-of (l .words)) 4294967295 run-of
   unfolding run-of
-  went-so = went (chainOf (l .job)) (i .run .ok) (i .run .all) (i .run .stands) (take places-of (l .words)) 4294967295
+  went-so = went (chainOf (l .job)) (l .rows) (i .run .ok) (i .run .all) (i .run .stands) (take places-of (l .words)) 4294967295
 
-  ran-on : ranOn (l .job) (l .at) (l .store) (l .cells) (l .words) (l .text)
+  ran-on : ranOn (l .job) (l .at) (l .rows) (l .store) (l .cells) (l .words) (l .text)
       ≡ result l width-of places-of run-of (answerStage (run-of .answer)) (answerCounts (run-of .answer)) ((l .job .clocks + answerCounts (run-of .answer) .clocks) % 2 ^ 32)
   unfolding ranOn run-of places-of widthOf trimmed
   ran-on = rw (min-eq-left (i .count), min-eq-left (i .from))
 
-  pub run-step : Advances input l (ranOn (l .job) (l .at) (l .store) (l .cells) (l .words) (l .text))
+  pub run-step : Advances input l (ranOn (l .job) (l .at) (l .rows) (l .store) (l .cells) (l .words) (l .text))
   unfolding places-of
   run-step =
       let w = went-so in
-      let wide = some-width (trimmed (chainOf (l .job)) []) (accepted-chain (chainOf (l .job)) [] (i .run .ok)) in
-      let few = clocks-few (chainOf (l .job)) (i .run .ok) (i .run .all) (w .stands) in
+      let wide = some-width (trimmed (chainOf (l .job)) (l .rows)) (accepted-chain (chainOf (l .job)) (l .rows) (i .run .ok)) in
+      let few = clocks-few (chainOf (l .job)) (l .rows) (i .run .ok) (i .run .all) (w .stands) in
       let enough : width-of ≤ places-of = le-min (omega (arith, h .words)) (room-enough width-of (length (l .text)) (wide .1) (h .text)) in
       let small : l .job .clocks + w .counts .clocks < 2 ^ 32 = omega arith in
       subst (λ (x : Left). Advances input l x)

@@ -73,26 +73,26 @@ fired-most [] = omega arith
 fired-most (true ∷ es) = omega (arith, fired-most es)
 fired-most (false ∷ es) = omega (arith, fired-most es)
 
-module _ (c : Chain) (ok : judgeChain c [] ≡ verdict.Accepted) (all : List ℕ) where
+module _ (c : Chain) (rows : List ℕ) (ok : judgeChain c rows ≡ verdict.Accepted) (all : List ℕ) where
   abbrev S : Setting
-  S = settingOf c ok all
+  S = settingOf c rows ok all
 
   abbrev t : Trimmed
-  t = trimmed c []
+  t = trimmed c rows
 
   abbrev pub standing : State → List ℕ → Between
   standing state store = record { state = state; store = store }
 
   abbrev pub counters : State → Counters
-  counters state = countersOf (trimmed c [] .count) state
+  counters state = countersOf (trimmed c rows .count) state
 
   -- So many clocks were made and this was written; of all cells some are taken, some are at hand and the others come later.
   pub record Stands (state : State) (store : List ℕ) (clocks : ℕ) (written hand later : List ℕ) : Type 0 where
     pub es : List Bool
-    pub reached : Reached (settingOf c ok all) (standing state store) es
-    pub gone : Gone (layout (trimmed c [])) (length all) (clock.fresh (layout (trimmed c []))) clocks (counters state)
+    pub reached : Reached (settingOf c rows ok all) (standing state store) es
+    pub gone : Gone (layout (trimmed c rows)) (length all) (clock.fresh (layout (trimmed c rows))) clocks (counters state)
     pub count : clocks ≡ length es
-    pub text : written ≡ firingsText (widthOf (trimmed c [])) 0 (counters state .fired) (wordsFrom (trimmed c []) (λ i. getD all i 0) 0 (counters state .fired))
+    pub text : written ≡ firingsText (widthOf (trimmed c rows)) 0 (counters state .fired) (wordsFrom (trimmed c rows) (λ i. getD all i 0) 0 (counters state .fired))
     pub long : mostPlaces ≤ length store
     pub taken : List ℕ
     pub split : all ≡ taken ++ (hand ++ later)
@@ -105,8 +105,8 @@ module _ (c : Chain) (ok : judgeChain c [] ≡ verdict.Accepted) (all : List ℕ
       omega (
         arith,
         a .count,
-        most-clocks t (accepted-chain c [] ok),
-        few-clocks (layout t) (lawful t (trimmed-proper c []) (accepted-chain c [] ok)) (traced-ran (layout t) (a .reached .traced)),
+        most-clocks t (accepted-chain c rows ok),
+        few-clocks (layout t) (lawful t (trimmed-proper c rows) (accepted-chain c rows ok)) (traced-ran (layout t) (a .reached .traced)),
       )
 
   pub fired-few : {state : State} {store : List ℕ} {clocks : ℕ} {written hand later : List ℕ} → Stands state store clocks written hand later
@@ -115,11 +115,11 @@ module _ (c : Chain) (ok : judgeChain c [] ≡ verdict.Accepted) (all : List ℕ
 
   -- How a call stopped: at the counters d, with these of the cells at hand not taken. One that may go on made a clock.
   pub data Stopped (out : List ℕ) (allowance made : ℕ) (d : Counters) (rest : List ℕ) : Ending → Type 0 where
-    at-done : goesOn (layout (trimmed c [])) (length all) d ≡ false → endingAt (layout (trimmed c [])) (length all) d ≡ Done → Stopped out allowance made d rest Done
-    at-stalled : goesOn (layout (trimmed c [])) (length all) d ≡ false → endingAt (layout (trimmed c [])) (length all) d ≡ Stalled → Stopped out allowance made d rest Stalled
-    at-starved : d .fired < layout (trimmed c []) .iterations → rest ≡ [] → Stopped out allowance made d rest Starved
+    at-done : goesOn (layout (trimmed c rows)) (length all) d ≡ false → endingAt (layout (trimmed c rows)) (length all) d ≡ Done → Stopped out allowance made d rest Done
+    at-stalled : goesOn (layout (trimmed c rows)) (length all) d ≡ false → endingAt (layout (trimmed c rows)) (length all) d ≡ Stalled → Stopped out allowance made d rest Stalled
+    at-starved : d .fired < layout (trimmed c rows) .iterations → rest ≡ [] → Stopped out allowance made d rest Starved
     at-spent : (0 < allowance → 0 < made) → Stopped out allowance made d rest Spent
-    at-full : (widthOf (trimmed c []) ≤ length out → 0 < made) → Stopped out allowance made d rest Full
+    at-full : (widthOf (trimmed c rows) ≤ length out → 0 < made) → Stopped out allowance made d rest Full
 
   module _ {state : State} {store : List ℕ} {clocks : ℕ} {written hand later : List ℕ} (a : Stands state store clocks written hand later) (out : List ℕ) (allowance : ℕ) where
     -- What one more call over the cells at hand adds.
@@ -128,10 +128,10 @@ module _ (c : Chain) (ok : judgeChain c [] ≡ verdict.Accepted) (all : List ℕ
       pub counts : Counts
       pub answer : r .answer ≡ answer.Ended (outcomeOf ending counts)
       pub stands : Stands (r .state) (r .store) (clocks + counts .clocks)
-          (written ++ firingsText (widthOf (trimmed c [])) (counters state .fired) (counts .firings) (r .output)) (drop (counts .cells) hand) later
+          (written ++ firingsText (widthOf (trimmed c rows)) (counters state .fired) (counts .firings) (r .output)) (drop (counts .cells) hand) later
       pub stopped : Stopped out allowance (counts .clocks) (counters (r .state)) (drop (counts .cells) hand) ending
       pub fired : counters (r .state) .fired ≡ counters state .fired + counts .firings
-      pub fits : counts .firings * widthOf (trimmed c []) ≤ length out
+      pub fits : counts .firings * widthOf (trimmed c rows) ≤ length out
       pub same-length : length (r .output) ≡ length out
       pub within : counts .cells ≤ length hand
 
@@ -149,7 +149,7 @@ module _ (c : Chain) (ok : judgeChain c [] ≡ verdict.Accepted) (all : List ℕ
 
     long-store : shortStore t (take (length store) store) ≡ false
     unfolding shortStore
-    long-store = rw (take-length store) (le-ltb _ _ (enough (accepted-chain c [] ok .places) (a .long)))
+    long-store = rw (take-length store) (le-ltb _ _ (enough (accepted-chain c rows ok .places) (a .long)))
       where
         enough : {m n : ℕ} → m ≤ mostPlaces → mostPlaces ≤ n → m ≤ n
         enough p q = omega arith
@@ -157,7 +157,7 @@ module _ (c : Chain) (ok : judgeChain c [] ≡ verdict.Accepted) (all : List ℕ
     lent : lentCells t (λ i. getD all i 0) l b ≡ hand
     lent = lent-hand t all (a .taken) hand later l b (a .split) (sym (a .position)) refl
 
-    same-run : runOf c [] state store hand out allowance ≡ ran S l b
+    same-run : runOf c rows state store hand out allowance ≡ ran S l b
     unfolding runOf callRun
     same-run = ap₂ (λ (xs ys : List ℕ). runTrimmed t state xs ys out allowance) (sym (take-length store)) (sym lent) ∙ not-short S l b (a .reached) long-store
 
@@ -271,5 +271,5 @@ module _ (c : Chain) (ok : judgeChain c [] ≡ verdict.Accepted) (all : List ℕ
       within = end-within S l b (a .reached) long-store;
     }
 
-    pub went : Went (runOf c [] state store hand out allowance)
+    pub went : Went (runOf c rows state store hand out allowance)
     went = subst Went (sym same-run) went-run

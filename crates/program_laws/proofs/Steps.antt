@@ -1,7 +1,7 @@
 -- One step of the program `run`, stage by stage: it keeps what is due, and brings the end nearer.
 use Prim.Native.Nat.{ℕ, _+_, _*_, _-_, _≤_, _<_}
 use mathlib.Core.Bool.{Bool, true, false, cond}
-use mathlib.Core.List.{List, [], _++_, append-nil, flatten}
+use mathlib.Core.List.{List, _++_, append-nil, flatten}
 use mathlib.Core.Path.{_≡_, refl, sym, _∙_, ap, subst}
 use native.Mathlib.Omega.{arith}
 use lib.Dec.{ltb}
@@ -22,7 +22,7 @@ use Rattle.program_stages.specs.declared.Job.{Job}
 use Rattle.program_stages.specs.declared.Stage.{Stage}
 use Rattle.program_stages.specs.declared.Stage.the-variants as stage
 use Rattle.program_stages.specs.Stages.{sheetStage, cellsStage}
-use Rattle.program_driver.specs.Steps.{Left, left, sheetRead, cellsRead, lastLine}
+use Rattle.program_driver.specs.Steps.{Left, sheetRead, cellsRead, lastLine}
 use Rattle.program_laws.specs.Whole.{Loop, NonEmpty}
 use Rattle.program_laws.proofs.Sheets.{line-read, piece-within, piece-some}
 use Rattle.program_laws.proofs.CellLines.{cells-read, one-at-least, none-behind}
@@ -35,7 +35,7 @@ restOf l = drop (l .at) (l .block) ++ flatten (l .blocks)
 
 -- What holds before every turn.
 pub record Holds (input : List ℕ) (l : Loop) : Type 0 where
-  pub due : Due input (l .job .stage) (l .job) (restOf l) (l .store) (l .cells) (l .written)
+  pub due : Due input (l .job .stage) (l .job) (l .rows) (restOf l) (l .store) (l .cells) (l .written)
   pub at : l .at ≤ length (l .block)
   pub blocks : NonEmpty (l .blocks)
   pub store : mostPlaces ≤ length (l .store)
@@ -62,6 +62,7 @@ onward l s = record {
   block = l .block;
   at = s .step .at;
   blocks = l .blocks;
+  rows = s .rows;
   store = s .store;
   cells = s .cells;
   words = s .words;
@@ -77,8 +78,8 @@ module _ (input : List ℕ) (l : Loop) (h : Holds input l) where
   abbrev j : Job
   j = l .job
 
-  pub due-at : (s : Stage) → l .job .stage ≡ s → Due input s j (restOf l) (l .store) (l .cells) (l .written)
-  due-at s e = subst (λ (x : Stage). Due input x j (restOf l) (l .store) (l .cells) (l .written)) e (h .due)
+  pub due-at : (s : Stage) → l .job .stage ≡ s → Due input s j (l .rows) (restOf l) (l .store) (l .cells) (l .written)
+  due-at s e = subst (λ (x : Stage). Due input x j (l .rows) (restOf l) (l .store) (l .cells) (l .written)) e (h .due)
 
   -- A line of the sheet.
   abbrev piece : List ℕ
@@ -97,9 +98,9 @@ module _ (input : List ℕ) (l : Loop) (h : Holds input l) where
         length-drop (l .at) (l .block),
       )
 
-  rank-sheet : (a : Arriving) → rank (sheetStage a) ≤ 2
+  rank-sheet : (a : Arriving) (rows : List ℕ) → rank (sheetStage a rows) ≤ 2
   unfolding sheetStage
-  rank-sheet a = go (a .verdict) (complete (a .reading)) (judgeChain (a .reading .chain) [])
+  rank-sheet a rows = go (a .verdict) (complete (a .reading)) (judgeChain (a .reading .chain) rows)
     where
       go : (v : Verdict) (b : Bool) (w : Verdict) → rank (byVerdict v (cond b (byVerdict w stage.Cells stage.Refusing) stage.Sheet) stage.Refusing) ≤ 2
       go (verdict.Refused x) b w = omega arith
@@ -107,19 +108,19 @@ module _ (input : List ℕ) (l : Loop) (h : Holds input l) where
       go verdict.Accepted true verdict.Accepted = omega arith
       go verdict.Accepted true (verdict.Refused x) = omega arith
 
-  pub sheet-step : l .job .stage ≡ stage.Sheet → l .at < length (l .block) → Advances input l (left (sheetRead j (l .block) (l .at)) (l .store) (l .cells) (l .words) (l .text))
+  pub sheet-step : l .job .stage ≡ stage.Sheet → l .at < length (l .block) → Advances input l (sheetRead j (l .block) (l .at) (l .rows) (l .store) (l .cells) (l .words) (l .text))
   unfolding sheetRead lineTaken
   sheet-step e some =
-      let i : InSheet input j (restOf l) (l .written) = due-at stage.Sheet e in
-      let a = arrive true (j .arriving) piece in
+      let i : InSheet input j (l .rows) (restOf l) (l .written) = due-at stage.Sheet e in
+      let a = arrive true (record { sheet = j .arriving; numbers = l .rows }) piece in
       let n = length piece in
       let within = piece-within (drop (l .at) (l .block)) in
       let more = piece-some (drop (l .at) (l .block)) (omega (arith, length-drop (l .at) (l .block))) in
-      let read = line-read input (drop (l .at) (l .block)) (flatten (l .blocks)) (j .arriving) (i .midway) in
+      let read = line-read input (drop (l .at) (l .block)) (flatten (l .blocks)) (j .arriving) (l .rows) (i .midway) in
       let lengths = rest-length n within in
       record {
         holds = record {
-          due = sheet-due input _ _ (l .store) (l .cells) _ (h .store) (i .state) (i .clocks) (i .line) (append-nil (l .written) ∙ i .nothing) (rw (rest-after n) read);
+          due = sheet-due input _ _ _ (l .store) (l .cells) _ (h .store) (i .state) (i .clocks) (i .line) (append-nil (l .written) ∙ i .nothing) (rw (rest-after n) read);
           at = omega (arith, length-drop (l .at) (l .block));
           blocks = h .blocks;
           store = h .store;
@@ -127,7 +128,7 @@ module _ (input : List ℕ) (l : Loop) (h : Holds input l) where
           words = h .words;
           text = h .text;
         };
-        nearer = omega (arith, rank-sheet a, ap rank e);
+        nearer = omega (arith, rank-sheet (a .sheet) (a .numbers), ap rank e);
       }
 
   -- `05` lines: the characters of an open line, or a line that was turned back.
@@ -159,16 +160,16 @@ module _ (input : List ℕ) (l : Loop) (h : Holds input l) where
       rw (none-behind (drop (l .at) (l .block)) (length (l .cells)) (j .line) x e, e) (omega (arith, rank-back x))
 
   pub cells-step : l .job .stage ≡ stage.Cells → (j .line .verdict ≡ verdict.Accepted → l .at < length (l .block))
-      → Advances input l (cellsRead j (l .block) (l .at) (l .store) (l .cells) (l .words) (l .text))
+      → Advances input l (cellsRead j (l .block) (l .at) (l .rows) (l .store) (l .cells) (l .words) (l .text))
   unfolding cellsRead cellsTaken
   cells-step e some =
-      let i : InCells input j (restOf l) (l .store) (l .written) = due-at stage.Cells e in
+      let i : InCells input j (l .rows) (restOf l) (l .store) (l .written) = due-at stage.Cells e in
       let got = cells-read (drop (l .at) (l .block)) (flatten (l .blocks)) (length (l .cells)) (j .line) (i .run .later) (i .run .behind) (i .run .gives) in
       let lengths = rest-length (read .looked) (got .within) in
       record {
         holds = record {
           due = rw (rest-after (read .looked), append-nil (l .written))
-              (cells-due input j (restOf l) (l .store) (l .written) i (read .line) (read .cells)
+              (cells-due input j (l .rows) (restOf l) (l .store) (l .written) i (read .line) (read .cells)
               (drop (read .looked) (drop (l .at) (l .block)) ++ flatten (l .blocks)) (got .later) (drop (length (read .cells)) (l .cells)) (got .split) (got .gives));
           at = omega (arith, got .within, length-drop (l .at) (l .block));
           blocks = h .blocks;
@@ -182,7 +183,7 @@ module _ (input : List ℕ) (l : Loop) (h : Holds input l) where
 
   -- The last line.
   pub last-step : (line : List ℕ) → l .written ++ line ≡ runText input → length line ≤ 13 → rank (l .job .stage) ≡ 1
-      → Advances input l (lastLine j line (l .at) (l .store) (l .cells) (l .words) (l .text))
+      → Advances input l (lastLine j line (l .at) (l .rows) (l .store) (l .cells) (l .words) (l .text))
   unfolding lastLine
   last-step line due short e =
       let laid = laid-fitting line (l .text) (omega (arith, h .text)) in

@@ -30,19 +30,19 @@ use Rattle.program_laws.proofs.Steps.{restOf, Holds, rank, weight, Adva
 use Rattle.program_laws.proofs.RunStep.{run-step}
 
 -- The end of the input, where more is wanted.
-module _ (input : List ℕ) (j : Job) (store cells written : List ℕ) where
-  pub sheet-ends : InSheet input j [] written → Due input (closedBy stage.Sheet j .stage) (closedBy stage.Sheet j) [] store cells written
+module _ (input : List ℕ) (j : Job) (rows store cells written : List ℕ) where
+  pub sheet-ends : InSheet input j rows [] written → Due input (closedBy stage.Sheet j .stage) (closedBy stage.Sheet j) rows [] store cells written
   unfolding closedBy
   sheet-ends i = go (j .arriving .begun) refl
     where
       cut : (j .arriving .begun ≡ true → runText input ≡ refusalText refusal.Malformed) × (j .arriving .begun ≡ false → runText input ≡ refusalText refusal.Misplaced)
-      cut = sheet-cut input (j .arriving) (i .midway)
+      cut = sheet-cut input (j .arriving) rows (i .midway)
 
       go : (b : Bool) → j .arriving .begun ≡ b → written ++ refusalText (cond b refusal.Malformed refusal.Misplaced) ≡ runText input
       go true e = rw (i .nothing) (sym (cut .0 e))
       go false e = rw (i .nothing) (sym (cut .1 e))
 
-  pub cells-end : j .line .verdict ≡ verdict.Accepted → InCells input j [] store written → Due input (closedBy stage.Cells j .stage) (closedBy stage.Cells j) [] store cells written
+  pub cells-end : j .line .verdict ≡ verdict.Accepted → InCells input j rows [] store written → Due input (closedBy stage.Cells j .stage) (closedBy stage.Cells j) rows [] store cells written
   unfolding closedBy
   cells-end v i = go (j .line .begun) (ends .1)
     where
@@ -50,10 +50,10 @@ module _ (input : List ℕ) (j : Job) (store cells written : List ℕ) where
       ends = input-ends (j .line) (i .run .later) (i .run .behind) v (i .run .gives)
 
       due : written ++ endText Starved (j .clocks) (i .run .behind) ≡ runText input
-      due = starved-due input j [] store written i (ends .0)
+      due = starved-due input j rows [] store written i (ends .0)
 
       go : (b : Bool) → i .run .behind ≡ cond b (verdict.Refused refusal.Malformed) verdict.Accepted
-          → Due input (cond b (stage.Refusing refusal.Malformed) (stage.Ending starvedByte)) (staged j (cond b (stage.Refusing refusal.Malformed) (stage.Ending starvedByte))) [] store cells written
+          → Due input (cond b (stage.Refusing refusal.Malformed) (stage.Ending starvedByte)) (staged j (cond b (stage.Refusing refusal.Malformed) (stage.Ending starvedByte))) rows [] store cells written
       go true e = ap (λ (u : Verdict). written ++ endText Starved (j .clocks) u) (sym e) ∙ due
       go false e = ap (λ (u : Verdict). written ++ endText Starved (j .clocks) u) (sym e) ∙ due
 
@@ -75,7 +75,7 @@ module _ (input : List ℕ) (l : Loop) (h : Holds input l) (on : over (l .job .s
       let more : NonEmpty (b ∷ bs) = rw e at (h .blocks) in
       record {
         holds = record {
-          due = subst (λ (xs : List ℕ). Due input (l .job .stage) (l .job) xs (l .store) (l .cells) (l .written)) rest (h .due);
+          due = subst (λ (xs : List ℕ). Due input (l .job .stage) (l .job) (l .rows) xs (l .store) (l .cells) (l .written)) rest (h .due);
           at = omega arith;
           blocks = more .1;
           store = h .store;
@@ -89,7 +89,7 @@ module _ (input : List ℕ) (l : Loop) (h : Holds input l) (on : over (l .job .s
       }
 
   -- The end of the input.
-  no-block : (k : Job) → Due input (k .stage) k [] (l .store) (l .cells) (l .written) → k .clocks ≡ l .job .clocks → rank (k .stage) ≡ 1 → 1 ≤ rank (l .job .stage)
+  no-block : (k : Job) → Due input (k .stage) k (l .rows) [] (l .store) (l .cells) (l .written) → k .clocks ≡ l .job .clocks → rank (k .stage) ≡ 1 → 1 ≤ rank (l .job .stage)
       → over (k .stage) ≡ false → wantsInput k ≡ false → Supplied input l (withBlock l k [] [])
   unfolding flatten
   no-block k due clocks last some more full = record {
@@ -103,20 +103,20 @@ module _ (input : List ℕ) (l : Loop) (h : Holds input l) (on : over (l .job .s
   unfolding wantsBy wantsInput closedBy over flatten
   at-end stage.Sheet e w at none =
       no-block (closedBy stage.Sheet (l .job))
-      (sheet-ends input (l .job) (l .store) (l .cells) (l .written)
-      (subst (λ (xs : List ℕ). InSheet input (l .job) xs (l .written)) (used-up at ∙ ap (λ (xs : List (List ℕ)). flatten xs) none) (due-at input l h stage.Sheet e)))
+      (sheet-ends input (l .job) (l .rows) (l .store) (l .cells) (l .written)
+      (subst (λ (xs : List ℕ). InSheet input (l .job) (l .rows) xs (l .written)) (used-up at ∙ ap (λ (xs : List (List ℕ)). flatten xs) none) (due-at input l h stage.Sheet e)))
       refl refl (omega (arith, ap rank e)) refl refl
   at-end stage.Cells e w at none = go (l .job .line .verdict) refl w
     where
       go : (v : Verdict) → l .job .line .verdict ≡ v → byVerdict v true (λ x. false) ≡ true → Supplied input l (withBlock l (closedBy stage.Cells (l .job)) [] [])
       go (verdict.Refused x) v z = absurd (never (sym z))
       go verdict.Accepted v z =
-          let due = cells-end input (l .job) (l .store) (l .cells) (l .written) v
-          (subst (λ (xs : List ℕ). InCells input (l .job) xs (l .store) (l .written)) (used-up at ∙ ap (λ (xs : List (List ℕ)). flatten xs) none) (due-at input l h stage.Cells e)) in
+          let due = cells-end input (l .job) (l .rows) (l .store) (l .cells) (l .written) v
+          (subst (λ (xs : List ℕ). InCells input (l .job) (l .rows) xs (l .store) (l .written)) (used-up at ∙ ap (λ (xs : List (List ℕ)). flatten xs) none) (due-at input l h stage.Cells e)) in
           by (l .job .line .begun) due
         where
           by : (b : Bool)
-              → Due input (cond b (stage.Refusing refusal.Malformed) (stage.Ending starvedByte)) (staged (l .job) (cond b (stage.Refusing refusal.Malformed) (stage.Ending starvedByte))) [] (l .store) (l .cells) (l .written)
+              → Due input (cond b (stage.Refusing refusal.Malformed) (stage.Ending starvedByte)) (staged (l .job) (cond b (stage.Refusing refusal.Malformed) (stage.Ending starvedByte))) (l .rows) [] (l .store) (l .cells) (l .written)
               → Supplied input l (withBlock l (staged (l .job) (cond b (stage.Refusing refusal.Malformed) (stage.Ending starvedByte))) [] [])
           by true due = no-block (staged (l .job) (stage.Refusing refusal.Malformed)) due refl refl (omega (arith, ap rank e)) refl refl
           by false due = no-block (staged (l .job) (stage.Ending starvedByte)) due refl refl (omega (arith, ap rank e)) refl refl
@@ -145,7 +145,7 @@ module _ (input : List ℕ) (l : Loop) (h : Holds input l) (on : over (l .job .s
 -- A step at any stage.
 step-by : (input : List ℕ) (l : Loop) → Holds input l → (s : Stage) → l .job .stage ≡ s → over s ≡ false
     → (wantsBy s (l .job .line .verdict) ≡ true → l .at < length (l .block))
-    → Advances input l (advancedBy s (l .job) (l .block) (l .at) (l .store) (l .cells) (l .words) (l .text))
+    → Advances input l (advancedBy s (l .job) (l .block) (l .at) (l .rows) (l .store) (l .cells) (l .words) (l .text))
 unfolding advancedBy over wantsBy
 step-by input l h stage.Sheet e on ready = sheet-step input l h e (ready refl)
 step-by input l h stage.Cells e on ready = cells-step input l h e (λ v. ready (rw v refl))
@@ -215,7 +215,7 @@ pub over-written : (input : List ℕ) (l : Loop) → Holds input l → over (l .
 unfolding over
 over-written input l h e = go (l .job .stage) e (h .due)
   where
-    go : (s : Stage) → over s ≡ true → Due input s (l .job) (restOf l) (l .store) (l .cells) (l .written) → l .written ≡ runText input
+    go : (s : Stage) → over s ≡ true → Due input s (l .job) (l .rows) (restOf l) (l .store) (l .cells) (l .written) → l .written ≡ runText input
     go stage.Sheet e due = absurd (never (sym e))
     go stage.Cells e due = absurd (never (sym e))
     go stage.Clocks e due = absurd (never (sym e))
@@ -241,7 +241,7 @@ unfolding turn stepped
 turn-writes l = go (over (l .job .stage))
   where
     s : Left
-    s = advanced (supplied l .job) (supplied l .block) (supplied l .at) (supplied l .store) (supplied l .cells) (supplied l .words) (supplied l .text)
+    s = advanced (supplied l .job) (supplied l .block) (supplied l .at) (supplied l .rows) (supplied l .store) (supplied l .cells) (supplied l .words) (supplied l .text)
 
     go : (b : Bool) → FirstPart (l .written) (cond b l (stepped (supplied l)) .written)
     go true = record { rest = []; joined = append-nil (l .written) }

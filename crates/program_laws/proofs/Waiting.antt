@@ -38,7 +38,7 @@ use Rattle.program_laws.proofs.Loops.{turn-over, turn-kept, turn-read}
 
 -- The same loop, with more blocks behind its own.
 abbrev more : Loop → List (List ℕ) → Loop
-more l further = loopOf (l .job) (l .block) (l .at) (l .store) (l .cells) (l .words) (l .text) (l .written) (l .blocks ++ further)
+more l further = loopOf (l .job) (l .block) (l .at) (l .rows) (l .store) (l .cells) (l .words) (l .text) (l .written) (l .blocks ++ further)
 
 -- A turn takes at most a block.
 fewer : (l : Loop) → length (turn l .blocks) ≤ length (l .blocks)
@@ -68,21 +68,21 @@ turn-alike : (l : Loop) (f : List ℕ) (fs : List (List ℕ)) → Alike l (f ∷
 turn-alike l f fs = go (over (l .job .stage)) refl (readDue (l .job) (l .at) (length (l .block))) refl (l .blocks)
   where
     with-blocks : List (List ℕ) → Loop
-    with-blocks = loopOf (l .job) (l .block) (l .at) (l .store) (l .cells) (l .words) (l .text) (l .written)
+    with-blocks = loopOf (l .job) (l .block) (l .at) (l .rows) (l .store) (l .cells) (l .words) (l .text) (l .written)
 
     go : (o : Bool) → over (l .job .stage) ≡ o → (r : Bool) → readDue (l .job) (l .at) (length (l .block)) ≡ r → (bs : List (List ℕ)) → Alike (with-blocks bs) (f ∷ fs)
     go true o r e bs = alike (turn-over (with-blocks (bs ++ (f ∷ fs))) o ∙ ap (λ (x : Loop). more x (f ∷ fs)) (sym (turn-over (with-blocks bs) o)))
     go false o false e bs =
-        let t : (xs : List (List ℕ)) → _ = λ xs. turn-kept (l .job) (l .at) (l .store) (l .cells) (l .words) (l .text) o (l .block) (l .written) xs e in
+        let t : (xs : List (List ℕ)) → _ = λ xs. turn-kept (l .job) (l .at) (l .rows) (l .store) (l .cells) (l .words) (l .text) o (l .block) (l .written) xs e in
         alike (t (bs ++ (f ∷ fs)) ∙ ap (λ (x : Loop). more x (f ∷ fs)) (sym (t bs)))
     go false o true e [] =
         takes
         (omega (
           arith,
-          ap (λ (x : Loop). length (x .blocks)) (turn-read (l .job) (l .at) (l .store) (l .cells) (l .words) (l .text) o (l .block) f (l .written) fs e),
+          ap (λ (x : Loop). length (x .blocks)) (turn-read (l .job) (l .at) (l .rows) (l .store) (l .cells) (l .words) (l .text) o (l .block) f (l .written) fs e),
         ))
     go false o true e (b ∷ bs) =
-        let t : (xs : List (List ℕ)) → _ = λ xs. turn-read (l .job) (l .at) (l .store) (l .cells) (l .words) (l .text) o (l .block) b (l .written) xs e in
+        let t : (xs : List (List ℕ)) → _ = λ xs. turn-read (l .job) (l .at) (l .rows) (l .store) (l .cells) (l .words) (l .text) o (l .block) b (l .written) xs e in
         alike (t (bs ++ (f ∷ fs)) ∙ ap (λ (x : Loop). more x (f ∷ fs)) (sym (t bs)))
 
 turns-alike : (n : ℕ) (l : Loop) (f : List ℕ) (fs : List (List ℕ)) → length (f ∷ fs) ≤ length (turns n (more l (f ∷ fs)) .blocks)
@@ -103,7 +103,7 @@ unfolding startOf
 alone past [] lent n e = ap (λ (bs : List (List ℕ)). turns n (startOf bs lent)) (append-nil past) ∙ sym (none (turns n (startOf past lent)))
   where
     none : (l : Loop) → more l [] ≡ l
-    none l = ap (loopOf (l .job) (l .block) (l .at) (l .store) (l .cells) (l .words) (l .text) (l .written)) (append-nil (l .blocks))
+    none l = ap (loopOf (l .job) (l .block) (l .at) (l .rows) (l .store) (l .cells) (l .words) (l .text) (l .written)) (append-nil (l .blocks))
 alone past (f ∷ fs) lent n e = turns-alike n (startOf past lent) f fs (omega (arith, ap length e))
 
 empty-front : (xs ys : List (List ℕ)) → xs ++ ys ≡ ys → xs ≡ []
@@ -132,21 +132,21 @@ module _ (input : List ℕ) (l : Loop) (h : Holds input l) (none : l .blocks ≡
 
   at-end : (s : Stage) → l .job .stage ≡ s → wantsBy s (j .line .verdict) ≡ true → Told input l × StarvedAt input
   unfolding wantsBy closedBy
-  at-end stage.Sheet e v = (by (j .arriving .begun) (sheet-ends input j (l .store) (l .cells) (l .written) i), λ c. absurd (never (sym c ∙ sheet-unended input (j .arriving) (i .midway))))
+  at-end stage.Sheet e v = (by (j .arriving .begun) (sheet-ends input j (l .rows) (l .store) (l .cells) (l .written) i), λ c. absurd (never (sym c ∙ sheet-unended input (j .arriving) (l .rows) (i .midway))))
     where
-      i : InSheet input j [] (l .written)
-      i = subst (λ (xs : List ℕ). InSheet input j xs (l .written)) rest (due-at input l h stage.Sheet e)
+      i : InSheet input j (l .rows) [] (l .written)
+      i = subst (λ (xs : List ℕ). InSheet input j (l .rows) xs (l .written)) rest (due-at input l h stage.Sheet e)
 
       by : (b : Bool) → l .written ++ refusalText (cond b refusal.Malformed refusal.Misplaced) ≡ runText input → Told input l
       by true d = record { last = refusalText refusal.Malformed; missing = no-feed; all = d }
       by false d = record { last = refusalText refusal.Misplaced; missing = no-line; all = d }
   at-end stage.Cells e v = go (j .line .verdict) refl v
     where
-      i : InCells input j [] (l .store) (l .written)
-      i = subst (λ (xs : List ℕ). InCells input j xs (l .store) (l .written)) rest (due-at input l h stage.Cells e)
+      i : InCells input j (l .rows) [] (l .store) (l .written)
+      i = subst (λ (xs : List ℕ). InCells input j (l .rows) xs (l .store) (l .written)) rest (due-at input l h stage.Cells e)
 
       by : (b : Bool)
-          → Due input (cond b (stage.Refusing refusal.Malformed) (stage.Ending starvedByte)) (staged j (cond b (stage.Refusing refusal.Malformed) (stage.Ending starvedByte))) [] (l .store) (l .cells) (l .written)
+          → Due input (cond b (stage.Refusing refusal.Malformed) (stage.Ending starvedByte)) (staged j (cond b (stage.Refusing refusal.Malformed) (stage.Ending starvedByte))) (l .rows) [] (l .store) (l .cells) (l .written)
           → Told input l
       by true d = record { last = refusalText refusal.Malformed; missing = no-feed; all = d }
       by false d = record { last = framed (endLine starvedByte (j .clocks)); missing = no-cell; all = d }
@@ -154,8 +154,8 @@ module _ (input : List ℕ) (l : Loop) (h : Holds input l) (none : l .blocks ≡
       go : (x : Verdict) → j .line .verdict ≡ x → byVerdict x true (λ y. false) ≡ true → Told input l × StarvedAt input
       go (verdict.Refused y) d z = absurd (never (sym z))
       go verdict.Accepted d z = (
-        by (j .line .begun) (cells-end input j (l .store) (l .cells) (l .written) d i),
-        λ _. starved-run input j [] (l .store) (l .written) i (input-ends (j .line) (i .run .later) (i .run .behind) d (i .run .gives) .0),
+        by (j .line .begun) (cells-end input j (l .rows) (l .store) (l .cells) (l .written) d i),
+        λ _. starved-run input j (l .rows) [] (l .store) (l .written) i (input-ends (j .line) (i .run .later) (i .run .behind) d (i .run .gives) .0),
       )
   at-end stage.Clocks e v = absurd (never (sym v))
   at-end (stage.Ending way) e v = absurd (never (sym v))
@@ -206,7 +206,7 @@ after-answer (answer.Ended (outcome.Full c)) x = refl
 
 module _ (l : Loop) where
   abbrev stepAt : Stage → Step
-  stepAt s = advancedBy s (l .job) (l .block) (l .at) (l .store) (l .cells) (l .words) (l .text) .step
+  stepAt s = advancedBy s (l .job) (l .block) (l .at) (l .rows) (l .store) (l .cells) (l .words) (l .text) .step
 
   stays-by : (s : Stage) → l .job .stage ≡ s → over s ≡ false → wantsBy s (l .job .line .verdict) ≡ false
       → settled (stepAt s .job .stage) (stepAt s .job .line .verdict) ≡ true → Stays l
@@ -215,7 +215,7 @@ module _ (l : Loop) where
       let idle : readDue (l .job) (l .at) (length (l .block)) ≡ false =
       ap (λ (x : Stage). eqb (l .at) (length (l .block)) && wantsBy x (l .job .line .verdict)) e ∙ ap (λ (b : Bool). eqb (l .at) (length (l .block)) && b) w
       ∙ neither (eqb (l .at) (length (l .block))) in
-      let t = turn-kept (l .job) (l .at) (l .store) (l .cells) (l .words) (l .text) (ap over e ∙ o) (l .block) (l .written) (l .blocks) idle in (
+      let t = turn-kept (l .job) (l .at) (l .rows) (l .store) (l .cells) (l .words) (l .text) (ap over e ∙ o) (l .block) (l .written) (l .blocks) idle in (
         ap (λ (x : Loop). x .blocks) t,
         ap (λ (x : Loop). settled (x .job .stage) (x .job .line .verdict)) t ∙ ap (λ (x : Stage). settled (stepAt x .job .stage) (stepAt x .job .line .verdict)) e ∙ d,
       )

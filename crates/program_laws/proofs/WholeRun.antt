@@ -57,13 +57,13 @@ lent-hand t all taken hand later l b e p n =
     tabulate-back 0 hand (l .cells) _ (sym n)
     (λ k h. ap₂ (λ (xs : List ℕ) (i : ℕ). getD xs (i + k) 0) e p ∙ getD-append-add taken (hand ++ later) k 0 ∙ List·getD-append hand later 0 k (omega arith))
 
-module _ (c : Chain) (ok : judgeChain c [] ≡ verdict.Accepted) (all : List ℕ) where
+module _ (c : Chain) (rows : List ℕ) (ok : judgeChain c rows ≡ verdict.Accepted) (all : List ℕ) where
   -- The chain, and the cells as a stream.
   abbrev pub settingOf : Setting
-  settingOf = record { trimmed = trimmed c []; proper = trimmed-proper c []; accepted = accepted-chain c [] ok; stream = λ i. getD all i 0 }
+  settingOf = record { trimmed = trimmed c rows; proper = trimmed-proper c rows; accepted = accepted-chain c rows ok; stream = λ i. getD all i 0 }
 
   abbrev t : Trimmed
-  t = trimmed c []
+  t = trimmed c rows
 
   -- The whole run as a call.
   lending : Lending
@@ -132,7 +132,7 @@ module _ (c : Chain) (ok : judgeChain c [] ≡ verdict.Accepted) (all : List ℕ
   few : e .standing .counters .fired < layout t .iterations → length (clocks settingOf lending start) < lending .allowance
   unfolding lending layout beginning begun
   few f =
-      fewer-clocks (layout t) (lawful t (trimmed-proper c []) (accepted-chain c [] ok))
+      fewer-clocks (layout t) (lawful t (trimmed-proper c rows) (accepted-chain c rows ok))
       (traced-ran (layout t) (subst (λ (s : Counters). Traced (layout t) s (clocks settingOf lending start) (e .standing .counters)) now-fresh (counted settingOf lending start))) f
     where
       counted : (S : Setting) (l : Lending) (b : Between) → Traced (layout (S .trimmed)) (now S b) (clocks S l b) (ending S l b .standing .counters)

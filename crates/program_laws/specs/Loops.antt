@@ -7,7 +7,7 @@ use lib.Dec.{eqb}
 use lib.IntN.{ℤ, pos, negsuc}
 use lib.ListN.{length}
 use Rattle.model.specs.declared.Arriving.{Arriving}
-use Rattle.model.specs.Arriving.{opened}
+use Rattle.model.specs.Arriving.{Arrived, opening}
 use Rattle.model.specs.Programs.{planText}
 use Rattle.program_stages.specs.declared.Job.{Job}
 use Rattle.program_stages.specs.Stages.{afterRead, wantsInput, over}
@@ -46,12 +46,13 @@ abbrev pub Supplied : Job → (at len : ℕ) → (before : List ℕ) → (job : 
 Supplied j at len before job at′ len′ after = SuppliedBy (readDue j at len) j at len before job at′ len′ after
 
 -- The loop of `run` with these variables, where `written` was written and further reads give `blocks`.
-abbrev pub loopOf : Job → (block : List ℕ) → (at : ℕ) → (store cells words text written : List ℕ) → (blocks : List (List ℕ)) → Loop
-loopOf j block at store cells words text written blocks = record {
+abbrev pub loopOf : Job → (block : List ℕ) → (at : ℕ) → (rows store cells words text written : List ℕ) → (blocks : List (List ℕ)) → Loop
+loopOf j block at rows store cells words text written blocks = record {
   job = j;
   block = block;
   at = at;
   blocks = blocks;
+  rows = rows;
   store = store;
   cells = cells;
   words = words;
@@ -60,11 +61,11 @@ loopOf j block at store cells words text written blocks = record {
 }
 
 -- Before a turn of `run`: some blocks were read, and turns lead here whatever further reads give; or the program is over.
-pub data InLoop (j : Job) (block : List ℕ) (at : ℕ) (store cells words text : List ℕ) : Type 0 where
+pub data InLoop (j : Job) (block : List ℕ) (at : ℕ) (rows store cells words text : List ℕ) : Type 0 where
   going : (lent : Lent) (past : List (List ℕ)) → NonEmpty past → (n : ℕ) (written : List ℕ)
-      → ((further : List (List ℕ)) → turns n (startOf (past ++ further) lent) ≡ loopOf j block at store cells words text written further)
-      → InLoop j block at store cells words text
-  ended : over (j .stage) ≡ true → InLoop j block at store cells words text
+      → ((further : List (List ℕ)) → turns n (startOf (past ++ further) lent) ≡ loopOf j block at rows store cells words text written further)
+      → InLoop j block at rows store cells words text
+  ended : over (j .stage) ≡ true → InLoop j block at rows store cells words text
 
 -- A text that is due where a turn leaves this job: what the turn writes of the blocks read, or nothing where the read failed.
 pub data RunDue (j : Job) : List ℕ → Type 0 where
@@ -73,21 +74,21 @@ pub data RunDue (j : Job) : List ℕ → Type 0 where
   read-failed : over (j .stage) ≡ true → RunDue j []
 
 -- Before a turn of `plan`: some blocks were taken, whatever further reads give.
-pub record Taking (a : Arriving) : Type 0 where
+pub record Taking (a : Arrived) : Type 0 where
   pub past : List (List ℕ)
-  pub same : (further : List (List ℕ)) → planTaken opened (past ++ further) ≡ planTaken a further
+  pub same : (further : List (List ℕ)) → planTaken opening (past ++ further) ≡ planTaken a further
 
 -- And after the last one, where no read failed.
-pub record Taken (a : Arriving) : Type 0 where
+pub record Taken (a : Arrived) : Type 0 where
   pub blocks : List (List ℕ)
-  pub same : planTaken opened blocks ≡ a
+  pub same : planTaken opening blocks ≡ a
 
-abbrev pub TakenUnless : (failed : Bool) → Arriving → Type 0
-TakenUnless true a = Unit {0}
-TakenUnless false a = Taken a
+abbrev pub TakenUnless : (failed : Bool) → Arriving → (rows : List ℕ) → Type 0
+TakenUnless true a rows = Unit {0}
+TakenUnless false a rows = Taken (record { sheet = a; numbers = rows })
 
 -- A text that is due of this sheet: that of the blocks read.
-pub record PlanDue (a : Arriving) (text : List ℕ) : Type 0 where
+pub record PlanDue (a : Arriving) (rows text : List ℕ) : Type 0 where
   pub blocks : List (List ℕ)
-  pub same : planTaken opened blocks ≡ a
+  pub same : planTaken opening blocks ≡ record { sheet = a; numbers = rows }
   pub due : text ≡ planText (flatten blocks)

@@ -6,16 +6,15 @@ use mathlib.Core.Path.{_≡_}
 use lib.Dec.{eqb}
 use lib.IntN.{negsuc}
 use lib.ListN.{length, take}
-use Rattle.model.specs.declared.Arriving.{Arriving}
 use Rattle.model.specs.declared.Refusal.the-variants as refusal
 use Rattle.model.specs.declared.Verdict.{Verdict}
 use Rattle.model.specs.Answers.{starvedByte, byVerdict}
 use Rattle.model.specs.Values.{trimmed}
 use Rattle.model.specs.Lines.{linesOf}
 use Rattle.model.specs.Frames.{framed}
-use Rattle.model.specs.Reading.{start, complete}
+use Rattle.model.specs.Reading.{start, complete, numbersIn}
 use Rattle.model.specs.Running.{Starved}
-use Rattle.model.specs.Arriving.{opened, arrive}
+use Rattle.model.specs.Arriving.{Arrived, opening, arrive}
 use Rattle.model.specs.Judging.{mostPlaces}
 use Rattle.model.specs.Writing.{longestSheet}
 use Rattle.model.specs.Programs.{sheetAndBehind, cellsIn, wholeRun, endLine, refusalText, planText, runText, mostWords, longestFiring, planTextPlaces, storePlaces, cellPlaces, wordPlaces, runTextPlaces}
@@ -34,6 +33,7 @@ pub record Loop : Type 0 where
   pub block : List ℕ
   pub at : ℕ
   pub blocks : List (List ℕ)
+  pub rows : List ℕ
   pub store : List ℕ
   pub cells : List ℕ
   pub words : List ℕ
@@ -47,6 +47,7 @@ withBlock l j block blocks = record {
   block = block;
   at = 0;
   blocks = blocks;
+  rows = l .rows;
   store = l .store;
   cells = l .cells;
   words = l .words;
@@ -66,12 +67,13 @@ supplied l = cond (eqb (l .at) (length (l .block)) && wantsInput (l .job)) (rece
 -- A step, and its text written.
 unfoldable pub stepped : Loop → Loop
 stepped l =
-    let s = advanced (l .job) (l .block) (l .at) (l .store) (l .cells) (l .words) (l .text) in
+    let s = advanced (l .job) (l .block) (l .at) (l .rows) (l .store) (l .cells) (l .words) (l .text) in
     record {
       job = s .step .job;
       block = l .block;
       at = s .step .at;
       blocks = l .blocks;
+      rows = s .rows;
       store = s .store;
       cells = s .cells;
       words = s .words;
@@ -102,13 +104,14 @@ abbrev pub NonEmpty : List (List ℕ) → Type 0
 NonEmpty [] = Unit {0}
 NonEmpty (b ∷ bs) = (0 < length b) × NonEmpty bs
 
--- Before the first turn.
+-- Before the first turn: no row has arrived.
 unfoldable pub startOf : (blocks : List (List ℕ)) → Lent → Loop
 startOf blocks lent = record {
   job = begun;
   block = [];
   at = 0;
   blocks = blocks;
+  rows = opening .numbers;
   store = lent .store;
   cells = lent .cells;
   words = lent .words;
@@ -166,8 +169,9 @@ WritesFirst = (past further : List (List ℕ)) → NonEmpty (past ++ further) �
 -- "It reads a `05` line only when starved, and stops reading at done or stalled": where it waits behind the `04`, the run over the cells read so far is starved.
 abbrev pub StarvedAt : (input : List ℕ) → Type 0
 StarvedAt input =
-    let p = sheetAndBehind start (linesOf input) in
-    complete (p .step .reading) ≡ true → wholeRun (trimmed (p .step .reading .chain) []) (cellsIn (p .behind)) .ending ≡ Starved
+    let rows = numbersIn input in
+    let p = sheetAndBehind rows start (linesOf input) in
+    complete (p .step .reading) ≡ true → wholeRun (trimmed (p .step .reading .chain) rows) (cellsIn (p .behind)) .ending ≡ Starved
 
 abbrev pub ReadsStarved : Type 0
 ReadsStarved = (past further : List (List ℕ)) → NonEmpty (past ++ further) → (lent : Lent) (n : ℕ)
@@ -188,21 +192,22 @@ StopsReading = (l : Loop) (n : ℕ) → settled (l .job .stage) (l .job .line .v
 
 -- After a read that failed the step writes nothing, no last line either, and the program is over.
 abbrev pub ReadFails : Type 0
-ReadFails = (j : Job) (n : ℕ) (block : List ℕ) (at : ℕ) (store cells words text : List ℕ)
-    → let s = advanced (afterRead (negsuc n) j) block at store cells words text .step in (over (s .job .stage) ≡ true) × (s .bytes ≡ 0)
+ReadFails = (j : Job) (n : ℕ) (block : List ℕ) (at : ℕ) (rows store cells words text : List ℕ)
+    → let s = advanced (afterRead (negsuc n) j) block at rows store cells words text .step in (over (s .job .stage) ≡ true) × (s .bytes ≡ 0)
 
 -- `plan` takes block after block, up to the first that is turned back.
-unfoldable pub planTaken : Arriving → List (List ℕ) → Arriving
+unfoldable pub planTaken : Arrived → List (List ℕ) → Arrived
 planTaken a [] = a
 planTaken a (b ∷ bs) =
     let next = arrive false a b in
     let further = planTaken next bs in
-    byVerdict (next .verdict) further (λ x. next)
+    byVerdict (next .sheet .verdict) further (λ x. next)
 
 -- What it lays into its text at the end is what document 01 says of the whole input.
 abbrev pub PlanWrites : Type 0
 PlanWrites = (blocks : List (List ℕ)) (text : List ℕ) → longestSheet ≤ length text
-    → take (laidIfFits (planAnswer (planTaken opened blocks)) text .chars) (laidIfFits (planAnswer (planTaken opened blocks)) text .output) ≡ planText (flatten blocks)
+    → let a = planTaken opening blocks in
+    let t = laidIfFits (planAnswer (a .sheet) (a .numbers)) text in take (t .chars) (t .output) ≡ planText (flatten blocks)
 
 -- The buffers of the programs have places enough.
 pub record Buffers : Type 0 where

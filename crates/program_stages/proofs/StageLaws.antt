@@ -1,7 +1,7 @@
 -- Each way through the choice of a job's next stage.
 use Prim.Native.Nat.{ℕ, zero, suc, _≤_, _<_}
 use mathlib.Core.Bool.{true, false, false≢true}
-use mathlib.Core.List.{[]}
+use mathlib.Core.List.{List}
 use mathlib.Core.Path.{_≡_, refl, sym, _∙_, ap}
 use native.Mathlib.Omega.{arith}
 use lib.IntN.{ℤ, pos, negsuc}
@@ -24,22 +24,23 @@ use Rattle.program_stages.specs.declared.Stage.the-variants as stage
 use Rattle.program_stages.specs.Stages.{staged, sheetStage, cellsStage, closedBy, closed, afterRead, wantsBy, wantsInput}
 
 -- After a line of the sheet.
-pub sheet-refused : (a : Arriving) (x : Refusal) → a .verdict ≡ verdict.Refused x → stage.Refusing x ≡ sheetStage a
-unfolding sheetStage
-sheet-refused a x e = rw e
+module _ (a : Arriving) (numbers : List ℕ) where
+  pub sheet-refused : (x : Refusal) → a .verdict ≡ verdict.Refused x → stage.Refusing x ≡ sheetStage a numbers
+  unfolding sheetStage
+  sheet-refused x e = rw e
 
-pub sheet-open : (a : Arriving) → a .verdict ≡ verdict.Accepted → complete (a .reading) ≡ false → stage.Sheet ≡ sheetStage a
-unfolding sheetStage
-sheet-open a e d = rw (e, d)
+  module _ (e : a .verdict ≡ verdict.Accepted) where
+    pub sheet-open : complete (a .reading) ≡ false → stage.Sheet ≡ sheetStage a numbers
+    unfolding sheetStage
+    sheet-open d = rw (e, d)
 
-pub chain-refused : (a : Arriving) (x : Refusal) → a .verdict ≡ verdict.Accepted → complete (a .reading) ≡ true → judgeChain (a .reading .chain) [] ≡ verdict.Refused x
-    → stage.Refusing x ≡ sheetStage a
-unfolding sheetStage
-chain-refused a x e d j = rw (e, d, j)
+    pub chain-refused : complete (a .reading) ≡ true → (x : Refusal) → judgeChain (a .reading .chain) numbers ≡ verdict.Refused x → stage.Refusing x ≡ sheetStage a numbers
+    unfolding sheetStage
+    chain-refused d x j = rw (e, d, j)
 
-pub chain-accepted : (a : Arriving) → a .verdict ≡ verdict.Accepted → complete (a .reading) ≡ true → judgeChain (a .reading .chain) [] ≡ verdict.Accepted → stage.Cells ≡ sheetStage a
-unfolding sheetStage
-chain-accepted a e d j = rw (e, d, j)
+    pub chain-accepted : complete (a .reading) ≡ true → judgeChain (a .reading .chain) numbers ≡ verdict.Accepted → stage.Cells ≡ sheetStage a numbers
+    unfolding sheetStage
+    chain-accepted d j = rw (e, d, j)
 
 -- After `05` lines.
 pub some-cells : (count : ℕ) (v : Verdict) → 0 < count → stage.Clocks ≡ cellsStage count v

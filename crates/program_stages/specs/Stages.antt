@@ -1,7 +1,7 @@
 -- What the program `run` does next.
 use Prim.Native.Nat.{ℕ, zero, suc}
 use mathlib.Core.Bool.{Bool, true, false, cond}
-use mathlib.Core.List.{[]}
+use mathlib.Core.List.{List}
 use lib.Dec.{ltb}
 use lib.IntN.{ℤ, pos, negsuc}
 use lib.ListN.{replicate}
@@ -33,10 +33,10 @@ abbrev pub staged : Job → Stage → Job
 staged j s =
     record { stage = s; arriving = j .arriving; state = j .state; clocks = j .clocks; line = j .line; from = j .from; count = j .count }
 
--- After a line of the sheet: at its `04` the chain is judged, with no rows beside it.
-unfoldable pub sheetStage : Arriving → Stage
-sheetStage a =
-    let whole = byVerdict (judgeChain (a .reading .chain) []) stage.Cells stage.Refusing in
+-- After a line of the sheet: at its `04` the chain is judged, with the rows' numbers beside it.
+unfoldable pub sheetStage : Arriving → (numbers : List ℕ) → Stage
+sheetStage a numbers =
+    let whole = byVerdict (judgeChain (a .reading .chain) numbers) stage.Cells stage.Refusing in
     byVerdict (a .verdict) (cond (complete (a .reading)) whole stage.Sheet) stage.Refusing
 
 -- After `05` lines: a line that is turned back answers only where no cell is left.

@@ -80,9 +80,9 @@ pub fn staged(j: Job, stage: Stage) -> Job
     }
 }
 
-// Where the sheet has been read to: turned back, still open, or at its `04`, where the chain is judged, with no rows beside it.
-pub fn sheet_stage(a: Arriving) -> Stage
-    ensures { λ r. ⌜ r ≡ sheetStage a ⌝ }
+// Where the sheet has been read to: turned back, still open, or at its `04`, where the chain is judged, with the rows beside it.
+pub fn sheet_stage(a: Arriving, rows: &[u32]) -> Stage
+    ensures { λ r. ⌜ r ≡ sheetStage a (now (rows .entry)) ⌝ }
 {
     let v = a.verdict;
     match v {
@@ -93,7 +93,7 @@ pub fn sheet_stage(a: Arriving) -> Stage
                 return Stage::Sheet;
             }
             let chain = r.chain;
-            let judged = judging::judge_chain(chain, &[]);
+            let judged = judging::judge_chain(chain, rows);
             match judged {
                 Verdict::Refused(n) => Stage::Refusing(n),
                 Verdict::Accepted => Stage::Cells,

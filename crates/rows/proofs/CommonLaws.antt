@@ -15,7 +15,7 @@ use Rattle.model.specs.Grounds.{Row, row, noRow, end, rowCells, cellCount}
 use Rattle.model.specs.Grounds.Ground.{rows}
 use Rattle.model.specs.Courses.{smallest, rowsDown, columnsOn, rowRead, commonStart, commonEnd, commonRow, count, allIterations}
 use Rattle.model.specs.Values.{rowsOf}
-use Rattle.model.specs.Judging.{badRow, badRows}
+use Rattle.model.specs.Judging.{badRow, badRowCount, badRows}
 use Rattle.model.proofs.Tests.{neither}
 use Rattle.model.proofs.ListLaws.{getD-tabulate, tabulate-back, greatest-above}
 use Rattle.model.proofs.RowIterations.{smallest-below}
@@ -39,10 +39,10 @@ pub record Small (r : Row) : Type 0 where
   pub few : r .length ≤ 1024
 
 pub few-rows : (rs : List Row) → badRows rs ≡ false → length rs ≤ 512
-unfolding badRows
+unfolding badRows badRowCount
 few-rows rs e =
-    let (_, rest) = neither (eqb (length rs) 0) _ e in
-    let (many, _) = neither (ltb 512 (length rs)) (any badRow rs) rest in
+    let (counted, _) = neither (badRowCount (length rs)) (any badRow rs) e in
+    let (_, many) = neither (eqb (length rs) 0) (ltb 512 (length rs)) counted in
     ltb-false 512 (length rs) many
 
 pub small-rows : (rs : List Row) → badRows rs ≡ false → (i : ℕ) → Small (row rs i)
@@ -57,8 +57,7 @@ small-rows rs e i = go (decLt i (length rs))
 
     go : Dec (i < length rs) → Small (row rs i)
     go (yes h) =
-        let (_, rest) = neither (eqb (length rs) 0) _ e in
-        let (_, each) = neither (ltb 512 (length rs)) (any badRow rs) rest in
+        let (_, each) = neither (badRowCount (length rs)) (any badRow rs) e in
         small (any-none badRow rs noRow each i h)
     go (no h) = let p : row rs i ≡ noRow = List·getD-eq-default rs noRow (omega arith) in rw p (record { from = omega arith; few = omega arith })
 

@@ -10,7 +10,7 @@ use borrow.Author.Tests.{eq-eqb, ne-eqb, lt-ltb, le-ltb}
 use Rattle.model.specs.Lists.{any}
 use Rattle.model.specs.Grounds.{Row, row, noRow, end}
 use Rattle.model.specs.Values.{rowsOf}
-use Rattle.model.specs.Judging.{badRow, badRows}
+use Rattle.model.specs.Judging.{badRow, badRowCount, badRows}
 use Rattle.model.proofs.ListLaws.{length-tabulate, getD-tabulate}
 use Rattle.geometry.specs.Parts.{part, numberAt}
 use Rattle.geometry.proofs.PartLaws.{part-all}
@@ -43,15 +43,15 @@ module _ (count : ℕ) (numbers : List ℕ) where
 
   -- 16.
   pub no-row : count ≡ 0 → true ≡ badRows (rowsOf count numbers)
-  unfolding badRows
+  unfolding badRows badRowCount
   no-row e = rw (eq-eqb (length (rowsOf count numbers)) 0 (rows-count ∙ e))
 
   pub many-rows : 512 < count → true ≡ badRows (rowsOf count numbers)
-  unfolding badRows
+  unfolding badRows badRowCount
   many-rows h = rw (rows-count, ne-eqb count 0 (omega arith), lt-ltb 512 count h)
 
   pub by-rows : (count ≡ 0 → ⊥) → count ≤ 512 → any badRow (part (rowOf numbers) 0 count) ≡ badRows (rowsOf count numbers)
-  unfolding badRows rowsOf
+  unfolding badRows badRowCount rowsOf
   by-rows h k = rw (length-tabulate count (rowOf numbers), ne-eqb count 0 h, le-ltb 512 count k, part-all (rowOf numbers) count)
 
 -- 16, of one row.

@@ -12,6 +12,9 @@ ghost use lib.ListN.{length};
 ghost use Rattle.program_lines.specs.Texts.{Within};
 ghost use Rattle.program_laws.specs.Loops.{Supplied, RunDue};
 
+// A start and a length of each of 512 rows.
+const ROW_NUMBERS: usize = 1024;
+
 // The job, and of the block at hand the first `len` bytes, from `at` on.
 struct Ready {
     job: Job,
@@ -49,6 +52,7 @@ fn write_due(job: Job, text: &[u8]) -> bool
 
 fn main() {
     let mut block = [0u8; BLOCK_PLACES];
+    let mut rows = [0u32; ROW_NUMBERS];
     let mut store = [0u32; STORE_PLACES];
     let mut cells = [0u32; CELL_PLACES];
     let mut words = [0u32; WORD_PLACES];
@@ -70,6 +74,7 @@ fn main() {
             ready,
             &block[..len],
             s.at,
+            &mut rows,
             &mut store,
             &mut cells,
             &mut words,

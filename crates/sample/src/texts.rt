@@ -20,15 +20,16 @@ fn plan_text(input: &[u8], piece: usize, text: &mut [u8]) -> usize
     ensures { λ r. ⌜ Within r (now (text .exit)) ⌝ }
 {
     let mut arriving = program_intake::open();
+    let mut rows = [0u32; 1024];
     let mut at: usize = 0;
     let mut turns = input.len();
     while 0 < turns {
         turns -= 1;
         let end = piece_end(at, piece, input.len());
-        arriving = program_intake::take_block(false, arriving, &input[at..end]);
+        arriving = program_intake::take_block(false, arriving, &mut rows, &input[at..end]);
         at = end;
     }
-    program_answer::plan_answer(arriving, text)
+    program_answer::plan_answer(arriving, &rows, text)
 }
 
 // Lays `part` behind the first `done` characters of the text; as much of it as has places.
@@ -63,6 +64,7 @@ fn supply(job: Job, at: usize, len: usize) -> Job {
 fn run_text(input: &[u8], piece: usize, text: &mut [u8]) -> usize
     ensures { λ r. ⌜ Within r (now (text .exit)) ⌝ }
 {
+    let mut rows = [0u32; 1024];
     let mut store = [0u32; 16384];
     let mut cells = [0u32; 5];
     let mut words = [0u32; 40];
@@ -82,6 +84,7 @@ fn run_text(input: &[u8], piece: usize, text: &mut [u8]) -> usize
             ready,
             &input[..end],
             at,
+            &mut rows,
             &mut store,
             &mut cells,
             &mut words,

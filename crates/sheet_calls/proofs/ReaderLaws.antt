@@ -1,8 +1,9 @@
--- What a whole sheet gives, by the verdict at its end, and what a write call does, by the chain's verdict.
+-- The numbers on a sheet's first line; what a whole sheet gives, by the verdict at its end; and what a write call does, by the chain's verdict.
 use Prim.Native.Nat.{ℕ}
 use mathlib.Core.Bool.{true, false}
-use mathlib.Core.List.{List, []}
-use mathlib.Core.Path.{_≡_, sym}
+use mathlib.Core.List.{List, [], _∷_}
+use mathlib.Core.Path.{_≡_, refl, sym, ap}
+use native.Mathlib.Omega.{arith}
 use Rattle.model.specs.declared.Chain.{Chain}
 use Rattle.model.specs.declared.LineStep.{LineStep}
 use Rattle.model.specs.declared.Refusal.{Refusal}
@@ -13,10 +14,17 @@ use Rattle.model.specs.Values.{blankChain, requestOf}
 use Rattle.model.specs.Answers.{byVerdict}
 use Rattle.model.specs.Judging.{judgeChain}
 use Rattle.model.specs.Planning.{judgeRequest}
-use Rattle.model.specs.Lines.{linesOf}
-use Rattle.model.specs.Reading.{start, complete, readLines, endVerdict, readChain, readRequest}
+use Rattle.model.specs.Lines.{lineOf, linesOf}
+use Rattle.model.specs.Frames.{bytesOf}
+use Rattle.model.specs.Reading.{numbersOn, firstNumbers, numbersIn, start, complete, readLines, endVerdict, readChain, readRequest}
 use Rattle.model.specs.Writing.{writeVerdict, writeOf}
+use Rattle.sheet_laws.proofs.LineLaws.{first-line}
 use Rattle.sheet_writer.specs.Laying.{written}
+
+pub first-numbers : (sheet : List ℕ) → numbersOn (bytesOf (lineOf sheet)) ≡ numbersIn sheet
+unfolding numbersIn linesOf lineOf bytesOf
+first-numbers [] = refl
+first-numbers (b ∷ bs) = ap firstNumbers (sym (first-line (b ∷ bs) (omega arith)))
 
 module _ (s : LineStep) (judged : Verdict) where
   pub end-refused : (x : Refusal) → s .verdict ≡ verdict.Refused x → endVerdict s judged ≡ verdict.Refused x
@@ -32,18 +40,18 @@ module _ (s : LineStep) (judged : Verdict) where
     unfolding endVerdict
     end-judged e v q = rw (lines, e) (sym q)
 
-module _ (sheet : List ℕ) (s : LineStep) (v : Verdict) where
-  pub chain-read : s ≡ readLines true start (linesOf sheet) → endVerdict s (judgeChain (s .reading .chain) []) ≡ v
+module _ (sheet numbers : List ℕ) (s : LineStep) (v : Verdict) (rows : numbers ≡ numbersIn sheet) where
+  pub chain-read : s ≡ readLines true numbers start (linesOf sheet) → endVerdict s (judgeChain (s .reading .chain) numbers) ≡ v
       → record { verdict = v; chain = byVerdict v (s .reading .chain) (λ x. blankChain) } ≡ readChain sheet
   unfolding readChain
-  chain-read e q = rw (← e, q)
+  chain-read e q = rw (← rows, ← e, q)
 
-  pub request-read : s ≡ readLines false start (linesOf sheet) → endVerdict s (judgeRequest (requestOf (s .reading .chain)) []) ≡ v
+  pub request-read : s ≡ readLines false numbers start (linesOf sheet) → endVerdict s (judgeRequest (requestOf (s .reading .chain)) numbers) ≡ v
       → record { verdict = v; request = requestOf (byVerdict v (s .reading .chain) (λ x. blankChain)) } ≡ readRequest sheet
   unfolding readRequest
-  request-read e q = rw (← e, q)
+  request-read e q = rw (← rows, ← e, q)
 
-module _ (c : Chain) (out : List ℕ) where
-  pub write-refused : (x : Refusal) → judgeChain c [] ≡ verdict.Refused x → written (record { verdict = verdict.Refused x; bytes = 0 }) out ≡ writeOf c out
+module _ (c : Chain) (numbers out : List ℕ) where
+  pub write-refused : (x : Refusal) → judgeChain c numbers ≡ verdict.Refused x → written (record { verdict = verdict.Refused x; bytes = 0 }) out ≡ writeOf c numbers out
   unfolding writeOf writeVerdict
   write-refused x e = rw e

@@ -1,4 +1,4 @@
-// Sheets read whole and judged, and chains judged and written. A sheet has no line for rows, so none are lent beside what is judged.
+// Sheets read whole and judged, and chains judged and written.
 use model::Chain;
 use model::ReadChain;
 use model::ReadRequest;
@@ -9,9 +9,16 @@ use values::request_of;
 ghost use mathlib.Core.Path.{_≡_};
 ghost use Rattle.model.specs.declared.Verdict.the-variants.{Refused};
 ghost use Rattle.model.specs.Values.{blankChain, requestOf};
-ghost use Rattle.model.specs.Reading.{readChain, readRequest};
+ghost use Rattle.model.specs.Reading.{numbersIn, readChain, readRequest};
 ghost use Rattle.model.specs.Writing.{writeOf};
 ghost use Rattle.sheet_writer.specs.Laying.{written};
+
+// The numbers on a sheet's first line, behind its row count: the rows of its grid, where it is skewed.
+pub fn rows_of(text: &[u8]) -> [u32; 1024]
+    ensures { λ r. ⌜ r ≡ numbersIn (now (text .entry)) ⌝ }
+{
+    sheet_frames::numbers_on(sheet_frames::line(text, 0))
+}
 
 fn refused_chain(n: Refusal) -> ReadChain
     ensures { λ r. ⌜ r ≡ record { verdict = Refused n; chain = blankChain } ⌝ }
@@ -28,7 +35,8 @@ fn refused_chain(n: Refusal) -> ReadChain
 pub fn read_chain(text: &[u8]) -> ReadChain
     ensures { λ r. ⌜ r ≡ readChain (now (text .entry)) ⌝ }
 {
-    let s = sheet_lines::read_lines(true, text);
+    let rows = rows_of(text);
+    let s = sheet_lines::read_lines(true, &rows, text);
     let v = s.verdict;
     match v {
         Verdict::Refused(n) => refused_chain(n),
@@ -38,7 +46,7 @@ pub fn read_chain(text: &[u8]) -> ReadChain
                 return refused_chain(Refusal::Misplaced);
             }
             let chain = r.chain;
-            let judged = judging::judge_chain(chain, &[]);
+            let judged = judging::judge_chain(chain, &rows);
             match judged {
                 Verdict::Refused(n) => refused_chain(n),
                 Verdict::Accepted => ReadChain {
@@ -65,7 +73,8 @@ fn refused_request(n: Refusal) -> ReadRequest
 pub fn read_request(text: &[u8]) -> ReadRequest
     ensures { λ r. ⌜ r ≡ readRequest (now (text .entry)) ⌝ }
 {
-    let s = sheet_lines::read_lines(false, text);
+    let rows = rows_of(text);
+    let s = sheet_lines::read_lines(false, &rows, text);
     let v = s.verdict;
     match v {
         Verdict::Refused(n) => refused_request(n),
@@ -76,7 +85,7 @@ pub fn read_request(text: &[u8]) -> ReadRequest
             }
             let chain = r.chain;
             let request = request_of(chain);
-            let judged = planner::judge_request(request, &[]);
+            let judged = planner::judge_request(request, &rows);
             match judged {
                 Verdict::Refused(n) => refused_request(n),
                 Verdict::Accepted => ReadRequest {
@@ -88,16 +97,16 @@ pub fn read_request(text: &[u8]) -> ReadRequest
     }
 }
 
-// The sheet of a chain into the lent output: 3 to 9, 14 and 15 of the chain, 16 where it is skewed, then 12.
-pub fn write_chain(c: Chain, out: &mut [u8]) -> Wrote
-    ensures { λ r. ⌜ written r (now (out .exit)) ≡ writeOf c (now (out .entry)) ⌝ }
+// The sheet of a chain into the lent output: 3 (16 where it is skewed) to 9, 14 and 15 of the chain, then 12. The rows of a skewed grid are lent beside it.
+pub fn write_chain(c: Chain, rows: &[u32], out: &mut [u8]) -> Wrote
+    ensures { λ r. ⌜ written r (now (out .exit)) ≡ writeOf c (now (rows .entry)) (now (out .entry)) ⌝ }
 {
-    let judged = judging::judge_chain(c, &[]);
+    let judged = judging::judge_chain(c, rows);
     match judged {
         Verdict::Refused(n) => Wrote {
             verdict: Verdict::Refused(n),
             bytes: 0,
         },
-        Verdict::Accepted => sheet_writer::write_sheet(c, out),
+        Verdict::Accepted => sheet_writer::write_sheet(c, rows, out),
     }
 }

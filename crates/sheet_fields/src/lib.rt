@@ -6,7 +6,7 @@ use values::lesser;
 ghost use mathlib.Core.Path.{_≡_};
 ghost use Prim.Native.Nat.{_+_, _*_};
 ghost use lib.Ieee.{ofBits, toBits, binary32};
-ghost use Rattle.model.specs.Numbers.{wordAt, signed, pattern, signedWord, wordPattern};
+ghost use Rattle.model.specs.Numbers.{halfAt, wordAt, signed, pattern, signedWord, wordPattern};
 ghost use Rattle.model.specs.Reading.{sizesIn, entriesIn, lowestIn, highestIn, filtersIn, kernelIn};
 
 // Four bytes, most significant first.
@@ -64,6 +64,13 @@ pub fn sizes_in(x: [u8; KEPT]) -> [u32; 4]
         word(x[10], x[11], x[12], x[13]),
         word(x[14], x[15], x[16], x[17]),
     ]
+}
+
+// The row count on an `09` line.
+pub fn row_count_in(x: [u8; KEPT]) -> u32
+    ensures { λ r. ⌜ r ≡ halfAt x 1 ⌝ }
+{
+    half(x[1], x[2]) as u32
 }
 
 // The entries on an `02` line, 0 past its end.

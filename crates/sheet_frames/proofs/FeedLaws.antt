@@ -4,11 +4,12 @@ use mathlib.Core.Bool.{true, false}
 use mathlib.Core.List.{List}
 use mathlib.Core.Path.{_≡_}
 use native.Mathlib.Numerals.{add-one}
+use native.Mathlib.Omega.{arith}
 use lib.ListN.{length, drop, getD, set, drop-of-length-le}
 use lib.Seq.{drop-cons}
 use borrow.Author.Tests.{lt-ltb, le-ltb}
 use Rattle.model.specs.declared.Frame.{Frame}
-use Rattle.model.specs.Frames.{isDigit, valueOf, kept, pushed, fed, feeds}
+use Rattle.model.specs.Frames.{isDigit, valueOf, kept, counted, pushed, fed, feeds}
 
 module _ (f : Frame) (c : ℕ) where
   pub fed-other : isDigit c ≡ false → record { first = f .first; len = f .len; sound = false; half = f .half; high = f .high } ≡ fed f c
@@ -23,11 +24,16 @@ module _ (f : Frame) (c : ℕ) where
     pub fed-kept : f .half ≡ true → f .len < kept
         → record { first = set (f .first) (f .len) (f .high % 16 * 16 + v); len = f .len + 1; sound = f .sound; half = false; high = 0 } ≡ fed f c
     unfolding fed pushed
-    fed-kept h l = rw (digit, h, lt-ltb _ _ l, value)
+    fed-kept h l = let m : f .len < counted = omega arith in rw (digit, h, lt-ltb _ _ l, lt-ltb _ _ m, value)
 
-    pub fed-past : f .half ≡ true → kept ≤ f .len → record { first = f .first; len = f .len; sound = f .sound; half = false; high = 0 } ≡ fed f c
+    pub fed-counted : f .half ≡ true → kept ≤ f .len → f .len < counted
+        → record { first = f .first; len = f .len + 1; sound = f .sound; half = false; high = 0 } ≡ fed f c
     unfolding fed pushed
-    fed-past h l = rw (digit, h, le-ltb _ _ l)
+    fed-counted h l m = rw (digit, h, le-ltb _ _ l, lt-ltb _ _ m)
+
+    pub fed-past : f .half ≡ true → counted ≤ f .len → record { first = f .first; len = f .len; sound = f .sound; half = false; high = 0 } ≡ fed f c
+    unfolding fed pushed
+    fed-past h m = let l : kept ≤ f .len = omega arith in rw (digit, h, le-ltb _ _ l, le-ltb _ _ m)
 
 -- The rest of a line: a character more, and none.
 pub feeds-on : (f g : Frame) (s : List ℕ) (i : ℕ) → i < length s → g ≡ fed f (getD s i 0) → feeds g (drop (i + 1) s) ≡ feeds f (drop i s)

@@ -2,13 +2,22 @@
 use model::Frame;
 use model::KEPT;
 ghost use mathlib.Core.Path.{_≡_};
-ghost use mathlib.Core.Bool.{true};
-ghost use Prim.Native.Nat.{_+_, _≤_, _<_};
+ghost use mathlib.Core.Bool.{true, cond};
+ghost use Prim.Native.Nat.{_+_, _-_, _*_, _/_, _≤_, _<_};
+ghost use lib.Dec.{leb};
 ghost use lib.ListN.{length, drop};
 ghost use Rattle.model.specs.Lines.{lineOf};
-ghost use Rattle.model.specs.Frames.{isDigit, valueOf, emptyFrame, fed, feeds};
+ghost use Rattle.model.specs.Frames.{isDigit, valueOf, bytesOf, emptyFrame, fed, feeds, withHalf, numbersFeeds};
+ghost use Rattle.model.specs.Numbers.{byteAt};
+ghost use Rattle.model.specs.Reading.{numbersOn};
 
 const LINE_FEED: u8 = b'\n';
+
+// How many bytes of a line are counted.
+const COUNTED: usize = 2052;
+
+// How many numbers of 2 bytes each are kept of a line, behind its row count.
+const NUMBERS: usize = 1024;
 
 // Where the line that starts at `at` ends: at its LF, or at the sheet's end.
 fn line_end(sheet: &[u8], at: usize) -> usize
@@ -107,6 +116,15 @@ pub fn feed(f: Frame, c: u8) -> Frame
             high: 0,
         };
     }
+    if len < COUNTED {
+        return Frame {
+            first,
+            len: len + 1,
+            sound: f.sound,
+            half: false,
+            high: 0,
+        };
+    }
     Frame {
         first,
         len,
@@ -143,6 +161,8 @@ pub fn more(f: Frame, piece: &[u8]) -> Frame
         if len < KEPT {
             first[len] = high % 16 * 16 + v;
             len += 1;
+        } else if len < COUNTED {
+            len += 1;
         }
         high = 0;
     }
@@ -160,4 +180,102 @@ pub fn frame(line: &[u8]) -> Frame
     ensures { λ r. ⌜ r ≡ feeds emptyFrame (now (line .entry)) ⌝ }
 {
     more(empty_frame(), line)
+}
+
+// A number with another lower half.
+fn with_lower(x: u32, b: u8) -> u32
+    ensures { λ r. ⌜ r ≡ x / 256 * 256 + b ⌝ }
+{
+    x / 256 * 256 + (b as u32)
+}
+
+// One byte more of a line with `len` of them: behind its row count it is the upper or the lower half of a number.
+fn put_byte(numbers: &mut [u32], len: usize, b: u8)
+    ensures { λ _. ⌜ now (numbers .exit) ≡ cond (leb 3 len) (withHalf (now (numbers .entry)) (len - 3) b) (now (numbers .entry)) ⌝ }
+{
+    if len < 3 {
+        return;
+    }
+    let i = len - 3;
+    let at = i / 2;
+    if numbers.len() <= at {
+        return;
+    }
+    if i % 2 == 0 {
+        numbers[at] = (b as u32) * 256;
+        return;
+    }
+    numbers[at] = with_lower(numbers[at], b);
+}
+
+// The numbers on a line that stands as f, with more of its characters.
+pub fn more_numbers(f: Frame, piece: &[u8], numbers: &mut [u32])
+    ensures { λ _. ⌜ now (numbers .exit) ≡ numbersFeeds (now (numbers .entry)) f (now (piece .entry)) ⌝ }
+{
+    let mut len = f.len;
+    let mut second = f.half;
+    let mut upper = f.high;
+    let mut i: usize = 0;
+    while i < piece.len() {
+        let c = piece[i];
+        i += 1;
+        if !is_digit(c) {
+            continue;
+        }
+        let v = value_of(c);
+        if !second {
+            second = true;
+            upper = v;
+            continue;
+        }
+        second = false;
+        put_byte(numbers, len, upper % 16 * 16 + v);
+        if len < COUNTED {
+            len += 1;
+        }
+        upper = 0;
+    }
+}
+
+// What a character of any kind counts.
+fn counts(c: u8) -> u32
+    ensures { λ r. ⌜ (r ≡ valueOf c) × (r ≤ 200) ⌝ }
+{
+    if c < b'0' {
+        return 0;
+    }
+    if c <= b'9' {
+        return (c - b'0') as u32;
+    }
+    (c - 55) as u32
+}
+
+// Byte i of a line, 0 past its end.
+fn byte(line: &[u8], i: usize) -> u32
+    requires { ⌜ i < 4096 ⌝ }
+    ensures { λ r. ⌜ (r ≡ byteAt (bytesOf (now (line .entry))) i) × (r < 4096) ⌝ }
+{
+    let at = 2 * i;
+    if line.len() <= at + 1 {
+        return 0;
+    }
+    counts(line[at]) * 16 + counts(line[at + 1])
+}
+
+// The numbers on a whole line.
+pub fn numbers_on(line: &[u8]) -> [u32; NUMBERS]
+    ensures { λ r. ⌜ r ≡ numbersOn (bytesOf (now (line .entry))) ⌝ }
+{
+    let mut numbers = [0u32; NUMBERS];
+    let mut k: usize = 0;
+    while k < NUMBERS {
+        let i = 3 + 2 * k;
+        if line.len() <= 2 * i + 1 {
+            return numbers;
+        }
+        let high = byte(line, i);
+        numbers[k] = high * 256 + byte(line, i + 1);
+        k += 1;
+    }
+    numbers
 }

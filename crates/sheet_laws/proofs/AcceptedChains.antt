@@ -1,11 +1,11 @@
--- What is known of a chain that no number turns back where no rows are lent beside it.
-use Prim.Native.Nat.{ℕ, zero, suc, _≤_, _<_}
+-- What is known of a chain that no number turns back.
+use Prim.Native.Nat.{ℕ, zero, suc, _+_, _*_, _/_, _%_, _≤_, _<_}
 use mathlib.Core.Bool.{Bool, true, false, _||_}
-use mathlib.Core.List.{[]}
-use mathlib.Core.Path.{_≡_, refl, sym, _∙_, ap}
+use mathlib.Core.List.{List}
+use mathlib.Core.Path.{_≡_, sym, _∙_, ap}
 use native.Mathlib.Omega.{arith}
 use lib.Dec.{eqb, ltb}
-use lib.ListN.{length}
+use lib.ListN.{getD}
 use borrow.Author.Tests.{eqb-false, ltb-false}
 use Rattle.model.specs.declared.Chain.{Chain}
 use Rattle.model.specs.declared.Grid.{Grid}
@@ -13,54 +13,97 @@ use Rattle.model.specs.declared.Verdict.the-variants as verdict
 use Rattle.model.specs.Lists.{tabulate, any}
 use Rattle.model.specs.Grounds.Ground.{rectangle}
 use Rattle.model.specs.Values.{sizesOf, rowsOf, groundOf, dimsOf, orderOf, trimmed}
-use Rattle.model.specs.Judging.{badDims, badSizes, badGrid, badRow, badRows, badGround, badCount, badFactor, badOrder, judged, judgeChain}
-use Rattle.model.proofs.ChainLaws.{dims-flat, ground-flat, ground-skewed}
+use Rattle.model.specs.Judging.{badDims, badSizes, badGrid, badRow, badRowCount, badRows, badGround, badCount, badFactor, badOrder, judged, judgeChain}
+use Rattle.model.proofs.ChainLaws.{rows-count, ground-flat, dims-skewed, ground-skewed}
 use Rattle.model.proofs.CheckLaws.{value-passes}
-use Rattle.sheet_laws.proofs.Cases.{or-false}
-use Rattle.sheet_laws.proofs.AcceptedLines.{dims-in-order}
+use Rattle.sheet_laws.proofs.Cases.{by-bool, or-false}
+use Rattle.sheet_laws.proofs.AcceptedLines.{dims-in-order, rows-in-order}
 
--- Where no rows are lent, 16 turns a skewed grid back: it has no rows, or its first row has no cells.
-none-lent : (n : ℕ) → badRows (rowsOf n []) ≡ true
-unfolding badRows badRow rowsOf tabulate any
-none-lent zero = refl
-none-lent (suc n) = last (eqb (length (rowsOf (suc n) [])) 0) (ltb 512 (length (rowsOf (suc n) [])))
-  where
-    last : (a b : Bool) → (a || (b || true)) ≡ true
-    last true b = refl
-    last false true = refl
-    last false false = refl
+-- What no entry passes, each entry fails.
+pub none-of : {A : Type 0} (p : A → Bool) (n : ℕ) (f : ℕ → A) → any p (tabulate n f) ≡ false → (i : ℕ) → i < n → p (f i) ≡ false
+unfolding any tabulate
+none-of p zero f h i l = absurd (omega arith)
+none-of p (suc n) f h zero l = or-false (p (f 0)) (any p (tabulate n (λ i. f (suc i)))) h .0
+none-of p (suc n) f h (suc i) l = none-of p n (λ i. f (suc i)) (or-false (p (f 0)) (any p (tabulate n (λ i. f (suc i)))) h .1) i (omega arith)
 
-pub flat-grid : (g : Grid) (dims : ℕ) → badGround dims (groundOf g []) ≡ false → g .skewed ≡ false
-flat-grid g dims e = go (g .skewed) refl
-  where
-    go : (skewed : Bool) → g .skewed ≡ skewed → skewed ≡ false
-    go true h = sym (none-lent (g .rows)) ∙ sym (ap (badGround dims) (ground-skewed g h [])) ∙ e
-    go false h = refl
+-- Rows that 16 lets pass: there are 1 to 512 of them, and each has a start up to 4,095 and 1 to 1,024 cells.
+pub row-in-order : (start length : ℕ) → badRow (record { start = start; length = length }) ≡ false → (start ≤ 4095) × (0 < length) × (length ≤ 1024)
+unfolding badRow
+row-in-order start length h =
+    let s = or-false (ltb 4095 start) (eqb length 0 || ltb 1024 length) h in
+    let l = or-false (eqb length 0) (ltb 1024 length) (s .1) in
+    (ltb-false 4095 start (s .0), omega (arith, eqb-false length 0 (l .0)), ltb-false 1024 length (l .1))
 
-pub record Accepted (c : Chain) : Type 0 where
-  pub flat : c .grid .skewed ≡ false
-  pub some-dims : 0 < c .grid .dims
-  pub few-dims : c .grid .dims ≤ 4
-  pub sizes : badSizes (sizesOf (c .grid)) ≡ false
+module _ (n : ℕ) (numbers : List ℕ) where
+  module _ (none : any badRow (rowsOf n numbers) ≡ false) (i : ℕ) (h : i < n) where
+    fits : (getD numbers (2 * i) 0 ≤ 4095) × (0 < getD numbers (2 * i + 1) 0) × (getD numbers (2 * i + 1) 0 ≤ 1024)
+    unfolding rowsOf
+    fits = row-in-order _ _ (none-of badRow n (λ (i : ℕ). record { start = getD numbers (2 * i) 0; length = getD numbers (2 * i + 1) 0 }) none i h)
+
+    pub start-fits : getD numbers (2 * i) 0 ≤ 4095
+    start-fits = fits .0
+
+    pub some-cells : 0 < getD numbers (2 * i + 1) 0
+    some-cells = fits .1
+
+    pub length-fits : getD numbers (2 * i + 1) 0 ≤ 1024
+    length-fits = fits .2
+
+  -- Any number of a row.
+  pub number-fits : any badRow (rowsOf n numbers) ≡ false → (i : ℕ) → i < 2 * n → getD numbers i 0 ≤ 4095
+  number-fits none i h = go (i % 2) (i / 2) (omega arith) (omega arith)
+    where
+      go : (r q : ℕ) → i ≡ 2 * q + r → r < 2 → getD numbers i 0 ≤ 4095
+      go zero q e l = let f : i ≡ 2 * q = omega arith in rw f (start-fits none q (omega arith))
+      go (suc zero) q e l = rw e (omega (arith, length-fits none q (omega arith)))
+      go (suc (suc r)) q e l = absurd (omega arith)
+
+  -- The rows of a grid.
+  module _ (fine : badRows (rowsOf n numbers) ≡ false) where
+    both : (badRowCount n ≡ false) × (any badRow (rowsOf n numbers) ≡ false)
+    unfolding badRows
+    both = or-false (badRowCount n) (any badRow (rowsOf n numbers)) (ap (λ (k : ℕ). badRowCount k || any badRow (rowsOf n numbers)) (sym (rows-count n numbers)) ∙ fine)
+
+    pub some-rows : 0 < n
+    some-rows = rows-in-order n (both .0) .0
+
+    pub few-rows : n ≤ 512
+    few-rows = rows-in-order n (both .0) .1
+
+    pub no-bad-row : any badRow (rowsOf n numbers) ≡ false
+    no-bad-row = both .1
+
+-- A grid that 3 and 16 let pass: of a rectangle the sizes, and of any the dimension count.
+module _ (g : Grid) (numbers : List ℕ) (fine : badGround (dimsOf g) (groundOf g numbers) ≡ false) where
+  flat-in-order : g .skewed ≡ false → (badDims (dimsOf g) ≡ false) × (badSizes (sizesOf g) ≡ false)
+  unfolding badGrid
+  flat-in-order e =
+      let grid : badGround (dimsOf g) (rectangle (sizesOf g)) ≡ false = rw (ground-flat g e numbers) at fine in
+      or-false (badDims (dimsOf g)) (badSizes (sizesOf g)) grid
+
+  grid-dims : (0 < dimsOf g) × (dimsOf g ≤ 4)
+  grid-dims = by-bool (g .skewed) (λ e. rw (dims-skewed g e) (omega arith, omega arith)) (λ e. dims-in-order (dimsOf g) (flat-in-order e .0))
+
+pub record Accepted (c : Chain) (numbers : List ℕ) : Type 0 where
+  pub some-dims : 0 < dimsOf (c .grid)
+  pub few-dims : dimsOf (c .grid) ≤ 4
+  pub sizes : c .grid .skewed ≡ false → badSizes (sizesOf (c .grid)) ≡ false
+  pub rows : c .grid .skewed ≡ true → badRows (rowsOf (c .grid .rows) numbers) ≡ false
   pub some : 0 < c .window .count
   pub few : c .window .count ≤ 32
   pub factors : badFactor (c .kernel) ≡ false
   pub once : badOrder (c .window .count) (orderOf (c .window .count) (c .order)) ≡ false
 
-pub accepted-chain : (c : Chain) → judgeChain c [] ≡ verdict.Accepted → Accepted c
-unfolding judgeChain judged trimmed badGrid badCount
-accepted-chain c h =
-    let p = value-passes (trimmed c []) h in
-    let flat = flat-grid (c .grid) (dimsOf (c .grid)) (p .window .grid) in
-    let grid : badGround (c .grid .dims) (rectangle (sizesOf (c .grid))) ≡ false = rw (dims-flat (c .grid) flat, ground-flat (c .grid) flat []) at (p .window .grid) in
-    let g = or-false (badDims (c .grid .dims)) (badSizes (sizesOf (c .grid))) grid in
+pub accepted-chain : (c : Chain) (numbers : List ℕ) → judgeChain c numbers ≡ verdict.Accepted → Accepted c numbers
+unfolding judgeChain judged trimmed badCount
+accepted-chain c numbers h =
+    let p = value-passes (trimmed c numbers) h in
     let n = or-false (eqb (c .window .count) 0) (ltb 32 (c .window .count)) (p .window .count) in
-    let dims = dims-in-order (c .grid .dims) (g .0) in
     record {
-      flat = flat;
-      some-dims = dims .0;
-      few-dims = dims .1;
-      sizes = g .1;
+      some-dims = grid-dims (c .grid) numbers (p .window .grid) .0;
+      few-dims = grid-dims (c .grid) numbers (p .window .grid) .1;
+      sizes = λ e. flat-in-order (c .grid) numbers (p .window .grid) e .1;
+      rows = λ e. rw (ground-skewed (c .grid) e numbers) at (p .window .grid);
       some = omega (arith, eqb-false (c .window .count) 0 (n .0));
       few = ltb-false 32 (c .window .count) (n .1);
       factors = p .kernel .factors;

@@ -14,14 +14,15 @@ use Rattle.model.specs.declared.Reading.{Reading}
 use Rattle.model.specs.declared.Refusal.{Refusal}
 use Rattle.model.specs.declared.Verdict.the-variants as verdict
 use Rattle.model.specs.Lists.{any}
+use Rattle.model.specs.Values.{rowsOf, dimsOf}
 use Rattle.model.specs.Answers.{Check, check, firstOf, byVerdict}
-use Rattle.model.specs.Judging.{badDims, badSizes}
+use Rattle.model.specs.Judging.{badDims, badSizes, badRow, badRowCount}
 use Rattle.model.specs.Frames.{Seen}
 use Rattle.model.specs.Numbers.{byteAt}
 use Rattle.model.specs.NamedWindows.{badName}
-use Rattle.model.specs.Reading.{kindOf, secondOf, badKernel, badForm, malformed, badLength, sizesIn, lineChecks, lineVerdict}
+use Rattle.model.specs.Reading.{kindOf, secondOf, rowCountOf, badKernel, badForm, malformed, badLength, sizesIn, lineChecks, lineVerdict}
 use Rattle.model.specs.Reading.{nextInRequest, nextInChain, miscounted, among, misplaced, closes, complete}
-use Rattle.model.specs.Reading.{taken, withGrid, withOffset, withName, withBox, withCapacity, withOrder, withKernel}
+use Rattle.model.specs.Reading.{taken, withGrid, withRows, withOffset, withName, withBox, withCapacity, withOrder, withKernel}
 use Rattle.sheet_laws.proofs.Cases.{by-eq, never, of-kind, both, neither, or-false}
 
 -- A refusal is no acceptance.
@@ -47,17 +48,19 @@ pub data BehindWindow (chainSheet : Bool) (last : Last) : Type 0 where
   named : chainSheet ≡ false → last ≡ stood.Name → BehindWindow chainSheet last
 
 -- A line that is not turned back: one case for each kind, with what was checked of it.
-pub data Admitted (chainSheet : Bool) (r : Reading) (l : Seen) : Type 0 where
+pub data Admitted (chainSheet : Bool) (numbers : List ℕ) (r : Reading) (l : Seen) : Type 0 where
   grid : kindOf l ≡ 1 → r .last ≡ stood.Nothing → 0 < secondOf l → secondOf l ≤ 4 → l .len ≡ 2 + 4 * secondOf l
-      → badSizes (take (secondOf l) (sizesIn (l .first))) ≡ false → Admitted chainSheet r l
-  offset : kindOf l ≡ 2 → (r .last ≡ stood.Grid) ⊎ (r .last ≡ stood.Offset) → l .len ≡ 1 + 2 * r .chain .grid .dims → r .chain .window .count < 32 → Admitted chainSheet r l
-  box : kindOf l ≡ 8 → (r .last ≡ stood.Offset) ⊎ ((chainSheet ≡ false) × (r .last ≡ stood.Name)) → l .len ≡ 1 + 8 * r .chain .grid .dims → Admitted chainSheet r l
-  capacity : kindOf l ≡ 3 → BehindOffsets (r .last) → chainSheet ≡ true → r .given + 1 < r .chain .window .count → l .len ≡ 5 → Admitted chainSheet r l
+      → badSizes (take (secondOf l) (sizesIn (l .first))) ≡ false → Admitted chainSheet numbers r l
+  rows : kindOf l ≡ 9 → r .last ≡ stood.Nothing → 0 < rowCountOf l → rowCountOf l ≤ 512 → l .len ≡ 3 + 4 * rowCountOf l
+      → any badRow (rowsOf (rowCountOf l) numbers) ≡ false → Admitted chainSheet numbers r l
+  offset : kindOf l ≡ 2 → (r .last ≡ stood.Grid) ⊎ (r .last ≡ stood.Offset) → l .len ≡ 1 + 2 * dimsOf (r .chain .grid) → r .chain .window .count < 32 → Admitted chainSheet numbers r l
+  box : kindOf l ≡ 8 → (r .last ≡ stood.Offset) ⊎ ((chainSheet ≡ false) × (r .last ≡ stood.Name)) → l .len ≡ 1 + 8 * dimsOf (r .chain .grid) → Admitted chainSheet numbers r l
+  capacity : kindOf l ≡ 3 → BehindOffsets (r .last) → chainSheet ≡ true → r .given + 1 < r .chain .window .count → l .len ≡ 5 → Admitted chainSheet numbers r l
   order : kindOf l ≡ 6 → BehindOffsets (r .last) → chainSheet ≡ true → r .chain .window .count ≡ r .given + 1
-      → l .len ≡ 1 + r .chain .window .count → Admitted chainSheet r l
+      → l .len ≡ 1 + r .chain .window .count → Admitted chainSheet numbers r l
   kernel : kindOf l ≡ 4 → BehindWindow chainSheet (r .last) → (chainSheet ≡ true → r .chain .window .count ≡ r .given + 1)
-      → badKernel (l .len) (secondOf l) ≡ false → Admitted chainSheet r l
-  name : kindOf l ≡ 7 → r .last ≡ stood.Grid → chainSheet ≡ false → l .len ≡ 2 → badName (secondOf l) (r .chain .grid .dims) ≡ false → Admitted chainSheet r l
+      → badKernel (l .len) (secondOf l) ≡ false → Admitted chainSheet numbers r l
+  name : kindOf l ≡ 7 → r .last ≡ stood.Grid → chainSheet ≡ false → l .len ≡ 2 → badName (secondOf l) (dimsOf (r .chain .grid)) ≡ false → Admitted chainSheet numbers r l
 
 -- The tests that came out false, on plain numbers.
 module _ (sound : Bool) (len kind second : ℕ) (h : malformed sound len kind second ≡ false) where
@@ -77,12 +80,12 @@ module _ (sound : Bool) (len kind second : ℕ) (h : malformed sound len kind se
   unfolding badForm
   formed-name e = eqb-true len 2 (not-false _ (rw e at (well-formed .1)))
 
-  formed-cell : (kind ≡ 1 → ⊥) → (kind ≡ 2 → ⊥) → (kind ≡ 3 → ⊥) → (kind ≡ 4 → ⊥) → (kind ≡ 6 → ⊥) → (kind ≡ 7 → ⊥) → (kind ≡ 8 → ⊥) → kind ≡ 5
+  formed-cell : (kind ≡ 1 → ⊥) → (kind ≡ 2 → ⊥) → (kind ≡ 3 → ⊥) → (kind ≡ 4 → ⊥) → (kind ≡ 6 → ⊥) → (kind ≡ 7 → ⊥) → (kind ≡ 8 → ⊥) → (kind ≡ 9 → ⊥) → kind ≡ 5
   unfolding badForm
-  formed-cell a b c d f g i =
+  formed-cell a b c d f g i j =
       by-eq kind 5
       (λ e. e)
-      (λ e. absurd (never (simp (ne-eqb _ _ a, ne-eqb _ _ b, ne-eqb _ _ c, ne-eqb _ _ d, ne-eqb _ _ e, ne-eqb _ _ f, ne-eqb _ _ g, ne-eqb _ _ i) at (well-formed .1))))
+      (λ e. absurd (never (simp (ne-eqb _ _ a, ne-eqb _ _ b, ne-eqb _ _ c, ne-eqb _ _ d, ne-eqb _ _ e, ne-eqb _ _ f, ne-eqb _ _ g, ne-eqb _ _ i, ne-eqb _ _ j) at (well-formed .1))))
 
 -- What stood last, where a line of each kind is in its place.
 module _ (given count : ℕ) where
@@ -103,6 +106,24 @@ module _ (given count : ℕ) where
   placed-grid true stood.Kernel h = absurd (never h)
   placed-grid false stood.Order h = absurd (never h)
   placed-grid false stood.Kernel h = absurd (never h)
+
+  placed-rows : (chainSheet : Bool) (last : Last) → misplaced chainSheet last given count 9 ≡ false → last ≡ stood.Nothing
+  unfolding misplaced among any nextInRequest nextInChain
+  placed-rows chainSheet stood.Nothing h = refl
+  placed-rows true stood.Grid h = absurd (never h)
+  placed-rows false stood.Grid h = absurd (never h)
+  placed-rows true stood.Offset h = absurd (never h)
+  placed-rows false stood.Offset h = absurd (never h)
+  placed-rows true stood.Name h = absurd (never h)
+  placed-rows false stood.Name h = absurd (never h)
+  placed-rows true stood.Box h = absurd (never h)
+  placed-rows false stood.Box h = absurd (never h)
+  placed-rows true stood.Capacity h = absurd (never h)
+  placed-rows false stood.Capacity h = absurd (never h)
+  placed-rows true stood.Order h = absurd (never h)
+  placed-rows true stood.Kernel h = absurd (never h)
+  placed-rows false stood.Order h = absurd (never h)
+  placed-rows false stood.Kernel h = absurd (never h)
 
   placed-offset : (chainSheet : Bool) (last : Last) → misplaced chainSheet last given count 2 ≡ false → (last ≡ stood.Grid) ⊎ (last ≡ stood.Offset)
   unfolding misplaced among any nextInRequest nextInChain
@@ -245,10 +266,20 @@ dims-in-order dims h =
     let n = or-false (eqb dims 0) (ltb 4 dims) h in
     (omega (arith, eqb-false dims 0 (n .0)), ltb-false 4 dims (n .1))
 
-module _ (len kind second dims count : ℕ) (h : badLength len kind second dims count ≡ false) where
+pub rows-in-order : (n : ℕ) → badRowCount n ≡ false → (0 < n) × (n ≤ 512)
+unfolding badRowCount
+rows-in-order n h =
+    let m = or-false (eqb n 0) (ltb 512 n) h in
+    (omega (arith, eqb-false n 0 (m .0)), ltb-false 512 n (m .1))
+
+module _ (len kind second rowCount dims count : ℕ) (h : badLength len kind second rowCount dims count ≡ false) where
   grid-length : kind ≡ 1 → len ≡ 2 + 4 * second
   unfolding badLength
   grid-length e = eqb-true len _ (not-false _ (rw e at h))
+
+  rows-length : kind ≡ 9 → len ≡ 3 + 4 * rowCount
+  unfolding badLength
+  rows-length e = eqb-true len _ (not-false _ (rw e at h))
 
   offset-length : kind ≡ 2 → len ≡ 1 + 2 * dims
   unfolding badLength
@@ -262,47 +293,54 @@ module _ (len kind second dims count : ℕ) (h : badLength len kind second dims 
   unfolding badLength
   box-length e = eqb-true len _ (not-false _ (rw e at h))
 
-pub admitted : (chainSheet : Bool) (r : Reading) (l : Seen) → lineVerdict chainSheet r l ≡ verdict.Accepted → (l .sound ≡ true) × Admitted chainSheet r l
+pub admitted : (chainSheet : Bool) (numbers : List ℕ) (r : Reading) (l : Seen) → lineVerdict chainSheet numbers r l ≡ verdict.Accepted → (l .sound ≡ true) × Admitted chainSheet numbers r l
 unfolding lineVerdict lineChecks
-admitted chainSheet r l h =
+admitted chainSheet numbers r l h =
     let form = clear _ _ _ h in
     let place = clear _ _ _ (form .1) in
     let dims = clear _ _ _ (place .1) in
-    let size = clear _ _ _ (dims .1) in
+    let lines = clear _ _ _ (dims .1) in
+    let size = clear _ _ _ (lines .1) in
     let sizes = clear _ _ _ (size .1) in
-    let many = clear _ _ _ (sizes .1) in
+    let cells = clear _ _ _ (sizes .1) in
+    let many = clear _ _ _ (cells .1) in
     let names = clear _ _ _ (many .1) in
-    go (form .0) (place .0) (dims .0) (size .0) (sizes .0) (many .0) (names .0)
+    go (form .0) (place .0) (dims .0) (lines .0) (size .0) (sizes .0) (cells .0) (many .0) (names .0)
   where
     go : malformed (l .sound) (l .len) (kindOf l) (secondOf l) ≡ false
         → misplaced chainSheet (r .last) (r .given) (r .chain .window .count) (kindOf l) ≡ false
         → (eqb (kindOf l) 1 && badDims (secondOf l)) ≡ false
-        → badLength (l .len) (kindOf l) (secondOf l) (r .chain .grid .dims) (r .chain .window .count) ≡ false
+        → (eqb (kindOf l) 9 && badRowCount (rowCountOf l)) ≡ false
+        → badLength (l .len) (kindOf l) (secondOf l) (rowCountOf l) (dimsOf (r .chain .grid)) (r .chain .window .count) ≡ false
         → (eqb (kindOf l) 1 && badSizes (take (secondOf l) (sizesIn (l .first)))) ≡ false
+        → (eqb (kindOf l) 9 && any badRow (rowsOf (rowCountOf l) numbers)) ≡ false
         → (eqb (kindOf l) 2 && leb 32 (r .chain .window .count)) ≡ false
-        → (eqb (kindOf l) 7 && badName (secondOf l) (r .chain .grid .dims)) ≡ false
-        → (l .sound ≡ true) × Admitted chainSheet r l
-    go form place dims size sizes many names =
+        → (eqb (kindOf l) 7 && badName (secondOf l) (dimsOf (r .chain .grid))) ≡ false
+        → (l .sound ≡ true) × Admitted chainSheet numbers r l
+    go form place dims lines size sizes cells many names =
         let given = r .given in
         let count = r .chain .window .count in (
           well-formed _ _ _ _ form .0,
           by-eq (kindOf l) 1
               (λ e. let d = dims-in-order _ (of-kind _ 1 _ dims e) in
-              grid e (placed-grid given count chainSheet (r .last) (rw e at place)) (d .0) (d .1) (grid-length _ _ _ _ _ size e) (of-kind _ 1 _ sizes e))
+              grid e (placed-grid given count chainSheet (r .last) (rw e at place)) (d .0) (d .1) (grid-length _ _ _ _ _ _ size e) (of-kind _ 1 _ sizes e))
               (λ n1. by-eq (kindOf l) 2
-              (λ e. offset e (placed-offset given count chainSheet (r .last) (rw e at place)) (offset-length _ _ _ _ _ size e) (leb-false _ _ (of-kind _ 2 _ many e)))
+              (λ e. offset e (placed-offset given count chainSheet (r .last) (rw e at place)) (offset-length _ _ _ _ _ _ size e) (leb-false _ _ (of-kind _ 2 _ many e)))
               (λ n2. by-eq (kindOf l) 3
               (λ e. let p = placed-capacity given count chainSheet (r .last) (rw e at place) in
               capacity e (p .0) (p .1) (p .2) (formed-capacity _ _ _ _ form e))
               (λ n3. by-eq (kindOf l) 4
               (λ e. let p = placed-kernel given count chainSheet (r .last) (rw e at place) in kernel e (p .0) (p .1) (formed-kernel _ _ _ _ form e))
               (λ n4. by-eq (kindOf l) 6
-              (λ e. let p = placed-order given count chainSheet (r .last) (rw e at place) in order e (p .0) (p .1) (p .2) (order-length _ _ _ _ _ size e))
+              (λ e. let p = placed-order given count chainSheet (r .last) (rw e at place) in order e (p .0) (p .1) (p .2) (order-length _ _ _ _ _ _ size e))
               (λ n6. by-eq (kindOf l) 7
               (λ e. let p = placed-name given count chainSheet (r .last) (rw e at place) in name e (p .0) (p .1) (formed-name _ _ _ _ form e) (of-kind _ 7 _ names e))
               (λ n7. by-eq (kindOf l) 8
-              (λ e. box e (placed-box given count chainSheet (r .last) (rw e at place)) (box-length _ _ _ _ _ size e))
-              (λ n8. let e = formed-cell _ _ _ _ form n1 n2 n3 n4 n6 n7 n8 in absurd (never-cell given count chainSheet (r .last) (rw e at place))))))))),
+              (λ e. box e (placed-box given count chainSheet (r .last) (rw e at place)) (box-length _ _ _ _ _ _ size e))
+              (λ n8. by-eq (kindOf l) 9
+              (λ e. let d = rows-in-order _ (of-kind _ 9 _ lines e) in
+              rows e (placed-rows given count chainSheet (r .last) (rw e at place)) (d .0) (d .1) (rows-length _ _ _ _ _ _ size e) (of-kind _ 9 _ cells e))
+              (λ n9. let e = formed-cell _ _ _ _ form n1 n2 n3 n4 n6 n7 n8 n9 in absurd (never-cell given count chainSheet (r .last) (rw e at place)))))))))),
         )
 
 -- No line comes behind the `04` line.
@@ -312,25 +350,30 @@ not-closed (offsets e) = ap closes e
 not-closed (bounds e) = ap closes e
 not-closed (capacities e) = ap closes e
 
-pub not-complete : (chainSheet : Bool) (r : Reading) (l : Seen) → Admitted chainSheet r l → complete r ≡ false
+pub not-complete : (chainSheet : Bool) (numbers : List ℕ) (r : Reading) (l : Seen) → Admitted chainSheet numbers r l → complete r ≡ false
 unfolding complete closes
-not-complete chainSheet r l (grid e last some few len sizes) = ap closes last
-not-complete chainSheet r l (offset e (inl last) len count) = ap closes last
-not-complete chainSheet r l (offset e (inr last) len count) = ap closes last
-not-complete chainSheet r l (box e (inl last) len) = ap closes last
-not-complete chainSheet r l (box e (inr (request, last)) len) = ap closes last
-not-complete chainSheet r l (capacity e behind chain given len) = not-closed behind
-not-complete chainSheet r l (order e behind chain given len) = not-closed behind
-not-complete chainSheet r l (kernel e (filters behind) given form) = not-closed behind
-not-complete chainSheet r l (kernel e (terms chain last) given form) = ap closes last
-not-complete chainSheet r l (kernel e (named request last) given form) = ap closes last
-not-complete chainSheet r l (name e last request len ok) = ap closes last
+not-complete chainSheet numbers r l (grid e last some few len sizes) = ap closes last
+not-complete chainSheet numbers r l (rows e last some few len cells) = ap closes last
+not-complete chainSheet numbers r l (offset e (inl last) len count) = ap closes last
+not-complete chainSheet numbers r l (offset e (inr last) len count) = ap closes last
+not-complete chainSheet numbers r l (box e (inl last) len) = ap closes last
+not-complete chainSheet numbers r l (box e (inr (request, last)) len) = ap closes last
+not-complete chainSheet numbers r l (capacity e behind chain given len) = not-closed behind
+not-complete chainSheet numbers r l (order e behind chain given len) = not-closed behind
+not-complete chainSheet numbers r l (kernel e (filters behind) given form) = not-closed behind
+not-complete chainSheet numbers r l (kernel e (terms chain last) given form) = ap closes last
+not-complete chainSheet numbers r l (kernel e (named request last) given form) = ap closes last
+not-complete chainSheet numbers r l (name e last request len ok) = ap closes last
 
 -- What a line of each kind adds.
 module _ (r : Reading) (x : List ℕ) where
   pub taken-grid : byteAt x 0 ≡ 1 → taken r x ≡ withGrid r x
   unfolding taken
   taken-grid e = rw e
+
+  pub taken-rows : byteAt x 0 ≡ 9 → taken r x ≡ withRows r x
+  unfolding taken
+  taken-rows e = rw e
 
   pub taken-offset : byteAt x 0 ≡ 2 → taken r x ≡ withOffset r x
   unfolding taken

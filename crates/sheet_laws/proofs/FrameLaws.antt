@@ -1,4 +1,4 @@
--- Characters that arrive one by one give a line's bytes: the first of them, and their number up to those that are kept.
+-- Characters that arrive one by one give a line's bytes: the first of them, and their number up to those that are counted.
 use Prim.Native.Nat.{ℕ, suc, _+_, _-_, _*_, _≤_, _<_}
 use mathlib.Core.Bool.{Bool, true, false, cond, _&&_}
 use mathlib.Core.List.{List, [], _∷_, _++_, append-assoc, append-nil}
@@ -10,26 +10,26 @@ use lib.ListN.{length, take, set, replicate, length-append}
 use lib.Seq.{take-set-lt, set-at, take-append-add, take-append-le}
 use borrow.Author.Tests.{lt-ltb, le-ltb, le-leb, lt-leb}
 use Rattle.model.specs.declared.Frame.{Frame}
-use Rattle.model.specs.Frames.{isDigit, valueOf, whole, bytesOf, kept, padded, Seen, seenOf, emptyFrame, pushed, fed, feeds, shown}
+use Rattle.model.specs.Frames.{isDigit, valueOf, whole, bytesOf, kept, counted, padded, Seen, seenOf, emptyFrame, pushed, fed, feeds, shown}
 use Rattle.sheet_laws.proofs.Cases.{by-bool, by-lt, never, and-true}
 
--- A number of bytes, counted no further than those that are kept.
+-- A number of bytes, counted no further than a frame does.
 unfoldable pub capped : ℕ → ℕ
-capped n = cond (ltb n kept) n kept
+capped n = cond (ltb n counted) n counted
 
-pub capped-few : (n : ℕ) → n < kept → capped n ≡ n
+pub capped-few : (n : ℕ) → n < counted → capped n ≡ n
 unfolding capped
 capped-few n h = rw (lt-ltb _ _ h)
 
-pub capped-many : (n : ℕ) → kept ≤ n → capped n ≡ kept
+pub capped-many : (n : ℕ) → counted ≤ n → capped n ≡ counted
 unfolding capped
 capped-many n h = rw (le-ltb _ _ h)
 
 -- The frame that has taken these bytes.
-abbrev standing : List ℕ → Frame
+abbrev pub standing : List ℕ → Frame
 standing bs = record { first = padded bs; len = capped (length bs); sound = true; half = false; high = 0 }
 
-none-taken : standing [] ≡ emptyFrame
+pub none-taken : standing [] ≡ emptyFrame
 unfolding padded capped
 none-taken = refl
 
@@ -67,10 +67,14 @@ unfolding pushed
 push bs b half high =
     let more : length (bs ++ (b ∷ [])) ≡ length bs + 1 = length-append bs (b ∷ []) in
     by-lt (length bs) kept
-    (λ s. by-lt (length bs + 1) kept
-    (λ t. rw (capped-few _ s, lt-ltb _ _ s, more, capped-few _ t, pad-push bs b s))
-    (λ t. let e : length bs + 1 ≡ kept = omega arith in rw (capped-few _ s, lt-ltb _ _ s, more, capped-many _ t, pad-push bs b s, e)))
-    (λ s. let t : kept ≤ length bs + 1 = omega arith in rw (capped-many _ s, more, capped-many _ t, pad-full bs b s))
+    (λ s. let f : length bs < counted = omega arith in
+    let t : length bs + 1 < counted = omega arith in
+    rw (capped-few _ f, lt-ltb _ _ s, lt-ltb _ _ f, more, capped-few _ t, pad-push bs b s))
+    (λ s. by-lt (length bs) counted
+    (λ f. by-lt (length bs + 1) counted
+    (λ t. rw (capped-few _ f, le-ltb _ _ s, lt-ltb _ _ f, more, capped-few _ t, pad-full bs b s))
+    (λ t. let e : length bs + 1 ≡ counted = omega arith in rw (capped-few _ f, le-ltb _ _ s, lt-ltb _ _ f, more, capped-many _ t, pad-full bs b s, e)))
+    (λ f. let t : counted ≤ length bs + 1 = omega arith in rw (capped-many _ f, more, capped-many _ t, pad-full bs b s)))
 
 pub value-small : (d : ℕ) → isDigit d ≡ true → valueOf d < 16
 unfolding isDigit valueOf
@@ -82,7 +86,7 @@ value-small d h =
     (λ l. rw (le-leb _ _ l) (omega arith))
 
 -- Two digits are a byte.
-two-digits : (bs : List ℕ) (a b : ℕ) → isDigit a ≡ true → isDigit b ≡ true → fed (fed (standing bs) a) b ≡ standing (bs ++ ((valueOf a * 16 + valueOf b) ∷ []))
+pub two-digits : (bs : List ℕ) (a b : ℕ) → isDigit a ≡ true → isDigit b ≡ true → fed (fed (standing bs) a) b ≡ standing (bs ++ ((valueOf a * 16 + valueOf b) ∷ []))
 unfolding fed
 two-digits bs a b p q = rw (p, q, mod-eq-of-lt (value-small a p)) (push bs _ true (valueOf a))
 
@@ -93,7 +97,7 @@ either false f g p q = q
 
 stays-unsound : (f : Frame) (d : ℕ) → f .sound ≡ false → fed f d .sound ≡ false
 unfolding fed pushed
-stays-unsound f d h = either (isDigit d) _ _ (either (f .half) _ _ (either (ltb (f .len) kept) _ _ h h) h) refl
+stays-unsound f d h = either (isDigit d) _ _ (either (f .half) _ _ h h) refl
 
 unsound : (f : Frame) (ds : List ℕ) → f .sound ≡ false → feeds f ds .sound ≡ false
 unfolding feeds
@@ -149,16 +153,19 @@ broken-frame bs (a ∷ b ∷ ds) h =
     (λ q. unsound-unwhole (feeds g ds) (unsound g ds (other-character f b q))))
     (λ p. unsound-unwhole (feeds g ds) (unsound g ds (stays-unsound f b (other-character (standing bs) a p))))
 
+pub unwhole-frame : (ds : List ℕ) → whole ds ≡ false → shown (feeds emptyFrame ds) .sound ≡ false
+unfolding Unwhole
+unwhole-frame ds h = ap (λ f. shown (feeds f ds) .sound) (sym none-taken) ∙ broken-frame [] ds h
+
 -- What hangs on a line only by its soundness and, where it is sound, by its first bytes and its capped length, does not see whether the line was decoded whole
 -- or as its characters arrived.
 pub seen-alike : {A : Type 0} (v : Seen → A) (ds : List ℕ)
     → ((s t : Seen) → s .sound ≡ false → t .sound ≡ false → v s ≡ v t)
     → ((n : ℕ) (x : List ℕ) → v (record { sound = true; len = capped n; first = x }) ≡ v (record { sound = true; len = n; first = x }))
     → v (shown (feeds emptyFrame ds)) ≡ v (seenOf true ds)
-unfolding Unwhole
 seen-alike v ds unsounds caps =
     by-bool (whole ds)
     (λ h. ap (λ f. v (shown f)) (ap (λ f. feeds f ds) (sym none-taken) ∙ whole-frame [] ds h)
     ∙ caps (length (bytesOf ds)) (padded (bytesOf ds))
     ∙ ap (λ t. v (record { sound = t; len = length (bytesOf ds); first = padded (bytesOf ds) })) (sym h))
-    (λ h. unsounds (shown (feeds emptyFrame ds)) (seenOf true ds) (ap (λ f. shown (feeds f ds) .sound) (sym none-taken) ∙ broken-frame [] ds h) h)
+    (λ h. unsounds (shown (feeds emptyFrame ds)) (seenOf true ds) (unwhole-frame ds h) h)

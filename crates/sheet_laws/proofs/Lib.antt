@@ -4,6 +4,7 @@ pub mod LineLaws
 pub mod AcceptedLines
 pub mod AcceptedChains
 pub mod FixedMemory
+pub mod NumbersLaws
 pub mod ReadingLaws
 pub mod SheetRows
 pub mod SheetLength

@@ -3,10 +3,10 @@ use Prim.Native.Nat.{ℕ, zero, suc, _+_, _*_, _-_, _≤_}
 use mathlib.Core.Bool.{Bool, true, false, cond}
 use mathlib.Core.List.{List, [], _∷_, _++_, map, flatMap}
 use mathlib.Core.Path.{_≡_, refl, sym, _∙_, ap}
-use native.Mathlib.Nat.{zero-add}
+use native.Mathlib.Nat.{zero-add, zero-mul, suc-mul, mul-le-mul-left}
 use native.Mathlib.Omega.{arith}
 use lib.IntN.{ℤ}
-use lib.ListN.{length, length-append}
+use lib.ListN.{length, getD, length-append}
 use Rattle.model.specs.declared.Bounds.{Bounds}
 use Rattle.model.specs.declared.Chain.{Chain}
 use Rattle.model.specs.declared.Grid.{Grid}
@@ -14,15 +14,18 @@ use Rattle.model.specs.declared.Kernel.{Kernel}
 use Rattle.model.specs.declared.Kernel.the-variants as kernel
 use Rattle.model.specs.declared.Order.{Order}
 use Rattle.model.specs.Lists.{tabulate, upTo}
-use Rattle.model.specs.Grounds.{groundSizes}
-use Rattle.model.specs.Grounds.Ground.{rectangle, rows}
-use Rattle.model.specs.Values.{sizesOf, rowsOf, groundOf, dimsOf, entryOf, offsetOf, offsetsOf, capacityOf, capacitiesOf, orderOf}
+use Rattle.model.specs.Grounds.{Ground}
+use Rattle.model.specs.Values.{sizesOf, dimsOf, entryOf, offsetOf, offsetsOf, capacityOf, capacitiesOf, orderOf}
 use Rattle.model.specs.Lines.{lineFeed}
 use Rattle.model.specs.Frames.{digitsOf, framed}
 use Rattle.model.specs.Numbers.{halfBytes, wordBytes, pattern}
-use Rattle.model.specs.Writing.{gridLine, offsetLine, indexPair, boxLines, capacityLine, orderLines, kernelLine, chainLines, sheetOf, longestSheet}
+use Rattle.model.specs.Writing.{groundLine, gridLine, offsetLine, indexPair, boxLines, capacityLine, orderLines, kernelLine, chainLines, sheetOf, longestSheet}
 use Rattle.model.proofs.ListLaws.{length-tabulate}
-use Rattle.model.proofs.ChainLaws.{sizes-count, length-order}
+use Rattle.model.proofs.ChainLaws.{sizes-count, length-order, dims-flat, ground-flat, dims-skewed}
+use Rattle.sheet_laws.specs.Rows.{rowsLine, gridLen}
+use Rattle.sheet_laws.proofs.Cases.{by-bool}
+use Rattle.sheet_laws.proofs.AcceptedChains.{few-rows, Accepted}
+use Rattle.sheet_laws.proofs.SheetRows.{rows-line}
 
 pub digits-length : (bs : List ℕ) → length (digitsOf bs) ≡ 2 * length bs
 unfolding digitsOf
@@ -52,16 +55,18 @@ offset-length : (o : List ℤ) → length (framed (offsetLine o)) ≡ 4 * length
 unfolding offsetLine
 offset-length o = omega (arith, framed-length (offsetLine o), entries-length o)
 
-offsets-length : (n : ℕ) (f : ℕ → List ℤ) → ((k : ℕ) → length (f k) ≤ 4) → length (flatMap framed (map offsetLine (tabulate n f))) ≤ 19 * n
+-- Offsets of d entries.
+offsets-length : (d n : ℕ) (f : ℕ → List ℤ) → ((k : ℕ) → length (f k) ≡ d) → length (flatMap framed (map offsetLine (tabulate n f))) ≡ n * (4 * d + 3)
 unfolding flatMap tabulate
-offsets-length zero f few = omega arith
-offsets-length (suc n) f few =
+offsets-length d zero f sized = sym (zero-mul (4 * d + 3))
+offsets-length d (suc n) f sized =
     omega (
       arith,
       length-append (framed (offsetLine (f 0))) (flatMap framed (map offsetLine (tabulate n (λ i. f (suc i))))),
       offset-length (f 0),
-      few 0,
-      offsets-length n (λ i. f (suc i)) (λ k. few (suc k)),
+      sized 0,
+      suc-mul n (4 * d + 3),
+      offsets-length d n (λ i. f (suc i)) (λ k. sized (suc k)),
     )
 
 capacities-length : (n : ℕ) (f : ℕ → ℕ) → length (flatMap framed (map capacityLine (tabulate n f))) ≡ 11 * n
@@ -80,14 +85,14 @@ unfolding flatMap indexPair wordBytes
 pairs-length b [] = refl
 pairs-length b (d ∷ ds) = omega (arith, pairs-length b ds)
 
-box-length : (d : ℕ) (b : Bounds) → d ≤ 4 → length (flatMap framed (boxLines d b)) ≤ 67
+box-length : (d : ℕ) (b : Bounds) → length (flatMap framed (boxLines d b)) ≤ 16 * d + 3
 unfolding flatMap boxLines upTo
-box-length d b h = go (b .stood)
+box-length d b = go (b .stood)
   where
     pairs : List ℕ
     pairs = flatMap (indexPair b) (upTo d)
 
-    go : (s : Bool) → length (flatMap framed (cond s ((8 ∷ pairs) ∷ []) [])) ≤ 67
+    go : (s : Bool) → length (flatMap framed (cond s ((8 ∷ pairs) ∷ []) [])) ≤ 16 * d + 3
     go true = omega (arith, length-append (framed (8 ∷ pairs)) [], framed-length (8 ∷ pairs), pairs-length b (upTo d), length-tabulate d (λ k. k))
     go false = omega arith
 
@@ -106,19 +111,36 @@ kernel-length kernel.Difference = omega arith
 kernel-length (kernel.Scaled f) = omega arith
 kernel-length (kernel.Blend g) = omega arith
 
--- A rectangle has a size for each dimension, and rows have none.
-ground-length : (g : Grid) → length (groundSizes (groundOf g [])) ≤ dimsOf g
-unfolding groundOf dimsOf
-ground-length g = go (g .skewed)
-  where
-    go : (skewed : Bool) → length (groundSizes (cond skewed (rows (rowsOf (g .rows) [])) (rectangle (sizesOf g)))) ≤ cond skewed 2 (g .dims)
-    go true = omega arith
-    go false = omega (arith, sizes-count g)
+-- The grid's line.
+halves-length : (xs : List ℕ) → length (flatMap halfBytes xs) ≡ 2 * length xs
+unfolding flatMap halfBytes
+halves-length [] = refl
+halves-length (x ∷ xs) = omega (arith, halves-length xs)
 
--- An `01` line of 37 characters, 32 `02` lines of 19, an `08` line of 67, 31 `03` lines of 11, an `06` line of 67 and an `04` line of 21.
-pub sheet-length : (c : Chain) → dimsOf (c .grid) ≤ 4 → c .window .count ≤ 32 → length (sheetOf c) ≤ longestSheet
-unfolding sheetOf chainLines flatMap gridLine offsetsOf offsetOf capacitiesOf
-sheet-length c few count =
+pub rows-length : (n : ℕ) (numbers : List ℕ) → length (rowsLine n numbers) ≡ 3 + 4 * n
+unfolding rowsLine halfBytes
+rows-length n numbers = omega (arith, halves-length (tabulate (2 * n) (λ i. getD numbers i 0)), length-tabulate (2 * n) (λ i. getD numbers i 0))
+
+module _ (g : Grid) (numbers : List ℕ) where
+  skewed-length : g .skewed ≡ true → length (gridLine g numbers) ≡ 3 + 4 * g .rows
+  skewed-length e = ap length (rows-line g numbers e) ∙ rows-length (g .rows) numbers
+
+  flat-length : g .skewed ≡ false → length (gridLine g numbers) ≡ 2 + 4 * g .dims
+  unfolding groundLine
+  flat-length e = ap (λ (t : Ground). length (groundLine (dimsOf g) t)) (ground-flat g e numbers) ∙ omega (arith, words-length (sizesOf g), sizes-count g)
+
+  pub grid-length : length (gridLine g numbers) ≡ gridLen g
+  unfolding gridLen
+  grid-length =
+      by-bool (g .skewed)
+      (λ e. skewed-length e ∙ ap (λ (b : Bool). cond b (3 + 4 * g .rows) (2 + 4 * g .dims)) (sym e))
+      (λ e. flat-length e ∙ ap (λ (b : Bool). cond b (3 + 4 * g .rows) (2 + 4 * g .dims)) (sym e))
+
+-- A sheet by the dimensions of its grid.
+by-dims : (c : Chain) (numbers : List ℕ) (d : ℕ) → dimsOf (c .grid) ≡ d → c .window .count ≤ 32
+    → length (sheetOf c numbers) ≤ 2 * length (gridLine (c .grid) numbers) + 1 + c .window .count * (4 * d + 3) + (16 * d + 3) + 11 * (c .window .count - 1) + 67 + 21
+unfolding sheetOf chainLines flatMap offsetsOf offsetOf capacitiesOf
+by-dims c numbers d e count =
     let dims : ℕ = dimsOf (c .grid) in
     let offsets = map offsetLine (offsetsOf dims (c .window)) in
     let box = boxLines dims (c .bounds) in
@@ -127,17 +149,45 @@ sheet-length c few count =
     let kernel = kernelLine (c .kernel) ∷ [] in
     omega (
       arith,
-      length-append (framed (gridLine (c .grid))) (flatMap framed (offsets ++ (box ++ (capacities ++ (order ++ kernel))))),
-      framed-length (gridLine (c .grid)),
-      words-length (groundSizes (groundOf (c .grid) [])),
-      ground-length (c .grid),
+      length-append (framed (gridLine (c .grid) numbers)) (flatMap framed (offsets ++ (box ++ (capacities ++ (order ++ kernel))))),
+      framed-length (gridLine (c .grid) numbers),
       flat-append framed offsets (box ++ (capacities ++ (order ++ kernel))),
       flat-append framed box (capacities ++ (order ++ kernel)),
       flat-append framed capacities (order ++ kernel),
       flat-append framed order kernel,
-      offsets-length (c .window .count) (offsetOf dims (c .window)) (λ k. omega (arith, length-tabulate dims (λ d. entryOf (c .window) k d))),
-      box-length dims (c .bounds) few,
+      offsets-length d (c .window .count) (offsetOf dims (c .window)) (λ k. length-tabulate dims (λ d. entryOf (c .window) k d) ∙ e),
+      box-length dims (c .bounds),
+      e,
       capacities-length (c .window .count - 1) (λ k. capacityOf c k),
       order-length (c .window .count) (c .order) count,
       kernel-length (c .kernel),
     )
+
+-- An `09` line of 4,103 characters, 32 `02` lines of 11, an `08` line of 35, 31 `03` lines of 11, an `06` line of 67 and an `04` line of 21. On a rectangle the lines `01`, `02` and `08`
+-- have up to 37, 19 and 67 characters.
+pub sheet-length : (c : Chain) (numbers : List ℕ) → Accepted c numbers → length (sheetOf c numbers) ≤ longestSheet
+sheet-length c numbers a = by-bool (c .grid .skewed) skewed flat
+  where
+    skewed : c .grid .skewed ≡ true → length (sheetOf c numbers) ≤ longestSheet
+    skewed e =
+        omega (
+          arith,
+          by-dims c numbers 2 (dims-skewed (c .grid) e) (a .few),
+          skewed-length (c .grid) numbers e,
+          few-rows (c .grid .rows) numbers (a .rows e),
+          a .few,
+        )
+
+    flat : c .grid .skewed ≡ false → length (sheetOf c numbers) ≤ longestSheet
+    flat e =
+        let d : ℕ = dimsOf (c .grid) in
+        let most : 4 * d + 3 ≤ 19 = omega (arith, a .few-dims) in
+        omega (
+          arith,
+          by-dims c numbers d refl (a .few),
+          flat-length (c .grid) numbers e,
+          dims-flat (c .grid) e,
+          a .few-dims,
+          mul-le-mul-left (c .window .count) most,
+          a .few,
+        )

@@ -1,4 +1,4 @@
--- The sheet of a chain on a rectangle is its lines from line 0 on.
+-- The sheet of a chain is its lines from line 0 on.
 use Prim.Native.Nat.{ℕ, zero, suc, _+_, _-_, _*_, _≤_, _<_}
 use mathlib.Core.Bool.{Bool, true, false, cond}
 use mathlib.Core.List.{List, [], _∷_, _++_, map, flatMap, append-assoc}
@@ -14,15 +14,20 @@ use Rattle.model.specs.declared.Grid.{Grid}
 use Rattle.model.specs.declared.Order.{Order}
 use Rattle.model.specs.declared.Window.{Window}
 use Rattle.model.specs.Lists.{tabulate, upTo}
-use Rattle.model.specs.Grounds.{Ground, groundSizes}
-use Rattle.model.specs.Values.{sizesOf, entryOf, offsetOf, offsetsOf, capacityOf, capacitiesOf, orderOf}
+use Rattle.model.specs.Grounds.{Row}
+use Rattle.model.specs.Values.{sizesOf, rowsOf, dimsOf, entryOf, offsetOf, offsetsOf, capacityOf, capacitiesOf, orderOf}
 use Rattle.model.specs.Frames.{framed}
 use Rattle.model.specs.Numbers.{halfBytes, wordBytes, pattern}
-use Rattle.model.specs.Writing.{gridLine, offsetLine, indexPair, boxLines, capacityLine, orderLines, kernelLine, chainLines, sheetOf}
-use Rattle.model.proofs.ChainLaws.{dims-flat, ground-flat}
+use Rattle.model.specs.Writing.{groundLine, gridLine, offsetLine, indexPair, boxLines, capacityLine, orderLines, kernelLine, chainLines, sheetOf}
+use Rattle.model.proofs.ChainLaws.{rows-count, dims-flat, ground-flat, dims-skewed, ground-skewed}
 use Rattle.sheet_laws.specs.declared.Part.{Part}
 use Rattle.sheet_laws.specs.declared.Part.the-variants as part
-use Rattle.sheet_laws.specs.Rows.{gridRow, offsetRow, boxRow, orderRow, rowOf, lenOf, toCapacities, partBehind, partAt, linesBehind, lineAt, linesFrom}
+use Rattle.sheet_laws.specs.Rows.{gridRow, rowsLine, offsetRow, boxRow, orderRow, rowOf, lenOf, toCapacities, partBehind, partAt, linesBehind, lineAt, linesFrom}
+
+pub tabulate-same : {A : Type 0} (n : ℕ) (f g : ℕ → A) → ((i : ℕ) → f i ≡ g i) → tabulate n f ≡ tabulate n g
+unfolding tabulate
+tabulate-same zero f g h = refl
+tabulate-same (suc n) f g h = rw (h 0) (ap (λ t. g 0 ∷ t) (tabulate-same n (λ i. f (suc i)) (λ i. g (suc i)) (λ i. h (suc i))))
 
 -- Up to four words, halves and pairs are the front of four.
 four-words : (d : ℕ) (f : ℕ → ℕ) → d ≤ 4
@@ -55,13 +60,33 @@ four-pairs (suc (suc (suc zero))) b h = refl
 four-pairs (suc (suc (suc (suc zero)))) b h = refl
 four-pairs (suc (suc (suc (suc (suc d))))) b h = absurd (omega arith)
 
--- A line is the front of its row. The grid's is that of a rectangle.
-pub grid-front : (g : Grid) → g .skewed ≡ false → g .dims ≤ 4 → gridLine g ≡ take (2 + 4 * g .dims) (gridRow g)
-unfolding gridLine gridRow sizesOf
-grid-front g flat h =
+-- A line is the front of its row; so is the grid's, where it is a rectangle.
+pub grid-front : (g : Grid) (numbers : List ℕ) → g .skewed ≡ false → g .dims ≤ 4 → gridLine g numbers ≡ take (2 + 4 * g .dims) (gridRow g)
+unfolding groundLine gridRow sizesOf
+grid-front g numbers flat h =
     let e : 2 + 4 * g .dims ≡ suc (suc (4 * g .dims)) = omega arith in
-    ap₂ (λ (d : ℕ) (ground : Ground). 1 ∷ d ∷ flatMap wordBytes (groundSizes ground)) (dims-flat g flat) (ground-flat g flat [])
+    ap₂ groundLine (dims-flat g flat) (ground-flat g flat numbers)
     ∙ rw e (ap (λ t. 1 ∷ g .dims ∷ t) (four-words (g .dims) (λ d. getD (g .sizes) d 0) h))
+
+-- Where it is skewed, its line goes by the numbers of the rows, one behind the other.
+abbrev rowAt : (ℕ → ℕ) → ℕ → Row
+rowAt f i = record { start = f (2 * i); length = f (2 * i + 1) }
+
+numbers-joined : (n : ℕ) (f : ℕ → ℕ) → flatMap (λ (r : Row). halfBytes (r .start) ++ halfBytes (r .length)) (tabulate n (rowAt f)) ≡ flatMap halfBytes (tabulate (2 * n) f)
+unfolding flatMap tabulate halfBytes
+numbers-joined zero f = refl
+numbers-joined (suc n) f =
+    let e : 2 * suc n ≡ suc (suc (2 * n)) = omega arith in
+    let s : (i : ℕ) → rowAt f (suc i) ≡ rowAt (λ i. f (suc (suc i))) i = λ i. ap₂ (λ (a b : ℕ). record { start = f a; length = f b }) (omega arith) (omega arith) in
+    rw e
+    (ap (λ t. halfBytes (f 0) ++ (halfBytes (f 1) ++ t))
+    (ap (flatMap (λ (r : Row). halfBytes (r .start) ++ halfBytes (r .length))) (tabulate-same n _ _ s) ∙ numbers-joined n (λ i. f (suc (suc i)))))
+
+pub rows-line : (g : Grid) (numbers : List ℕ) → g .skewed ≡ true → gridLine g numbers ≡ rowsLine (g .rows) numbers
+unfolding groundLine rowsLine rowsOf
+rows-line g numbers skewed =
+    ap₂ groundLine (dims-skewed g skewed) (ground-skewed g skewed numbers)
+    ∙ ap₂ (λ (k : ℕ) (t : List ℕ). 9 ∷ (halfBytes k ++ t)) (rows-count (g .rows) numbers) (numbers-joined (g .rows) (λ i. getD numbers i 0))
 
 pub offset-front : (d : ℕ) (w : Window) (k : ℕ) → d ≤ 4 → offsetLine (offsetOf d w k) ≡ take (1 + 2 * d) (offsetRow w k)
 unfolding offsetLine offsetRow offsetOf
@@ -128,72 +153,76 @@ part-kernel boxed false n h =
     part-behind boxed false n (n - 1 + 0) ∙ rw (le-ltb _ _ q, lt-ltb _ _ s)
 
 -- Line m by its place.
-module _ (c : Chain) where
-  abbrev ahead : ℕ
-  ahead = toCapacities (c .bounds .stood) (c .window .count)
+abbrev ahead : Chain → ℕ
+ahead c = toCapacities (c .bounds .stood) (c .window .count)
 
-  line-of : (m : ℕ) (p : Part) → partAt (c .bounds .stood) (c .order .stood) (c .window .count) m ≡ p → lineAt c (suc m) ≡ take (lenOf c p) (rowOf c p)
+module _ (c : Chain) (numbers : List ℕ) where
+  line-of : (m : ℕ) (p : Part) → partAt (c .bounds .stood) (c .order .stood) (c .window .count) m ≡ p → lineAt c numbers (suc m) ≡ take (lenOf c p) (rowOf c p)
   unfolding lineAt
   line-of m p e = ap (λ (p : Part). take (lenOf c p) (rowOf c p)) e
 
-  pub line-grid : c .grid .skewed ≡ false → c .grid .dims ≤ 4 → lineAt c 0 ≡ take (2 + 4 * c .grid .dims) (gridRow (c .grid))
+  pub line-grid : c .grid .skewed ≡ false → dimsOf (c .grid) ≤ 4 → lineAt c numbers 0 ≡ take (2 + 4 * c .grid .dims) (gridRow (c .grid))
   unfolding lineAt
-  line-grid flat few = grid-front (c .grid) flat few
+  line-grid flat few = grid-front (c .grid) numbers flat (omega (arith, dims-flat (c .grid) flat))
 
-  pub line-offset : (j : ℕ) → j < c .window .count → lineAt c (1 + j) ≡ take (1 + 2 * c .grid .dims) (offsetRow (c .window) j)
+  pub line-rows : c .grid .skewed ≡ true → lineAt c numbers 0 ≡ rowsLine (c .grid .rows) numbers
+  unfolding lineAt
+  line-rows skewed = rows-line (c .grid) numbers skewed
+
+  pub line-offset : (j : ℕ) → j < c .window .count → lineAt c numbers (1 + j) ≡ take (1 + 2 * dimsOf (c .grid)) (offsetRow (c .window) j)
   unfolding lineAt lenOf rowOf partAt
   line-offset j h =
       let e : 1 + j ≡ suc j = omega arith in
       rw (e, lt-ltb _ _ h)
 
-  pub line-box : c .bounds .stood ≡ true → c .grid .dims ≤ 4 → lineAt c (1 + c .window .count) ≡ 8 ∷ flatMap (indexPair (c .bounds)) (upTo (c .grid .dims))
+  pub line-box : c .bounds .stood ≡ true → dimsOf (c .grid) ≤ 4 → lineAt c numbers (1 + c .window .count) ≡ 8 ∷ flatMap (indexPair (c .bounds)) (upTo (dimsOf (c .grid)))
   unfolding lenOf rowOf
   line-box stood few =
       let n = c .window .count in
       let e : 1 + n ≡ suc n = omega arith in
-      ap (lineAt c) e
+      ap (lineAt c numbers) e
       ∙ line-of n part.Box (ap (λ (b : Bool). partAt b (c .order .stood) n n) stood ∙ part-box (c .order .stood) n)
-      ∙ sym (box-front (c .grid .dims) (c .bounds) few)
+      ∙ sym (box-front (dimsOf (c .grid)) (c .bounds) few)
 
-  pub line-capacity : (j : ℕ) → j + 1 < c .window .count → lineAt c (1 + ahead + j) ≡ capacityLine (capacityOf c j)
+  pub line-capacity : (j : ℕ) → j + 1 < c .window .count → lineAt c numbers (1 + ahead c + j) ≡ capacityLine (capacityOf c j)
   unfolding lenOf rowOf capacityLine wordBytes
   line-capacity j h =
-      let e : 1 + ahead + j ≡ suc (ahead + j) = omega arith in
-      ap (lineAt c) e ∙ line-of (ahead + j) (part.Capacity j) (part-capacity (c .bounds .stood) (c .order .stood) (c .window .count) j h)
+      let e : 1 + ahead c + j ≡ suc (ahead c + j) = omega arith in
+      ap (lineAt c numbers) e ∙ line-of (ahead c + j) (part.Capacity j) (part-capacity (c .bounds .stood) (c .order .stood) (c .window .count) j h)
 
   pub line-order : c .order .stood ≡ true → 0 < c .window .count → c .window .count ≤ 32
-      → lineAt c (ahead + c .window .count) ≡ 6 ∷ orderOf (c .window .count) (c .order)
+      → lineAt c numbers (ahead c + c .window .count) ≡ 6 ∷ orderOf (c .window .count) (c .order)
   unfolding lenOf rowOf
   line-order stood h most =
       let n = c .window .count in
-      let e : ahead + n ≡ suc (ahead + (n - 1)) = omega arith in
-      ap (lineAt c) e
-      ∙ line-of (ahead + (n - 1)) part.Order (ap (λ (b : Bool). partAt (c .bounds .stood) b n (ahead + (n - 1))) stood ∙ part-order (c .bounds .stood) n h)
+      let e : ahead c + n ≡ suc (ahead c + (n - 1)) = omega arith in
+      ap (lineAt c numbers) e
+      ∙ line-of (ahead c + (n - 1)) part.Order (ap (λ (b : Bool). partAt (c .bounds .stood) b n (ahead c + (n - 1))) stood ∙ part-order (c .bounds .stood) n h)
       ∙ sym (order-front n (c .order) stood most)
 
-  pub line-kernel : 0 < c .window .count → lineAt c (linesBehind (c .bounds .stood) (c .order .stood) (c .window .count)) ≡ kernelLine (c .kernel)
+  pub line-kernel : 0 < c .window .count → lineAt c numbers (linesBehind (c .bounds .stood) (c .order .stood) (c .window .count)) ≡ kernelLine (c .kernel)
   unfolding lenOf rowOf linesBehind
   line-kernel h =
       let n = c .window .count in
       let s : ℕ = cond (c .order .stood) 1 0 in
-      let e : ahead + n + s ≡ suc (ahead + (n - 1 + s)) = omega arith in
-      ap (lineAt c) e
-      ∙ line-of (ahead + (n - 1 + s)) part.Kernel (part-kernel (c .bounds .stood) (c .order .stood) n h)
+      let e : ahead c + n + s ≡ suc (ahead c + (n - 1 + s)) = omega arith in
+      ap (lineAt c numbers) e
+      ∙ line-of (ahead c + (n - 1 + s)) part.Kernel (part-kernel (c .bounds .stood) (c .order .stood) n h)
       ∙ take-length (kernelLine (c .kernel))
 
 -- Lines one after the other.
-pub lines-join : (c : Chain) (m a b : ℕ) → linesFrom c m a ++ linesFrom c (m + a) b ≡ linesFrom c m (a + b)
+pub lines-join : (c : Chain) (numbers : List ℕ) (m a b : ℕ) → linesFrom c numbers m a ++ linesFrom c numbers (m + a) b ≡ linesFrom c numbers m (a + b)
 unfolding linesFrom
-lines-join c m zero b =
+lines-join c numbers m zero b =
     let e : m + 0 ≡ m = omega arith in
     let f : 0 + b ≡ b = omega arith in
     rw (e, f)
-lines-join c m (suc a) b =
+lines-join c numbers m (suc a) b =
     let e : m + suc a ≡ m + 1 + a = omega arith in
     let f : suc a + b ≡ suc (a + b) = omega arith in
     rw (e, f)
-    (append-assoc (framed (lineAt c m)) (linesFrom c (m + 1) a) (linesFrom c (m + 1 + a) b)
-    ∙ ap (λ t. framed (lineAt c m) ++ t) (lines-join c (m + 1) a b))
+    (append-assoc (framed (lineAt c numbers m)) (linesFrom c numbers (m + 1) a) (linesFrom c numbers (m + 1 + a) b)
+    ∙ ap (λ t. framed (lineAt c numbers m) ++ t) (lines-join c numbers (m + 1) a b))
 
 frames-join : (xs ys : List (List ℕ)) → flatMap framed (xs ++ ys) ≡ flatMap framed xs ++ flatMap framed ys
 unfolding flatMap
@@ -201,48 +230,43 @@ frames-join [] ys = refl
 frames-join (x ∷ xs) ys = ap (λ t. framed x ++ t) (frames-join xs ys) ∙ sym (append-assoc (framed x) (flatMap framed xs) (flatMap framed ys))
 
 -- A section and those behind it.
-sections-join : (c : Chain) (xs ys : List (List ℕ)) (m a b : ℕ) → flatMap framed xs ≡ linesFrom c m a → flatMap framed ys ≡ linesFrom c (m + a) b
-    → flatMap framed (xs ++ ys) ≡ linesFrom c m (a + b)
-sections-join c xs ys m a b p q = frames-join xs ys ∙ ap₂ _++_ p q ∙ lines-join c m a b
+sections-join : (c : Chain) (numbers : List ℕ) (xs ys : List (List ℕ)) (m a b : ℕ) → flatMap framed xs ≡ linesFrom c numbers m a → flatMap framed ys ≡ linesFrom c numbers (m + a) b
+    → flatMap framed (xs ++ ys) ≡ linesFrom c numbers m (a + b)
+sections-join c numbers xs ys m a b p q = frames-join xs ys ∙ ap₂ _++_ p q ∙ lines-join c numbers m a b
 
-pub tabulate-same : {A : Type 0} (n : ℕ) (f g : ℕ → A) → ((i : ℕ) → f i ≡ g i) → tabulate n f ≡ tabulate n g
-unfolding tabulate
-tabulate-same zero f g h = refl
-tabulate-same (suc n) f g h = rw (h 0) (ap (λ t. g 0 ∷ t) (tabulate-same n (λ i. f (suc i)) (λ i. g (suc i)) (λ i. h (suc i))))
-
-module _ (c : Chain) (few : c .grid .dims ≤ 4) where
+module _ (c : Chain) (numbers : List ℕ) (few : dimsOf (c .grid) ≤ 4) where
   abbrev n : ℕ
   n = c .window .count
 
   abbrev offsetAt : ℕ → List ℤ
-  offsetAt k = offsetOf (c .grid .dims) (c .window) k
+  offsetAt k = offsetOf (dimsOf (c .grid)) (c .window) k
 
-  offset-lines : (i j : ℕ) → j + i ≤ n → flatMap framed (map offsetLine (tabulate i (λ k. offsetAt (j + k)))) ≡ linesFrom c (1 + j) i
+  offset-lines : (i j : ℕ) → j + i ≤ n → flatMap framed (map offsetLine (tabulate i (λ k. offsetAt (j + k)))) ≡ linesFrom c numbers (1 + j) i
   unfolding linesFrom flatMap tabulate
   offset-lines zero j h = refl
   offset-lines (suc i) j h =
       let y : 1 + j + 1 ≡ 1 + suc j = omega arith in
       let z : j + 0 ≡ j = omega arith in
       let t : (k : ℕ) → offsetAt (j + suc k) ≡ offsetAt (suc j + k) = λ k. ap (λ m. offsetAt m) (omega arith) in
-      rw (y, z, line-offset c j (omega arith), ← offset-front (c .grid .dims) (c .window) j few)
+      rw (y, z, line-offset c numbers j (omega arith), ← offset-front (dimsOf (c .grid)) (c .window) j few)
       (ap (λ u. framed (offsetLine (offsetAt j)) ++ flatMap framed (map offsetLine u)) (tabulate-same i _ _ t)
       ∙ ap (λ u. framed (offsetLine (offsetAt j)) ++ u) (offset-lines i (suc j) (omega arith)))
 
-  capacity-lines : (i j : ℕ) → j + i + 1 ≤ n → flatMap framed (map capacityLine (tabulate i (λ k. capacityOf c (j + k)))) ≡ linesFrom c (1 + ahead c + j) i
+  capacity-lines : (i j : ℕ) → j + i + 1 ≤ n → flatMap framed (map capacityLine (tabulate i (λ k. capacityOf c (j + k)))) ≡ linesFrom c numbers (1 + ahead c + j) i
   unfolding linesFrom flatMap tabulate
   capacity-lines zero j h = refl
   capacity-lines (suc i) j h =
       let y : 1 + ahead c + j + 1 ≡ 1 + ahead c + suc j = omega arith in
       let z : j + 0 ≡ j = omega arith in
       let t : (k : ℕ) → capacityOf c (j + suc k) ≡ capacityOf c (suc j + k) = λ k. ap (λ m. capacityOf c m) (omega arith) in
-      rw (y, z, line-capacity c j (omega arith))
+      rw (y, z, line-capacity c numbers j (omega arith))
       (ap (λ u. framed (capacityLine (capacityOf c j)) ++ flatMap framed (map capacityLine u)) (tabulate-same i _ _ t)
       ∙ ap (λ u. framed (capacityLine (capacityOf c j)) ++ u) (capacity-lines i (suc j) (omega arith)))
 
   from-zero : (k : ℕ) → k ≡ 0 + k
   from-zero k = omega arith
 
-  all-offsets : flatMap framed (map offsetLine (offsetsOf (c .grid .dims) (c .window))) ≡ linesFrom c 1 n
+  all-offsets : flatMap framed (map offsetLine (offsetsOf (dimsOf (c .grid)) (c .window))) ≡ linesFrom c numbers 1 n
   unfolding offsetsOf
   all-offsets =
       ap (λ u. flatMap framed (map offsetLine u)) (tabulate-same n _ _ (λ k. ap (λ m. offsetAt m) (from-zero k)))
@@ -251,13 +275,13 @@ module _ (c : Chain) (few : c .grid .dims ≤ 4) where
   abbrev boxes : ℕ
   boxes = cond (c .bounds .stood) 1 0
 
-  box-line : flatMap framed (boxLines (c .grid .dims) (c .bounds)) ≡ linesFrom c (1 + n) boxes
+  box-line : flatMap framed (boxLines (dimsOf (c .grid)) (c .bounds)) ≡ linesFrom c numbers (1 + n) boxes
   unfolding boxLines flatMap linesFrom
   box-line = go (c .bounds .stood) refl
     where
       go : (b : Bool) → c .bounds .stood ≡ b
-          → flatMap framed (cond b ((8 ∷ flatMap (indexPair (c .bounds)) (upTo (c .grid .dims))) ∷ []) []) ≡ linesFrom c (1 + n) (cond b 1 0)
-      go true e = ap (λ l. framed l ++ []) (sym (line-box c e few))
+          → flatMap framed (cond b ((8 ∷ flatMap (indexPair (c .bounds)) (upTo (dimsOf (c .grid)))) ∷ []) []) ≡ linesFrom c numbers (1 + n) (cond b 1 0)
+      go true e = ap (λ l. framed l ++ []) (sym (line-box c numbers e few))
       go false e = refl
 
   module _ (some : 0 < n) (most : n ≤ 32) where
@@ -267,51 +291,41 @@ module _ (c : Chain) (few : c .grid .dims ≤ 4) where
     abbrev orders : ℕ
     orders = cond (c .order .stood) 1 0
 
-    all-capacities : flatMap framed (map capacityLine (capacitiesOf c)) ≡ linesFrom c (1 + n + boxes) (n - 1)
+    all-capacities : flatMap framed (map capacityLine (capacitiesOf c)) ≡ linesFrom c numbers (1 + n + boxes) (n - 1)
     unfolding capacitiesOf
     all-capacities =
         let z : 1 + ahead c + 0 ≡ 1 + n + boxes = omega arith in
         ap (λ u. flatMap framed (map capacityLine u)) (tabulate-same (n - 1) _ _ (λ k. ap (λ m. capacityOf c m) (from-zero k)))
         ∙ capacity-lines (n - 1) 0 (omega arith)
-        ∙ ap (λ m. linesFrom c m (n - 1)) z
+        ∙ ap (λ m. linesFrom c numbers m (n - 1)) z
 
-    order-line : flatMap framed (orderLines n (c .order)) ≡ linesFrom c (1 + n + boxes + (n - 1)) orders
+    order-line : flatMap framed (orderLines n (c .order)) ≡ linesFrom c numbers (1 + n + boxes + (n - 1)) orders
     unfolding orderLines flatMap linesFrom
     order-line =
         let z : ahead c + n ≡ 1 + n + boxes + (n - 1) = omega arith in
-        go ordered refl ∙ ap (λ m. linesFrom c m orders) z
+        go ordered refl ∙ ap (λ m. linesFrom c numbers m orders) z
       where
-        go : (b : Bool) → ordered ≡ b → flatMap framed (cond b ((6 ∷ orderOf n (c .order)) ∷ []) []) ≡ linesFrom c (ahead c + n) (cond b 1 0)
-        go true e = ap (λ l. framed l ++ []) (sym (line-order c e some most))
+        go : (b : Bool) → ordered ≡ b → flatMap framed (cond b ((6 ∷ orderOf n (c .order)) ∷ []) []) ≡ linesFrom c numbers (ahead c + n) (cond b 1 0)
+        go true e = ap (λ l. framed l ++ []) (sym (line-order c numbers e some most))
         go false e = refl
 
-    last-line : flatMap framed (kernelLine (c .kernel) ∷ []) ≡ linesFrom c (1 + n + boxes + (n - 1) + orders) 1
+    last-line : flatMap framed (kernelLine (c .kernel) ∷ []) ≡ linesFrom c numbers (1 + n + boxes + (n - 1) + orders) 1
     unfolding flatMap linesFrom linesBehind
     last-line =
         let z : ahead c + n + orders ≡ 1 + n + boxes + (n - 1) + orders = omega arith in
-        ap (λ l. framed l ++ []) (sym (line-kernel c some)) ∙ ap (λ m. linesFrom c m 1) z
+        ap (λ l. framed l ++ []) (sym (line-kernel c numbers some)) ∙ ap (λ m. linesFrom c numbers m 1) z
 
-    first-line : (ls : List (List ℕ)) (k : ℕ) → flatMap framed ls ≡ linesFrom c 1 k → flatMap framed (gridLine (c .grid) ∷ ls) ≡ linesFrom c 0 (suc k)
+    first-line : (ls : List (List ℕ)) (k : ℕ) → flatMap framed ls ≡ linesFrom c numbers 1 k → flatMap framed (gridLine (c .grid) numbers ∷ ls) ≡ linesFrom c numbers 0 (suc k)
     unfolding flatMap linesFrom lineAt
-    first-line ls k e = ap (λ t. framed (gridLine (c .grid)) ++ t) e
+    first-line ls k e = ap (λ t. framed (gridLine (c .grid) numbers) ++ t) e
 
-    -- Of a rectangle the offsets' and the box's lines go by the grid's own dimension count.
-    flat-lines : c .grid .skewed ≡ false
-        → chainLines c
-        ≡ gridLine (c .grid) ∷ (map offsetLine (offsetsOf (c .grid .dims) (c .window)) ++ (boxLines (c .grid .dims) (c .bounds) ++ (map capacityLine (capacitiesOf c) ++ (orderLines n (c .order) ++ (kernelLine (c .kernel) ∷ [])))))
-    unfolding chainLines
-    flat-lines flat =
-        ap (λ (d : ℕ). gridLine (c .grid) ∷ (map offsetLine (offsetsOf d (c .window)) ++ (boxLines d (c .bounds) ++ (map capacityLine (capacitiesOf c) ++ (orderLines n (c .order) ++ (kernelLine (c .kernel) ∷ []))))))
-        (dims-flat (c .grid) flat)
-
-    pub sheet-rows : c .grid .skewed ≡ false → sheetOf c ≡ linesFrom c 0 (linesBehind (c .bounds .stood) ordered n + 1)
-    unfolding sheetOf linesBehind
-    sheet-rows flat =
+    pub sheet-rows : sheetOf c numbers ≡ linesFrom c numbers 0 (linesBehind (c .bounds .stood) ordered n + 1)
+    unfolding sheetOf chainLines linesBehind
+    sheet-rows =
         let e : suc (n + (boxes + (n - 1 + (orders + 1)))) ≡ ahead c + n + orders + 1 = omega arith in
-        ap (flatMap framed) (flat-lines flat)
-        ∙ first-line _ (n + (boxes + (n - 1 + (orders + 1))))
-        (sections-join c _ _ 1 n (boxes + (n - 1 + (orders + 1))) all-offsets
-        (sections-join c _ _ (1 + n) boxes (n - 1 + (orders + 1)) box-line
-        (sections-join c _ _ (1 + n + boxes) (n - 1) (orders + 1) all-capacities
-        (sections-join c _ _ (1 + n + boxes + (n - 1)) orders 1 order-line last-line))))
-        ∙ ap (linesFrom c 0) e
+        first-line _ (n + (boxes + (n - 1 + (orders + 1))))
+        (sections-join c numbers _ _ 1 n (boxes + (n - 1 + (orders + 1))) all-offsets
+        (sections-join c numbers _ _ (1 + n) boxes (n - 1 + (orders + 1)) box-line
+        (sections-join c numbers _ _ (1 + n + boxes) (n - 1) (orders + 1) all-capacities
+        (sections-join c numbers _ _ (1 + n + boxes + (n - 1)) orders 1 order-line last-line))))
+        ∙ ap (linesFrom c numbers 0) e

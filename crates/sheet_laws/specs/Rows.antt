@@ -1,7 +1,7 @@
--- The sheet of a chain on a rectangle by the numbers of its lines: line 0 is the grid's; behind it come sections of lines, the offsets', the box's, the capacities', the order's, and last the kernel's.
+-- The sheet of a chain by the numbers of its lines: line 0 is the grid's; behind it come sections of lines, the offsets', the box's, the capacities', the order's, and last the kernel's.
 use Prim.Native.Nat.{ℕ, zero, suc, _+_, _-_, _*_}
 use mathlib.Core.Bool.{Bool, cond, _&&_}
-use mathlib.Core.List.{List, [], _∷_, _++_}
+use mathlib.Core.List.{List, [], _∷_, _++_, flatMap}
 use lib.Dec.{ltb}
 use lib.ListN.{length, take, getD}
 use Rattle.model.specs.declared.Bounds.{Bounds}
@@ -10,7 +10,7 @@ use Rattle.model.specs.declared.Grid.{Grid}
 use Rattle.model.specs.declared.Order.{Order}
 use Rattle.model.specs.declared.Window.{Window}
 use Rattle.model.specs.Lists.{tabulate}
-use Rattle.model.specs.Values.{entryOf, capacityOf}
+use Rattle.model.specs.Values.{dimsOf, entryOf, capacityOf}
 use Rattle.model.specs.Frames.{framed}
 use Rattle.model.specs.Numbers.{halfBytes, wordBytes, pattern}
 use Rattle.model.specs.Writing.{gridLine, indexPair, capacityLine, kernelLine}
@@ -22,6 +22,14 @@ unfoldable pub gridRow : Grid → List ℕ
 gridRow g =
     1 ∷ g .dims
     ∷ (wordBytes (getD (g .sizes) 0 0) ++ (wordBytes (getD (g .sizes) 1 0) ++ (wordBytes (getD (g .sizes) 2 0) ++ wordBytes (getD (g .sizes) 3 0))))
+
+-- An `09` line of n rows goes by its numbers, of which each row has two.
+unfoldable pub rowsLine : (n : ℕ) → (numbers : List ℕ) → List ℕ
+rowsLine n numbers = 9 ∷ (halfBytes n ++ flatMap halfBytes (tabulate (2 * n) (λ i. getD numbers i 0)))
+
+-- How many bytes the grid's line has.
+unfoldable pub gridLen : Grid → ℕ
+gridLen g = cond (g .skewed) (3 + 4 * g .rows) (2 + 4 * g .dims)
 
 unfoldable pub offsetRow : Window → ℕ → List ℕ
 offsetRow w k =
@@ -44,8 +52,8 @@ rowOf c part.Kernel = kernelLine (c .kernel)
 
 -- How much of its row a line is.
 unfoldable pub lenOf : Chain → Part → ℕ
-lenOf c (part.Offset k) = 1 + 2 * c .grid .dims
-lenOf c part.Box = 1 + 8 * c .grid .dims
+lenOf c (part.Offset k) = 1 + 2 * dimsOf (c .grid)
+lenOf c part.Box = 1 + 8 * dimsOf (c .grid)
 lenOf c (part.Capacity k) = 5
 lenOf c part.Order = 1 + c .window .count
 lenOf c part.Kernel = length (kernelLine (c .kernel))
@@ -72,11 +80,12 @@ partAt boxed ordered n m =
 unfoldable pub linesBehind : (boxed ordered : Bool) (n : ℕ) → ℕ
 linesBehind boxed ordered n = toCapacities boxed n + n + cond ordered 1 0
 
-unfoldable pub lineAt : Chain → ℕ → List ℕ
-lineAt c zero = gridLine (c .grid)
-lineAt c (suc m) = let p = partAt (c .bounds .stood) (c .order .stood) (c .window .count) m in take (lenOf c p) (rowOf c p)
+-- `numbers`: those of the grid's rows, where it is skewed.
+unfoldable pub lineAt : Chain → (numbers : List ℕ) → ℕ → List ℕ
+lineAt c numbers zero = gridLine (c .grid) numbers
+lineAt c numbers (suc m) = let p = partAt (c .bounds .stood) (c .order .stood) (c .window .count) m in take (lenOf c p) (rowOf c p)
 
 -- So many lines from line m on.
-unfoldable pub linesFrom : Chain → ℕ → ℕ → List ℕ
-linesFrom c m zero = []
-linesFrom c m (suc left) = framed (lineAt c m) ++ linesFrom c (m + 1) left
+unfoldable pub linesFrom : Chain → (numbers : List ℕ) → ℕ → ℕ → List ℕ
+linesFrom c numbers m zero = []
+linesFrom c numbers m (suc left) = framed (lineAt c numbers m) ++ linesFrom c numbers (m + 1) left

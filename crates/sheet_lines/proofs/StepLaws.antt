@@ -1,6 +1,7 @@
 -- One line read: an accepted line has room; a step by its verdict.
 use Prim.Native.Nat.{ℕ}
 use mathlib.Core.Bool.{Bool}
+use mathlib.Core.List.{List}
 use mathlib.Core.Path.{_≡_, sym, _∙_}
 use native.Mathlib.Omega.{arith}
 use Rattle.model.specs.declared.Reading.{Reading}
@@ -9,17 +10,18 @@ use Rattle.model.specs.declared.Verdict.the-variants as verdict
 use Rattle.model.specs.Frames.{Seen}
 use Rattle.model.specs.Reading.{lineVerdict, taken, stepOf}
 use Rattle.sheet_laws.proofs.AcceptedLines.{Admitted, admitted}
-use Rattle.sheet_laws.proofs.AcceptedLines.Admitted.{grid, offset, capacity, order, kernel, name, box}
+use Rattle.sheet_laws.proofs.AcceptedLines.Admitted.{grid, rows, offset, capacity, order, kernel, name, box}
 use Rattle.sheet_lines.specs.Room.{Room}
 
-pub accepted-room : (chained : Bool) (r : Reading) (l : Seen) → lineVerdict chained r l ≡ verdict.Accepted → Room r (l .first)
-accepted-room chained r l h = go (admitted chained r l h .1)
+pub accepted-room : (chained : Bool) (numbers : List ℕ) (r : Reading) (l : Seen) → lineVerdict chained numbers r l ≡ verdict.Accepted → Room r (l .first)
+accepted-room chained numbers r l h = go (admitted chained numbers r l h .1)
   where
     other : {kind a b : ℕ} → kind ≡ a → kind ≡ b → (a ≡ b → ⊥) → ⊥
     other p q n = n (sym p ∙ q)
 
-    go : Admitted chained r l → Room r (l .first)
+    go : Admitted chained numbers r l → Room r (l .first)
     go (grid e last some few len sizes) = record { offset = λ z. absurd (other e z (λ y. omega arith)); capacity = λ z. absurd (other e z (λ y. omega arith)) }
+    go (rows e last some few len cells) = record { offset = λ z. absurd (other e z (λ y. omega arith)); capacity = λ z. absurd (other e z (λ y. omega arith)) }
     go (offset e last len count) = record { offset = λ z. count; capacity = λ z. absurd (other e z (λ y. omega arith)) }
     go (capacity e last chain given len) = record { offset = λ z. absurd (other e z (λ y. omega arith)); capacity = λ z. given }
     go (order e last chain given len) = record { offset = λ z. absurd (other e z (λ y. omega arith)); capacity = λ z. absurd (other e z (λ y. omega arith)) }
@@ -27,12 +29,12 @@ accepted-room chained r l h = go (admitted chained r l h .1)
     go (box e last len) = record { offset = λ z. absurd (other e z (λ y. omega arith)); capacity = λ z. absurd (other e z (λ y. omega arith)) }
     go (kernel e last given form) = record { offset = λ z. absurd (other e z (λ y. omega arith)); capacity = λ z. absurd (other e z (λ y. omega arith)) }
 
-module _ (chained : Bool) (r : Reading) (l : Seen) where
-  pub step-accepted : (t : Reading) → lineVerdict chained r l ≡ verdict.Accepted → t ≡ taken r (l .first)
-      → record { verdict = verdict.Accepted; reading = t } ≡ stepOf chained r l
+module _ (chained : Bool) (numbers : List ℕ) (r : Reading) (l : Seen) where
+  pub step-accepted : (t : Reading) → lineVerdict chained numbers r l ≡ verdict.Accepted → t ≡ taken r (l .first)
+      → record { verdict = verdict.Accepted; reading = t } ≡ stepOf chained numbers r l
   unfolding stepOf
   step-accepted t e q = rw (e, q)
 
-  pub step-refused : (x : Refusal) → lineVerdict chained r l ≡ verdict.Refused x → record { verdict = verdict.Refused x; reading = r } ≡ stepOf chained r l
+  pub step-refused : (x : Refusal) → lineVerdict chained numbers r l ≡ verdict.Refused x → record { verdict = verdict.Refused x; reading = r } ≡ stepOf chained numbers r l
   unfolding stepOf
   step-refused x e = rw e

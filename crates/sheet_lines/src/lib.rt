@@ -16,7 +16,7 @@ ghost use Prim.Native.Nat.{_+_, _<_};
 ghost use lib.ListN.{set};
 ghost use Rattle.model.specs.Frames.{shown};
 ghost use Rattle.model.specs.Lines.{linesOf};
-ghost use Rattle.model.specs.Reading.{withGrid, withOffset, withName, withBox, withCapacity, withOrder, withKernel, taken, stepOf, start, complete, readLines};
+ghost use Rattle.model.specs.Reading.{withGrid, withRows, withOffset, withName, withBox, withCapacity, withOrder, withKernel, taken, stepOf, start, complete, readLines};
 ghost use Rattle.sheet_lines.specs.Room.{Room};
 
 // Before the first line.
@@ -39,6 +39,24 @@ fn with_grid(r: Reading, x: [u8; KEPT]) -> Reading
         rows: 0,
         dims: x[1],
         sizes,
+    };
+    Reading {
+        last: Last::Grid,
+        given: r.given,
+        chain: values::set_grid(r.chain, grid),
+    }
+}
+
+// The rows themselves stand beside the reading.
+fn with_rows(r: Reading, x: [u8; KEPT]) -> Reading
+    ensures { λ s. ⌜ s ≡ withRows r x ⌝ }
+{
+    let rows = sheet_fields::row_count_in(x);
+    let grid = Grid {
+        skewed: true,
+        rows,
+        dims: 2,
+        sizes: [0u32; 4],
     };
     Reading {
         last: Last::Grid,
@@ -172,14 +190,17 @@ fn take_line(r: Reading, x: [u8; KEPT]) -> Reading
     if kind == 8 {
         return with_box(r, x);
     }
+    if kind == 9 {
+        return with_rows(r, x);
+    }
     with_kernel(r, x)
 }
 
-// One line, read.
-pub fn step(chained: bool, r: Reading, f: Frame) -> LineStep
-    ensures { λ s. ⌜ s ≡ stepOf chained r (shown f) ⌝ }
+// One line, read. `rows`: the numbers on the sheet's first line, behind its row count.
+pub fn step(chained: bool, rows: &[u32], r: Reading, f: Frame) -> LineStep
+    ensures { λ s. ⌜ s ≡ stepOf chained (now (rows .entry)) r (shown f) ⌝ }
 {
-    let v = sheet_verdicts::line_verdict(chained, r, f);
+    let v = sheet_verdicts::line_verdict(chained, rows, r, f);
     match v {
         Verdict::Accepted => {
             let x = f.first;
@@ -213,8 +234,8 @@ pub fn is_complete(r: Reading) -> bool
 }
 
 // The lines of a sheet from the top, up to the first that is turned back.
-pub fn read_lines(chained: bool, sheet: &[u8]) -> LineStep
-    ensures { λ s. ⌜ s ≡ readLines chained start (linesOf (now (sheet .entry))) ⌝ }
+pub fn read_lines(chained: bool, rows: &[u32], sheet: &[u8]) -> LineStep
+    ensures { λ s. ⌜ s ≡ readLines chained (now (rows .entry)) start (linesOf (now (sheet .entry))) ⌝ }
 {
     let mut r = begin();
     let mut at: usize = 0;
@@ -229,7 +250,7 @@ pub fn read_lines(chained: bool, sheet: &[u8]) -> LineStep
         }
         // A step, taken apart: a reading is large, and so it is copied once less.
         let f = sheet_frames::frame(line);
-        let v = sheet_verdicts::line_verdict(chained, r, f);
+        let v = sheet_verdicts::line_verdict(chained, rows, r, f);
         match v {
             Verdict::Accepted => {}
             Verdict::Refused(n) => {

@@ -1,7 +1,7 @@
 -- What is known of a chain sheet that is accepted: every line is, none is missing, and the chain that was read is.
 use Prim.Native.Nat.{ℕ}
 use mathlib.Core.Bool.{true, false, cond}
-use mathlib.Core.List.{List, []}
+use mathlib.Core.List.{List}
 use mathlib.Core.Path.{_≡_, refl}
 use Rattle.model.specs.declared.LineStep.{LineStep}
 use Rattle.model.specs.declared.Refusal.the-variants as refusal
@@ -12,7 +12,7 @@ use Rattle.model.specs.Values.{requestOf}
 use Rattle.model.specs.Judging.{judgeChain}
 use Rattle.model.specs.Planning.{judgeRequest}
 use Rattle.model.specs.Lines.{linesOf}
-use Rattle.model.specs.Reading.{start, complete, readLines, endVerdict, readChain, readRequest}
+use Rattle.model.specs.Reading.{start, complete, readLines, endVerdict, numbersIn, readChain, readRequest}
 use Rattle.sheet_laws.proofs.Cases.{by-bool}
 use Rattle.sheet_laws.proofs.AcceptedLines.{refused-accepted}
 
@@ -34,20 +34,20 @@ accepted-end s v h = go (s .verdict) refl
 
 module _ (sheet : List ℕ) where
   abbrev pub read : LineStep
-  read = readLines true start (linesOf sheet)
+  read = readLines true (numbersIn sheet) start (linesOf sheet)
 
   pub accepted-sheet : readChain sheet .verdict ≡ verdict.Accepted
-      → (read .verdict ≡ verdict.Accepted) × ((complete (read .reading) ≡ true) × (judgeChain (read .reading .chain) [] ≡ verdict.Accepted))
+      → (read .verdict ≡ verdict.Accepted) × ((complete (read .reading) ≡ true) × (judgeChain (read .reading .chain) (numbersIn sheet) ≡ verdict.Accepted))
   unfolding readChain
-  accepted-sheet h = accepted-end read (judgeChain (read .reading .chain) []) h
+  accepted-sheet h = accepted-end read (judgeChain (read .reading .chain) (numbersIn sheet)) h
 
   pub accepted-read : readChain sheet .verdict ≡ verdict.Accepted → readChain sheet .chain ≡ read .reading .chain
   unfolding readChain
   accepted-read h = rw h
 
 -- And of a request sheet: the request that was read is accepted.
-pub accepted-request : (sheet : List ℕ) → readRequest sheet .verdict ≡ verdict.Accepted → judgeRequest (readRequest sheet .request) [] ≡ verdict.Accepted
+pub accepted-request : (sheet : List ℕ) → readRequest sheet .verdict ≡ verdict.Accepted → judgeRequest (readRequest sheet .request) (numbersIn sheet) ≡ verdict.Accepted
 unfolding readRequest
 accepted-request sheet h =
-    let s = readLines false start (linesOf sheet) in
-    rw h (accepted-end s (judgeRequest (requestOf (s .reading .chain)) []) h .1 .1)
+    let s = readLines false (numbersIn sheet) start (linesOf sheet) in
+    rw h (accepted-end s (judgeRequest (requestOf (s .reading .chain)) (numbersIn sheet)) h .1 .1)

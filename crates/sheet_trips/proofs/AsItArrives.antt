@@ -1,10 +1,11 @@
 -- Reading a sheet as its characters arrive is reading it line by line.
-use Prim.Native.Nat.{ℕ, _≤_}
-use mathlib.Core.Bool.{Bool, true, false}
+use Prim.Native.Nat.{ℕ}
+use mathlib.Core.Bool.{Bool, true, false, cond, _&&_}
 use mathlib.Core.List.{List, [], _∷_, _++_, append-nil}
 use mathlib.Core.Path.{_≡_, refl, sym, ap, _∙_}
-use native.Mathlib.Omega.{arith}
+use lib.ListN.{replicate}
 use borrow.Author.Tests.{eq-eqb, ne-eqb}
+use Rattle.model.specs.declared.Arriving.{Arriving}
 use Rattle.model.specs.declared.Frame.{Frame}
 use Rattle.model.specs.declared.LineStep.{LineStep}
 use Rattle.model.specs.declared.Reading.{Reading}
@@ -14,29 +15,42 @@ use Rattle.model.specs.declared.Verdict.{Verdict}
 use Rattle.model.specs.declared.Verdict.the-variants as verdict
 use Rattle.model.specs.Answers.{byVerdict}
 use Rattle.model.specs.Lines.{Line, lineFeed, linesOf, into}
-use Rattle.model.specs.Frames.{emptyFrame, fed, feeds, shown, seenOf}
-use Rattle.model.specs.Reading.{stepOf, start, readLines}
-use Rattle.sheet_laws.proofs.Cases.{by-eq}
-use Rattle.sheet_laws.proofs.FixedMemory.{Bounded, start-bounded, fixed-memory, no-line-feed, keeps-bounded}
+use Rattle.model.specs.Frames.{isDigit, whole, bytesOf, Seen, seenOf, emptyFrame, fed, feeds, shown, rowNumbers, numbersFed, numbersFeeds}
+use Rattle.model.specs.Reading.{numbersOn, taken, withGrid, withRows, withOffset, withName, withBox, withCapacity, withOrder, withKernel, stepOf, start, readLines, firstNumbers, numbersIn}
+use Rattle.model.specs.Arriving.{closed, arrives, stoodFirst, numbersArrive, Arrived, arrive, finished}
+use Rattle.sheet_laws.proofs.Cases.{by-bool, by-eq, never}
+use Rattle.sheet_laws.proofs.AcceptedLines.{Admitted, admitted, refused-accepted, taken-grid, taken-rows, taken-offset, taken-name, taken-box, taken-capacity, taken-order, taken-kernel}
+use Rattle.sheet_laws.proofs.AcceptedLines.Admitted.{grid, rows, offset, box, capacity, order, kernel, name}
+use Rattle.sheet_laws.proofs.FixedMemory.{Bounded, start-bounded, unsound-verdict, fixed-memory, no-line-feed, keeps-bounded}
+use Rattle.sheet_laws.proofs.NumbersLaws.{numbers-whole, numbers-pieces, numbers-step}
 use Rattle.sheet_laws.proofs.ReadingLaws.{line-stops, line-goes}
-use Rattle.model.specs.declared.Arriving.{Arriving}
-use Rattle.model.specs.Arriving.{closed, arrives, arrive, finished}
 use Rattle.sheet_trips.specs.Arriving.{AsItArrives, InPieces}
+
+-- One character more.
+abbrev pub more : Bool → Arrived → ℕ → Arrived
+more chained a c = record { sheet = arrives chained (a .numbers) (a .sheet) c; numbers = numbersArrive (a .numbers) (a .sheet) c }
 
 pub in-pieces : InPieces
 unfolding arrive
 in-pieces chained a [] ys = refl
-in-pieces chained a (x ∷ xs) ys = in-pieces chained (arrives chained a x) xs ys
+in-pieces chained a (x ∷ xs) ys = in-pieces chained (more chained a x) xs ys
 
--- After a refusal.
+-- After a refusal all stays as it is.
 by-refused : {A : Type 0} (v : Verdict) (a : A) (f : Refusal → A) (x : Refusal) → v ≡ verdict.Refused x → byVerdict v a f ≡ f x
 by-refused v a f x e = rw e
 
-unmoved : (chained : Bool) (a : Arriving) (x : Refusal) (b : ℕ) → a .verdict ≡ verdict.Refused x → arrives chained a b ≡ a
+sheet-unmoved : (chained : Bool) (numbers : List ℕ) (a : Arriving) (x : Refusal) (b : ℕ) → a .verdict ≡ verdict.Refused x → arrives chained numbers a b ≡ a
 unfolding arrives
-unmoved chained a x b e = by-refused (a .verdict) _ (λ y. a) x e
+sheet-unmoved chained numbers a x b e = by-refused (a .verdict) _ (λ y. a) x e
 
-pub stays : (chained : Bool) (a : Arriving) (x : Refusal) (bs : List ℕ) → a .verdict ≡ verdict.Refused x → arrive chained a bs ≡ a
+numbers-unmoved : (numbers : List ℕ) (a : Arriving) (x : Refusal) (b : ℕ) → a .verdict ≡ verdict.Refused x → numbersArrive numbers a b ≡ numbers
+unfolding numbersArrive
+numbers-unmoved numbers a x b e = by-refused (a .verdict) _ (λ y. numbers) x e
+
+unmoved : (chained : Bool) (a : Arrived) (x : Refusal) (b : ℕ) → a .sheet .verdict ≡ verdict.Refused x → more chained a b ≡ a
+unmoved chained a x b e = λ i. record { sheet = sheet-unmoved chained (a .numbers) (a .sheet) x b e i; numbers = numbers-unmoved (a .numbers) (a .sheet) x b e i }
+
+pub stays : (chained : Bool) (a : Arrived) (x : Refusal) (bs : List ℕ) → a .sheet .verdict ≡ verdict.Refused x → arrive chained a bs ≡ a
 unfolding arrive
 stays chained a x [] e = refl
 stays chained a x (b ∷ bs) e = ap (λ t. arrive chained t bs) (unmoved chained a x b e) ∙ stays chained a x bs e
@@ -79,39 +93,144 @@ some-more (x ∷ p) b = refl
 abbrev pub midway : Reading → List ℕ → Arriving
 midway r p = record { verdict = verdict.Accepted; reading = r; frame = feeds emptyFrame p; begun = some p }
 
+-- With the numbers that are held there: on the first line those of p; behind it `all`, those of that line.
+abbrev pub held : (all : List ℕ) → Reading → List ℕ → List ℕ
+held all r p = cond (stoodFirst (r .last)) (numbersFeeds (replicate rowNumbers 0) emptyFrame p) all
+
+abbrev pub standing : (all : List ℕ) → Reading → List ℕ → Arrived
+standing all r p = record { sheet = midway r p; numbers = held all r p }
+
+-- A character that is no LF.
+pub arrives-other : (chained : Bool) (numbers : List ℕ) (r : Reading) (p : List ℕ) (b : ℕ) → (b ≡ lineFeed → ⊥) → arrives chained numbers (midway r p) b ≡ midway r (p ++ (b ∷ []))
+unfolding arrives
+arrives-other chained numbers r p b n = rw (ne-eqb _ _ n, feeds-more emptyFrame p b, some-more p b)
+
+numbers-other : (all : List ℕ) (r : Reading) (p : List ℕ) (b : ℕ) → numbersArrive (held all r p) (midway r p) b ≡ held all r (p ++ (b ∷ []))
+unfolding numbersArrive numbersFeeds
+numbers-other all r p b =
+    by-bool (stoodFirst (r .last))
+    (λ e. rw e (sym (numbers-pieces (replicate rowNumbers 0) emptyFrame p (b ∷ []))))
+    (λ e. rw e)
+
+pub more-other : (chained : Bool) (all : List ℕ) (r : Reading) (p : List ℕ) (b : ℕ) → (b ≡ lineFeed → ⊥) → more chained (standing all r p) b ≡ standing all r (p ++ (b ∷ []))
+more-other chained all r p b n = λ i. record { sheet = arrives-other chained (held all r p) r p b n i; numbers = numbers-other all r p b i }
+
+-- The LF, where the numbers on the first line are `all`.
+abbrev pub Own : (all : List ℕ) → Reading → List ℕ → Type 0
+Own all r p = stoodFirst (r .last) ≡ true → all ≡ numbersOn (bytesOf p)
+
+pub arrives-feed : (chained : Bool) (numbers : List ℕ) (r : Reading) (p : List ℕ) (b : ℕ) → b ≡ lineFeed
+    → arrives chained numbers (midway r p) b ≡ closed (stepOf chained numbers r (shown (feeds emptyFrame p)))
+unfolding arrives
+arrives-feed chained numbers r p b e = rw e
+
+numbers-feed : (numbers : List ℕ) (r : Reading) (p : List ℕ) (b : ℕ) → b ≡ lineFeed → numbersArrive numbers (midway r p) b ≡ numbers
+unfolding numbersArrive numbersFed isDigit
+numbers-feed numbers r p b e = rw e (either (stoodFirst (r .last)) (feeds emptyFrame p .half) _)
+  where
+    either : (first half : Bool) (xs : List ℕ) → cond first (cond (half && false) xs numbers) numbers ≡ numbers
+    either true true xs = refl
+    either true false xs = refl
+    either false half xs = refl
+
+step-own : (chained : Bool) (all : List ℕ) (r : Reading) (p : List ℕ) → Bounded r → Own all r p
+    → stepOf chained (held all r p) r (shown (feeds emptyFrame p)) ≡ stepOf chained all r (seenOf true p)
+step-own chained all r p few own =
+    by-bool (stoodFirst (r .last))
+    (λ e. rw e (numbers-step chained r p few ∙ ap (λ ns. stepOf chained ns r (seenOf true p)) (sym (own e))))
+    (λ e. rw e (fixed-memory chained all r p few))
+
+pub more-feed : (chained : Bool) (all : List ℕ) (r : Reading) (p : List ℕ) (b : ℕ) → b ≡ lineFeed → Bounded r → Own all r p
+    → more chained (standing all r p) b ≡ record { sheet = closed (stepOf chained all r (seenOf true p)); numbers = held all r p }
+more-feed chained all r p b e few own =
+    let s = arrives-feed chained (held all r p) r p b e ∙ ap closed (step-own chained all r p few own) in
+    λ i. record { sheet = s i; numbers = numbers-feed (held all r p) r p b e i }
+
+-- Behind a line that is accepted the first line was read, and the numbers are its own.
+pub behind-first : (chained : Bool) (all : List ℕ) (r : Reading) (l : Seen) → stepOf chained all r l .verdict ≡ verdict.Accepted
+    → stoodFirst (stepOf chained all r l .reading .last) ≡ false
+unfolding stepOf stoodFirst withGrid withRows withOffset withName withBox withCapacity withOrder withKernel
+behind-first chained all r l h = rw h (by (admitted chained all r l h .1))
+  where
+    by : Admitted chained all r l → stoodFirst (taken r (l .first) .last) ≡ false
+    by (grid e last some few len sizes) = rw (taken-grid _ _ e)
+    by (rows e last some few len cells) = rw (taken-rows _ _ e)
+    by (offset e last len count) = rw (taken-offset _ _ e)
+    by (box e last len) = rw (taken-box _ _ e)
+    by (capacity e last chain given len) = rw (taken-capacity _ _ e)
+    by (order e last chain given len) = rw (taken-order _ _ e)
+    by (kernel e last given form) = rw (taken-kernel _ _ e)
+    by (name e last request len ok) = rw (taken-name _ _ e)
+
+held-own : (chained : Bool) (all : List ℕ) (r : Reading) (p : List ℕ) → Own all r p → stepOf chained all r (seenOf true p) .verdict ≡ verdict.Accepted → held all r p ≡ all
+unfolding stepOf
+held-own chained all r p own h =
+    by-bool (stoodFirst (r .last))
+    (λ e. rw e (by-bool (whole p)
+    (λ w. numbers-whole p w ∙ sym (own e))
+    (λ w. absurd (refused-accepted (sym (unsound-verdict chained all r (seenOf true p) w) ∙ h)))))
+    (λ e. rw e)
+
+pub more-accepted : (chained : Bool) (all : List ℕ) (r : Reading) (p : List ℕ) (b : ℕ) → b ≡ lineFeed → Bounded r → Own all r p
+    → stepOf chained all r (seenOf true p) .verdict ≡ verdict.Accepted
+    → more chained (standing all r p) b ≡ standing all (stepOf chained all r (seenOf true p) .reading) []
+unfolding feeds some
+more-accepted chained all r p b e few own h =
+    let t = stepOf chained all r (seenOf true p) .reading in
+    more-feed chained all r p b e few own
+    ∙ (λ i. record {
+      sheet = record { verdict = h i; reading = t; frame = emptyFrame; begun = false };
+      numbers = (held-own chained all r p own h ∙ sym (ap (λ (first : Bool). cond first (numbersFeeds (replicate rowNumbers 0) emptyFrame []) all) (behind-first chained all r (seenOf true p) h))) i;
+    })
+
+-- At the end of the characters.
 refused : (s : LineStep) (x : Refusal) → s .verdict ≡ verdict.Refused x → finished (closed s) ≡ s
 unfolding finished
 refused s x e = rw e
 
-at-feed : (chained : Bool) (r : Reading) (p bs : List ℕ) → Bounded r
-    → ((t : Reading) → Bounded t → finished (arrive chained (midway t []) bs) ≡ readLines chained t (linesOf bs))
-    → finished (arrive chained (closed (stepOf chained r (shown (feeds emptyFrame p)))) bs) ≡ readLines chained r (record { chars = p; ended = true } ∷ linesOf bs)
-unfolding feeds some
-at-feed chained r p bs few behind =
-    ap (λ t. finished (arrive chained (closed t) bs)) (fixed-memory chained r p few)
-    ∙ go (stepOf chained r (seenOf true p)) refl (stepOf chained r (seenOf true p) .verdict) refl
+-- The numbers on the first of these lines, where no line was read yet.
+abbrev pub Begins : (all : List ℕ) → Reading → List Line → Type 0
+Begins all r ls = stoodFirst (r .last) ≡ true → all ≡ firstNumbers ls
+
+pub behind-begins : (chained : Bool) (all : List ℕ) (r : Reading) (l : Seen) (ls : List Line) → stepOf chained all r l .verdict ≡ verdict.Accepted
+    → Begins all (stepOf chained all r l .reading) ls
+behind-begins chained all r l ls h = λ e. absurd (never (sym e ∙ behind-first chained all r l h))
+
+record Ends (chained : Bool) (all : List ℕ) (a : Arrived) (bs : List ℕ) (s : LineStep) : Type 0 where
+  read : finished (arrive chained a bs .sheet) ≡ s
+  numbers : s .verdict ≡ verdict.Accepted → arrive chained a bs .numbers ≡ all
+
+-- One character more, and the rest behind it.
+ends-on : (chained : Bool) (all : List ℕ) (a c : Arrived) (b : ℕ) (bs : List ℕ) (s t : LineStep) → more chained a b ≡ c → s ≡ t → Ends chained all c bs s → Ends chained all a (b ∷ bs) t
+unfolding arrive
+ends-on chained all a c b bs s t p q e = record {
+  read = ap (λ (x : Arrived). finished (arrive chained x bs .sheet)) p ∙ e .read ∙ q;
+  numbers = λ h. ap (λ (x : Arrived). arrive chained x bs .numbers) p ∙ e .numbers (ap (λ (x : LineStep). x .verdict) q ∙ h);
+}
+
+at-feed : (chained : Bool) (all : List ℕ) (r : Reading) (p : List ℕ) (b : ℕ) (bs : List ℕ) → b ≡ lineFeed → Bounded r → Own all r p
+    → ((t : Reading) → Bounded t → Begins all t (linesOf bs) → Ends chained all (standing all t []) bs (readLines chained all t (linesOf bs)))
+    → Ends chained all (standing all r p) (b ∷ bs) (readLines chained all r (record { chars = p; ended = true } ∷ linesOf bs))
+at-feed chained all r p b bs e few own behind = go (s .verdict) refl
   where
-    go : (s : LineStep) → s ≡ stepOf chained r (seenOf true p) → (v : Verdict) → s .verdict ≡ v
-        → finished (arrive chained (closed s) bs) ≡ readLines chained r (record { chars = p; ended = true } ∷ linesOf bs)
-    go s q verdict.Accepted e =
-        ap (λ v. finished (arrive chained (record { verdict = v; reading = s .reading; frame = emptyFrame; begun = false }) bs)) e
-        ∙ behind (s .reading) (rw q (keeps-bounded chained r (seenOf true p) few))
-        ∙ ap (λ t. readLines chained (t .reading) (linesOf bs)) q
-        ∙ line-goes chained r (record { chars = p; ended = true }) (linesOf bs) (ap (λ t. t .verdict) (sym q) ∙ e)
-    go s q (verdict.Refused x) e =
-        ap finished (stays chained (closed s) x bs e)
-        ∙ refused s x e
-        ∙ q
-        ∙ line-stops chained r (record { chars = p; ended = true }) (linesOf bs) x (ap (λ t. t .verdict) (sym q) ∙ e)
+    l : Line
+    l = record { chars = p; ended = true }
 
-pub arrives-feed : (chained : Bool) (r : Reading) (p : List ℕ) (b : ℕ) → b ≡ lineFeed
-    → arrives chained (midway r p) b ≡ closed (stepOf chained r (shown (feeds emptyFrame p)))
-unfolding arrives
-arrives-feed chained r p b e = rw e
+    s : LineStep
+    s = stepOf chained all r (seenOf true p)
 
-pub arrives-other : (chained : Bool) (r : Reading) (p : List ℕ) (b : ℕ) → (b ≡ lineFeed → ⊥) → arrives chained (midway r p) b ≡ midway r (p ++ (b ∷ []))
-unfolding arrives
-arrives-other chained r p b n = rw (ne-eqb _ _ n, feeds-more emptyFrame p b, some-more p b)
+    back : (x : Refusal) → s .verdict ≡ verdict.Refused x → Ends chained all (record { sheet = closed s; numbers = held all r p }) bs s
+    back x h = record {
+      read = ap (λ (a : Arrived). finished (a .sheet)) (stays chained (record { sheet = closed s; numbers = held all r p }) x bs h) ∙ refused s x h;
+      numbers = λ q. absurd (refused-accepted (sym h ∙ q));
+    }
+
+    go : (v : Verdict) → s .verdict ≡ v → Ends chained all (standing all r p) (b ∷ bs) (readLines chained all r (l ∷ linesOf bs))
+    go verdict.Accepted h =
+        ends-on chained all (standing all r p) (standing all (s .reading) []) b bs _ _ (more-accepted chained all r p b e few own h) (line-goes chained all r l (linesOf bs) h)
+        (behind (s .reading) (keeps-bounded chained all r (seenOf true p) few) (behind-begins chained all r (seenOf true p) (linesOf bs) h))
+    go (verdict.Refused x) h =
+        ends-on chained all (standing all r p) _ b bs _ _ (more-feed chained all r p b e few own) (line-stops chained all r l (linesOf bs) x h) (back x h)
 
 pub lines-feed : (b : ℕ) (bs : List ℕ) → b ≡ lineFeed → linesOf (b ∷ bs) ≡ record { chars = []; ended = true } ∷ linesOf bs
 unfolding linesOf
@@ -121,26 +240,41 @@ pub lines-other : (b : ℕ) (bs : List ℕ) → (b ≡ lineFeed → ⊥) → lin
 unfolding linesOf
 lines-other b bs n = rw (ne-eqb _ _ n)
 
-by-characters : (chained : Bool) (bs : List ℕ) (r : Reading) (p : List ℕ) → Bounded r
-    → finished (arrive chained (midway r p) bs) ≡ readLines chained r (infront p (linesOf bs))
+-- The lines of what is left behind p, at an LF and at another character.
+pub front-feed : (p : List ℕ) (b : ℕ) (bs : List ℕ) → b ≡ lineFeed → infront p (linesOf (b ∷ bs)) ≡ record { chars = p; ended = true } ∷ linesOf bs
+front-feed p b bs e =
+    ap (infront p) (lines-feed b bs e)
+    ∙ whole-line p [] true (linesOf bs)
+    ∙ ap (λ q. record { chars = q; ended = true } ∷ linesOf bs) (append-nil p)
+
+pub front-other : (p : List ℕ) (b : ℕ) (bs : List ℕ) → (b ≡ lineFeed → ⊥) → infront p (linesOf (b ∷ bs)) ≡ infront (p ++ (b ∷ [])) (linesOf bs)
+front-other p b bs n = ap (infront p) (lines-other b bs n) ∙ sym (one-more p b (linesOf bs))
+
+none-left : (all : List ℕ) (r : Reading) → Begins all r [] → held all r [] ≡ all
+unfolding bytesOf whole
+none-left all r begins =
+    by-bool (stoodFirst (r .last))
+    (λ e. rw e (numbers-whole [] refl ∙ sym (begins e)))
+    (λ e. rw e)
+
+by-characters : (chained : Bool) (all bs : List ℕ) (r : Reading) (p : List ℕ) → Bounded r → Begins all r (infront p (linesOf bs))
+    → Ends chained all (standing all r p) bs (readLines chained all r (infront p (linesOf bs)))
 unfolding arrive finished linesOf infront some readLines
-by-characters chained [] r [] few = refl
-by-characters chained [] r (b ∷ p) few =
+by-characters chained all [] r [] few begins = record { read = refl; numbers = λ h. none-left all r begins }
+by-characters chained all [] r (b ∷ p) few begins =
     let l : Line = record { chars = b ∷ p; ended = false } in
-    let e = no-line-feed chained r (b ∷ p) in
-    sym e ∙ line-stops chained r l [] refusal.Malformed (ap (λ t. t .verdict) e) ∙ ap (readLines chained r) (sym (last-line b p))
-by-characters chained (b ∷ bs) r p few =
+    let e = no-line-feed chained all r (b ∷ p) in
+    let s = sym e ∙ line-stops chained all r l [] refusal.Malformed (ap (λ t. t .verdict) e) ∙ ap (readLines chained all r) (sym (last-line b p)) in
+    record { read = s; numbers = λ h. absurd (refused-accepted (ap (λ t. t .verdict) s ∙ h)) }
+by-characters chained all (b ∷ bs) r p few begins =
     by-eq b lineFeed
-    (λ e. ap (λ a. finished (arrive chained a bs)) (arrives-feed chained r p b e)
-    ∙ at-feed chained r p bs few (λ t d. by-characters chained bs t [] d)
-    ∙ ap (λ q. readLines chained r (record { chars = q; ended = true } ∷ linesOf bs)) (sym (append-nil p))
-    ∙ ap (readLines chained r) (sym (whole-line p [] true (linesOf bs)))
-    ∙ ap (λ ls. readLines chained r (infront p ls)) (sym (lines-feed b bs e)))
-    (λ n. ap (λ a. finished (arrive chained a bs)) (arrives-other chained r p b n)
-    ∙ by-characters chained bs r (p ++ (b ∷ [])) few
-    ∙ ap (readLines chained r) (one-more p b (linesOf bs))
-    ∙ ap (λ ls. readLines chained r (infront p ls)) (sym (lines-other b bs n)))
+    (λ e. rw (front-feed p b bs e)
+    (at-feed chained all r p b bs e few (λ q. begins q ∙ ap firstNumbers (front-feed p b bs e)) (λ t d g. by-characters chained all bs t [] d g)))
+    (λ n. ends-on chained all (standing all r p) (standing all r (p ++ (b ∷ []))) b bs _ _ (more-other chained all r p b n) (ap (readLines chained all r) (sym (front-other p b bs n)))
+    (by-characters chained all bs r (p ++ (b ∷ [])) few (λ q. begins q ∙ ap firstNumbers (front-other p b bs n))))
 
 pub as-it-arrives : AsItArrives
-unfolding feeds some infront
-as-it-arrives chained sheet = by-characters chained sheet start [] start-bounded
+unfolding feeds some infront numbersIn stoodFirst numbersFeeds
+as-it-arrives chained sheet =
+    let e = by-characters chained (numbersIn sheet) sheet start [] start-bounded (λ q. refl) in
+    record { read = e .read; numbers = e .numbers }

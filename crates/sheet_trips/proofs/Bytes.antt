@@ -120,7 +120,7 @@ small-word w h =
     (more {b = w % 256} (omega arith) none)))
 
 -- A frame of bytes is one whole line, which shows them.
-frame-back : {bs : List ℕ} → Small bs → (whole (digitsOf bs) ≡ true) × (bytesOf (digitsOf bs) ≡ bs)
+pub frame-back : {bs : List ℕ} → Small bs → (whole (digitsOf bs) ≡ true) × (bytesOf (digitsOf bs) ≡ bs)
 unfolding whole bytesOf digitsOf
 frame-back none = (refl, refl)
 frame-back (more {b} {bs} h s) =

@@ -1,11 +1,12 @@
 pub mod Bytes
 pub mod Values
+pub mod RowLines
 pub mod AcceptedSheets
+pub mod AsItArrives
 pub mod LinesRead
 pub mod ReadWrite
 pub mod ReadBack
 pub mod LineGoes
 pub mod WriteRead
 pub mod Calls
-pub mod AsItArrives
 pub mod Names

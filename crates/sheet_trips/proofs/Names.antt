@@ -19,8 +19,9 @@ use Rattle.model.specs.declared.ReadRequest.{ReadRequest}
 use Rattle.model.specs.declared.Refusal.the-variants as refusal
 use Rattle.model.specs.declared.Verdict.{Verdict}
 use Rattle.model.specs.declared.Verdict.the-variants as verdict
+use Rattle.model.specs.declared.Window.{Window}
 use Rattle.model.specs.Lists.{all, any}
-use Rattle.model.specs.Values.{blankWindow, blankChain, requestOf, setWindow}
+use Rattle.model.specs.Values.{dimsOf, blankWindow, blankChain, requestOf, setWindow}
 use Rattle.model.specs.Answers.{byVerdict}
 use Rattle.model.specs.Planning.{judgeRequest, plannedChain, planOf}
 use Rattle.model.specs.Lines.{Line, lineOf, linesOf}
@@ -28,17 +29,19 @@ use Rattle.model.specs.Frames.{valueOf, digitOf, whole, bytesOf, digitsOf, fram
 use Rattle.model.specs.Numbers.{byteAt}
 use Rattle.model.specs.NamedWindows.{windows, isName, namedOf, badName, entriesOf, offsetsNamed, withReferences, windowNamed}
 use Rattle.model.specs.Reading.{kindOf, badForm, malformed, nextInRequest, among, misplaced, badLength, lineChecks, lineVerdict}
-use Rattle.model.specs.Reading.{taken, withGrid, withName, withBox, withKernel, stepOf, start, closes, complete, readLines, endVerdict, readRequest}
+use Rattle.model.specs.Reading.{numbersOn, taken, withGrid, withRows, withName, withBox, withKernel, stepOf, start, closes, complete, readLines, endVerdict, numbersIn, readRequest}
 use Rattle.model.specs.Writing.{offsetLine, sheetOf}
 use Rattle.model.specs.Programs.{refusalText, planText}
 use Rattle.model.proofs.NameLaws.{by-name}
 use Rattle.sheet_laws.proofs.Cases.{by-bool, never, and-true}
-use Rattle.sheet_laws.proofs.AcceptedLines.{clear, taken-grid, taken-kernel, taken-name, taken-box}
+use Rattle.sheet_laws.proofs.AcceptedLines.{clear, taken-grid, taken-rows, taken-kernel, taken-name, taken-box}
 use Rattle.sheet_laws.proofs.FixedMemory.{unsound-verdict}
 use Rattle.sheet_laws.proofs.LineLaws.{line-front, firstLine, first-line}
-use Rattle.sheet_trips.specs.Names.{byName, writtenOut, BeginsWithOffset, ByName}
+use Rattle.sheet_trips.specs.Names.{FirstLine, byName, writtenOut, BeginsWithOffset, ByName}
+use Rattle.sheet_trips.specs.Names.FirstLine.{sized, rowed}
 use Rattle.sheet_trips.proofs.Bytes.{Small, digits-back, lineSeen, frame-line}
 use Rattle.sheet_trips.proofs.Bytes.Small.{none, more}
+use Rattle.sheet_trips.proofs.RowLines.{first-numbers}
 use Rattle.sheet_trips.proofs.LineGoes.{all-clear, Goes, line-goes, four, smallEntries, small-fits, small-offset, added, offset-goes}
 
 -- The lines of any offsets that fit a grid of so many dimensions.
@@ -49,20 +52,20 @@ unfoldable allAdded : Reading → List (List ℤ) → Reading
 allAdded r [] = r
 allAdded r (o ∷ os) = allAdded (added r (four o)) os
 
-offsets-read : (chainSheet : Bool) (os : List (List ℤ)) (r : Reading) (rest : List ℕ) → (r .last ≡ stood.Grid) ⊎ (r .last ≡ stood.Offset)
-    → r .chain .grid .dims ≤ 4 → all (fitting (r .chain .grid .dims)) os ≡ true → r .chain .window .count + length os ≤ 32
-    → readLines chainSheet r (linesOf (flatMap framed (map offsetLine os) ++ rest)) ≡ readLines chainSheet (allAdded r os) (linesOf rest)
+offsets-read : (chainSheet : Bool) (numbers : List ℕ) (os : List (List ℤ)) (r : Reading) (rest : List ℕ) → (r .last ≡ stood.Grid) ⊎ (r .last ≡ stood.Offset)
+    → dimsOf (r .chain .grid) ≤ 4 → all (fitting (dimsOf (r .chain .grid))) os ≡ true → r .chain .window .count + length os ≤ 32
+    → readLines chainSheet numbers r (linesOf (flatMap framed (map offsetLine os) ++ rest)) ≡ readLines chainSheet numbers (allAdded r os) (linesOf rest)
 unfolding allAdded flatMap all fitting
-offsets-read chainSheet [] r rest last few h room = refl
-offsets-read chainSheet (o ∷ os) r rest last few h room =
-    let dims = r .chain .grid .dims in
+offsets-read chainSheet numbers [] r rest last few h room = refl
+offsets-read chainSheet numbers (o ∷ os) r rest last few h room =
+    let dims = dimsOf (r .chain .grid) in
     let f = and-true (fitting dims o) (all (fitting dims) os) h in
     let g = and-true (eqb (length o) dims) (smallEntries o) (f .0) in
-    let sized : length o ≡ r .chain .grid .dims = eqb-true _ _ (g .0) in
-    ap (λ t. readLines chainSheet r (linesOf t)) (append-assoc (framed (offsetLine o)) (flatMap framed (map offsetLine os)) rest)
-    ∙ line-goes chainSheet r (added r (four o)) (offsetLine o) _ (small-offset o (small-fits o (g .1)))
-    (offset-goes chainSheet r o last sized (omega (arith, sized)) (small-fits o (g .1)) (omega arith))
-    ∙ offsets-read chainSheet os (added r (four o)) rest (inr refl) few (f .1) (omega arith)
+    let sized : length o ≡ dimsOf (r .chain .grid) = eqb-true _ _ (g .0) in
+    ap (λ t. readLines chainSheet numbers r (linesOf t)) (append-assoc (framed (offsetLine o)) (flatMap framed (map offsetLine os)) rest)
+    ∙ line-goes chainSheet numbers r (added r (four o)) (offsetLine o) _ (small-offset o (small-fits o (g .1)))
+    (offset-goes chainSheet numbers r o last sized (omega (arith, sized)) (small-fits o (g .1)) (omega arith))
+    ∙ offsets-read chainSheet numbers os (added r (four o)) rest (inr refl) few (f .1) (omega arith)
 
 -- The list, entry by entry.
 abbrev named : (ℕ → Type 0) → ℕ → Type 0
@@ -99,33 +102,52 @@ named-added =
     for-names (λ name. (r : Reading) → allAdded r (offsetsNamed name) ≡ behind stood.Offset r name)
     (λ r. refl) (λ r. refl) (λ r. refl) (λ r. refl) (λ r. refl)
 
--- The grid's line, as it is seen.
-abbrev gridLine : ℕ → List ℕ → Line
-gridLine name sizes = record { chars = digitsOf (1 ∷ namedOf name .dims ∷ sizes); ended = true }
+-- The first line, as it is seen.
+abbrev lineWith : List ℕ → Line
+lineWith first = record { chars = digitsOf first; ended = true }
 
-abbrev gridBytes : ℕ → List ℕ → List ℕ
-gridBytes name sizes = padded (bytesOf (gridLine name sizes .chars))
+abbrev firstBytes : List ℕ → List ℕ
+firstBytes first = padded (bytesOf (digitsOf first))
 
-grid-heads : (name : ℕ) → isName name ≡ true → (sizes : List ℕ) → (byteAt (gridBytes name sizes) 0 ≡ 1) × (byteAt (gridBytes name sizes) 1 ≡ namedOf name .dims)
+sized-heads : (name : ℕ) → isName name ≡ true → (bytes : List ℕ)
+    → (byteAt (firstBytes (1 ∷ namedOf name .dims ∷ bytes)) 0 ≡ 1) × (byteAt (firstBytes (1 ∷ namedOf name .dims ∷ bytes)) 1 ≡ namedOf name .dims)
 unfolding namedOf windows padded bytesOf digitsOf digitOf valueOf
-grid-heads =
-    for-names (λ name. (sizes : List ℕ) → (byteAt (gridBytes name sizes) 0 ≡ 1) × (byteAt (gridBytes name sizes) 1 ≡ namedOf name .dims))
+sized-heads =
+    for-names (λ name. (bytes : List ℕ) → (byteAt (firstBytes (1 ∷ namedOf name .dims ∷ bytes)) 0 ≡ 1) × (byteAt (firstBytes (1 ∷ namedOf name .dims ∷ bytes)) 1 ≡ namedOf name .dims))
     (λ s. (refl, refl)) (λ s. (refl, refl)) (λ s. (refl, refl)) (λ s. (refl, refl)) (λ s. (refl, refl))
 
--- A name's line behind the grid's.
-name-goes : (name : ℕ) → isName name ≡ true → (r : Reading) → r .last ≡ stood.Grid → r .chain .window ≡ blankWindow → r .chain .grid .dims ≡ namedOf name .dims
-    → Goes false r (7 ∷ name ∷ []) (behind stood.Name r name)
+rowed-head : (bytes : List ℕ) → byteAt (firstBytes (9 ∷ bytes)) 0 ≡ 9
+unfolding padded bytesOf digitsOf digitOf valueOf
+rowed-head bytes = refl
+
+-- Behind it the grid stands alone, and has as many dimensions as the name's window.
+record OnGrid (name : ℕ) (r : Reading) : Type 0 where
+  last : r .last ≡ stood.Grid
+  blank : r .chain .window ≡ blankWindow
+  dims : dimsOf (r .chain .grid) ≡ namedOf name .dims
+
+first-taken : (name : ℕ) → isName name ≡ true → (first : List ℕ) → FirstLine (namedOf name .dims) first → OnGrid name (taken start (firstBytes first))
+unfolding withGrid withRows dimsOf
+first-taken name h first (sized bytes) =
+    let heads = sized-heads name h bytes in
+    rw (taken-grid start (firstBytes first) (heads .0)) (record { last = refl; blank = refl; dims = heads .1 })
+first-taken name h first (rowed two bytes) = rw (taken-rows start (firstBytes first) (rowed-head bytes)) (record { last = refl; blank = refl; dims = sym two })
+
+-- A name's line behind it.
+name-goes : (numbers : List ℕ) (name : ℕ) → isName name ≡ true → (r : Reading) → OnGrid name r → Goes false numbers r (7 ∷ name ∷ []) (behind stood.Name r name)
 unfolding malformed badForm misplaced among any nextInRequest badLength badName padded withName windowNamed
-name-goes name h r last blank dims = (
-  all-clear false r (lineSeen (7 ∷ name ∷ []))
+name-goes numbers name h r on = (
+  all-clear false numbers r (lineSeen (7 ∷ name ∷ []))
       refl
-      (rw last)
-      refl
-      refl
+      (rw (on .last))
       refl
       refl
-      (rw (h, dims, eq-eqb (namedOf name .dims) (namedOf name .dims) refl)),
-  taken-name r (padded (7 ∷ name ∷ [])) refl ∙ rw blank,
+      refl
+      refl
+      refl
+      refl
+      (rw (h, on .dims, eq-eqb (namedOf name .dims) (namedOf name .dims) refl)),
+  taken-name r (padded (7 ∷ name ∷ [])) refl ∙ rw (on .blank),
 )
 
 name-small : (name : ℕ) → isName name ≡ true → Small (7 ∷ name ∷ [])
@@ -141,18 +163,18 @@ same-ends : {one other : LineStep} → one ≡ other → Alike one other
 same-ends e = record { verdict = ap (λ s. s .verdict) e; complete = ap (λ s. complete (s .reading)) e; chain = ap (λ s. s .reading .chain) e }
 
 -- A line behind the window that is no `02` line: it is judged alike, and where it is not turned back it is the box's or the kernel's.
-module _ (r : Reading) (name : ℕ) (l : Seen) (other : kindOf l ≡ 2 → ⊥) where
+module _ (numbers : List ℕ) (r : Reading) (name : ℕ) (l : Seen) (other : kindOf l ≡ 2 → ⊥) where
   abbrev afterName : Reading
   afterName = behind stood.Name r name
 
   abbrev afterOffset : Reading
   afterOffset = behind stood.Offset r name
 
-  judged-alike : lineVerdict false afterName l ≡ lineVerdict false afterOffset l
+  judged-alike : lineVerdict false numbers afterName l ≡ lineVerdict false numbers afterOffset l
   unfolding lineVerdict lineChecks misplaced among any nextInRequest
   judged-alike = rw (ne-eqb _ _ other)
 
-  box-or-kernel : lineVerdict false afterName l ≡ verdict.Accepted → (kindOf l ≡ 8) ⊎ (kindOf l ≡ 4)
+  box-or-kernel : lineVerdict false numbers afterName l ≡ verdict.Accepted → (kindOf l ≡ 8) ⊎ (kindOf l ≡ 4)
   unfolding lineVerdict lineChecks misplaced among any nextInRequest
   box-or-kernel h = either (not-false _ (clear _ _ _ (clear _ _ _ h .1) .0))
     where
@@ -182,27 +204,27 @@ offset-first rest w e =
     sym (take-take 2 (length (lineOf rest)) rest (omega (arith, ap length q))) ∙ ap (take 2) (line-front rest ∙ q)
 
 -- The lines behind the window are read alike.
-module _ (r : Reading) (name : ℕ) where
+module _ (numbers : List ℕ) (r : Reading) (name : ℕ) where
   line-alike : (l : Line) (ls : List Line) → (whole (l .chars) ≡ true → byteAt (padded (bytesOf (l .chars))) 0 ≡ 2 → ⊥)
-      → Alike (readLines false (behind stood.Name r name) (l ∷ ls)) (readLines false (behind stood.Offset r name) (l ∷ ls))
+      → Alike (readLines false numbers (behind stood.Name r name) (l ∷ ls)) (readLines false numbers (behind stood.Offset r name) (l ∷ ls))
   unfolding readLines stepOf complete closes
   line-alike l ls other =
       by-bool (seen .sound)
-      (λ s. let no-offset = other (and-true (l .ended) (whole (l .chars)) s .1) in by-verdict no-offset (lineVerdict false (behind stood.Name r name) seen) refl)
-      (λ s. rw (unsound-verdict false (behind stood.Name r name) seen s, unsound-verdict false (behind stood.Offset r name) seen s)
+      (λ s. let no-offset = other (and-true (l .ended) (whole (l .chars)) s .1) in by-verdict no-offset (lineVerdict false numbers (behind stood.Name r name) seen) refl)
+      (λ s. rw (unsound-verdict false numbers (behind stood.Name r name) seen s, unsound-verdict false numbers (behind stood.Offset r name) seen s)
       (record { verdict = refl; complete = refl; chain = refl }))
     where
       seen : Seen
       seen = seenOf (l .ended) (l .chars)
 
-      by-verdict : (kindOf seen ≡ 2 → ⊥) → (v : Verdict) → lineVerdict false (behind stood.Name r name) seen ≡ v
-          → Alike (readLines false (behind stood.Name r name) (l ∷ ls)) (readLines false (behind stood.Offset r name) (l ∷ ls))
+      by-verdict : (kindOf seen ≡ 2 → ⊥) → (v : Verdict) → lineVerdict false numbers (behind stood.Name r name) seen ≡ v
+          → Alike (readLines false numbers (behind stood.Name r name) (l ∷ ls)) (readLines false numbers (behind stood.Offset r name) (l ∷ ls))
       by-verdict n verdict.Accepted e =
-          rw (e, sym (judged-alike r name seen n) ∙ e) (same-ends (ap (λ t. readLines false t ls) (taken-alike r name seen n (box-or-kernel r name seen n e))))
-      by-verdict n (verdict.Refused x) e = rw (e, sym (judged-alike r name seen n) ∙ e) (record { verdict = refl; complete = refl; chain = refl })
+          rw (e, sym (judged-alike numbers r name seen n) ∙ e) (same-ends (ap (λ t. readLines false numbers t ls) (taken-alike numbers r name seen n (box-or-kernel numbers r name seen n e))))
+      by-verdict n (verdict.Refused x) e = rw (e, sym (judged-alike numbers r name seen n) ∙ e) (record { verdict = refl; complete = refl; chain = refl })
 
   lines-alike : (rest : List ℕ) → (BeginsWithOffset rest → ⊥)
-      → Alike (readLines false (behind stood.Name r name) (linesOf rest)) (readLines false (behind stood.Offset r name) (linesOf rest))
+      → Alike (readLines false numbers (behind stood.Name r name) (linesOf rest)) (readLines false numbers (behind stood.Offset r name) (linesOf rest))
   unfolding linesOf readLines complete closes
   lines-alike [] h = record { verdict = refl; complete = refl; chain = refl }
   lines-alike (b ∷ bs) h =
@@ -213,55 +235,74 @@ module _ (r : Reading) (name : ℕ) where
 alike-by : {a b c d : LineStep} → a ≡ b → c ≡ d → Alike b d → Alike a c
 alike-by p q h = rw (p, q) h
 
-module _ (name : ℕ) (sizes rest : List ℕ) (h : isName name ≡ true) (none-first : BeginsWithOffset rest → ⊥) where
-  abbrev first : Seen
-  first = seenOf true (gridLine name sizes .chars)
+module _ (name : ℕ) (first rest : List ℕ) (h : isName name ≡ true) (on : FirstLine (namedOf name .dims) first) (none-first : BeginsWithOffset rest → ⊥) where
+  abbrev seen : Seen
+  seen = seenOf true (digitsOf first)
 
   abbrev r : Reading
-  r = withGrid start (gridBytes name sizes)
+  r = taken start (firstBytes first)
 
-  behind-grid : Alike (readLines false r (linesOf (framed (7 ∷ name ∷ []) ++ rest)))
-      (readLines false r (linesOf (flatMap framed (map offsetLine (offsetsNamed name)) ++ rest)))
-  unfolding withGrid
+  abbrev numbers : List ℕ
+  numbers = numbersOn (bytesOf (digitsOf first))
+
+  behind-grid : Alike (readLines false numbers r (linesOf (framed (7 ∷ name ∷ []) ++ rest)))
+      (readLines false numbers r (linesOf (flatMap framed (map offsetLine (offsetsNamed name)) ++ rest)))
   behind-grid =
-      let dims : r .chain .grid .dims ≡ namedOf name .dims = grid-heads name h sizes .1 in
+      let grid = first-taken name h first on in
+      let dims : dimsOf (r .chain .grid) ≡ namedOf name .dims = grid .dims in
+      let none : r .chain .window .count ≡ 0 = ap (λ (w : Window). w .count) (grid .blank) in
       let (fit, few, most) = named-fit name h in
       alike-by
-      (line-goes false r (behind stood.Name r name) (7 ∷ name ∷ []) rest (name-small name h) (name-goes name h r refl refl dims))
-      (offsets-read false (offsetsNamed name) r rest (inl refl) (omega (arith, dims, most)) (rw dims fit) (omega arith)
-      ∙ ap (λ t. readLines false t (linesOf rest)) (named-added name h r))
-      (lines-alike r name rest none-first)
+      (line-goes false numbers r (behind stood.Name r name) (7 ∷ name ∷ []) rest (name-small name h) (name-goes numbers name h r grid))
+      (offsets-read false numbers (offsetsNamed name) r rest (inl (grid .last)) (omega (arith, dims, most)) (rw dims fit) (omega (arith, none, few))
+      ∙ ap (λ t. readLines false numbers t (linesOf rest)) (named-added name h r))
+      (lines-alike numbers r name rest none-first)
 
-  read-alike : Alike (readLines false start (linesOf (byName name sizes rest))) (readLines false start (linesOf (writtenOut name sizes rest)))
+  read-alike : Alike (readLines false numbers start (linesOf (byName name first rest))) (readLines false numbers start (linesOf (writtenOut name first rest)))
   unfolding readLines stepOf
   read-alike =
       alike-by
-      (ap (readLines false start) (frame-line (1 ∷ namedOf name .dims ∷ sizes) _))
-      (ap (readLines false start) (frame-line (1 ∷ namedOf name .dims ∷ sizes) _))
-      (go (lineVerdict false start first) refl)
+      (ap (readLines false numbers start) (frame-line first _))
+      (ap (readLines false numbers start) (frame-line first _))
+      (go (lineVerdict false numbers start seen) refl)
     where
-      go : (v : Verdict) → lineVerdict false start first ≡ v
-          → Alike (readLines false start (gridLine name sizes ∷ linesOf (framed (7 ∷ name ∷ []) ++ rest)))
-          (readLines false start (gridLine name sizes ∷ linesOf (flatMap framed (map offsetLine (offsetsNamed name)) ++ rest)))
-      go verdict.Accepted e = rw (e, taken-grid start (gridBytes name sizes) (grid-heads name h sizes .0)) behind-grid
+      go : (v : Verdict) → lineVerdict false numbers start seen ≡ v
+          → Alike (readLines false numbers start (lineWith first ∷ linesOf (framed (7 ∷ name ∷ []) ++ rest)))
+          (readLines false numbers start (lineWith first ∷ linesOf (flatMap framed (map offsetLine (offsetsNamed name)) ++ rest)))
+      go verdict.Accepted e = rw e behind-grid
       go (verdict.Refused x) e = rw e (same-ends refl)
 
 -- What reading a request says of the end of its lines.
-answered : Verdict → Bool → Chain → ReadRequest
-answered v whole c =
-    let w = byVerdict v (cond whole (judgeRequest (requestOf c) []) (verdict.Refused refusal.Misplaced)) verdict.Refused in
+answered : List ℕ → Verdict → Bool → Chain → ReadRequest
+answered numbers v whole c =
+    let w = byVerdict v (cond whole (judgeRequest (requestOf c) numbers) (verdict.Refused refusal.Misplaced)) verdict.Refused in
     record { verdict = w; request = requestOf (byVerdict w c (λ x. blankChain)) }
 
-requests-alike : (one other : List ℕ) → Alike (readLines false start (linesOf one)) (readLines false start (linesOf other)) → readRequest one ≡ readRequest other
-unfolding answered readRequest endVerdict
-requests-alike one other a i = answered (a .verdict i) (a .complete i) (a .chain i)
+module _ (one other numbers : List ℕ) (p : numbersIn one ≡ numbers) (q : numbersIn other ≡ numbers) where
+  read-by : (sheet : List ℕ) → numbersIn sheet ≡ numbers
+      → (let s = readLines false numbers start (linesOf sheet) in readRequest sheet ≡ answered numbers (s .verdict) (complete (s .reading)) (s .reading .chain))
+  unfolding answered readRequest endVerdict
+  read-by sheet e =
+      ap (λ (ns : List ℕ). let s = readLines false ns start (linesOf sheet) in answered ns (s .verdict) (complete (s .reading)) (s .reading .chain)) e
+
+  requests-alike : Alike (readLines false numbers start (linesOf one)) (readLines false numbers start (linesOf other)) → readRequest one ≡ readRequest other
+  requests-alike a = read-by one p ∙ (λ i. answered numbers (a .verdict i) (a .complete i) (a .chain i)) ∙ sym (read-by other q)
+
+planned : ReadRequest → List ℕ → List ℕ
+planned r rows = byVerdict (r .verdict) (sheetOf (plannedChain (r .request) rows) rows) refusalText
 
 pub by-its-name : ByName
-unfolding planText
-by-its-name name sizes rest h n =
-    let e = requests-alike _ _ (read-alike name sizes rest h n) in
+unfolding planText planned
+by-its-name name first rest h on n =
+    let one = byName name first rest in
+    let other = writtenOut name first rest in
+    let p = first-numbers first (framed (7 ∷ name ∷ []) ++ rest) in
+    let q = first-numbers first (flatMap framed (map offsetLine (offsetsNamed name)) ++ rest) in
+    let e = requests-alike one other (numbersOn (bytesOf (digitsOf first))) p q (read-alike name first rest h on n) in
+    let rows = p ∙ sym q in
     record {
       read = e;
-      plan = ap (λ r. planOf (r .request) []) e;
-      text = ap (λ r. byVerdict (r .verdict) (sheetOf (plannedChain (r .request) [])) refusalText) e;
+      rows = rows;
+      plan = λ i. planOf (e i .request) (rows i);
+      text = λ i. planned (e i) (rows i);
     }

@@ -1,6 +1,6 @@
 -- What reading the sheet of a chain gives back: the same chain, with 0 past its counts.
 use Prim.Native.Nat.{ℕ, zero, suc, _+_, _-_, _*_, _/_, _%_, _≤_, _<_}
-use mathlib.Core.Bool.{Bool, false, cond}
+use mathlib.Core.Bool.{Bool, true, false, cond}
 use mathlib.Core.List.{List, []}
 use mathlib.Core.Path.{_≡_, refl, sym, ap, _∙_}
 use native.Mathlib.Omega.{arith}
@@ -14,9 +14,9 @@ use Rattle.model.specs.declared.Grid.{Grid}
 use Rattle.model.specs.declared.Order.{Order}
 use Rattle.model.specs.declared.Window.{Window}
 use Rattle.model.specs.Lists.{tabulate}
-use Rattle.model.specs.Values.{sizesOf, entryOf, offsetOf, offsetsOf, capacityOf, capacitiesOf, orderOf, partOf, trimmed, boundsOf, gridOf, chainOf}
+use Rattle.model.specs.Values.{sizesOf, groundOf, dimsOf, entryOf, offsetOf, offsetsOf, capacityOf, capacitiesOf, orderOf, partOf, trimmed, boundsOf, sizeArray, normalGrid, chainOf}
 use Rattle.model.proofs.ListLaws.{length-tabulate, getD-tabulate}
-use Rattle.model.proofs.ChainLaws.{dims-flat, ground-flat, same-normal}
+use Rattle.model.proofs.ChainLaws.{grid-normal, same-normal}
 use Rattle.sheet_laws.proofs.Cases.{by-lt}
 use Rattle.sheet_laws.proofs.AcceptedChains.{Accepted}
 use Rattle.sheet_laws.proofs.SheetRows.{tabulate-same}
@@ -46,9 +46,9 @@ readOrder n stood filters = record { stood = stood; filters = tabulate 32 (λ t.
 
 unfoldable pub readBack : Chain → Chain
 readBack c = record {
-  grid = record { skewed = false; rows = 0; dims = c .grid .dims; sizes = readSizes (c .grid) };
-  window = record { count = c .window .count; offsets = readOffsets (c .grid .dims) (c .window) (c .window .count) };
-  bounds = boundsOf (partOf (c .grid .dims) (c .bounds));
+  grid = normalGrid (c .grid);
+  window = record { count = c .window .count; offsets = readOffsets (dimsOf (c .grid)) (c .window) (c .window .count) };
+  bounds = boundsOf (partOf (dimsOf (c .grid)) (c .bounds));
   capacities = readCapacities (c .capacities) (c .window .count - 1);
   order = readOrder (c .window .count) (c .order .stood) (c .order .filters);
   kernel = c .kernel;
@@ -144,10 +144,52 @@ normal-capacities c few =
     (λ l. past-capacities a n k l ∙ sym (List·getD-eq-default (tabulate n (λ i. capacityOf c i)) 0 {n = k} (rw length-tabulate l)))
     ∙ sym (getD-tabulate 31 _ k 0 (omega (arith, length-capacities a n))))
 
-pub normal-chain : (c : Chain) → Accepted c → readBack c ≡ chainOf (trimmed c [])
-unfolding readBack gridOf chainOf trimmed readOrder orderOf
-normal-chain c ok = rw (dims-flat (c .grid) (ok .flat), ground-flat (c .grid) (ok .flat) [], normal-sizes (c .grid), normal-offsets (c .grid .dims) (c .window) (ok .few), normal-capacities c (ok .few))
+-- A grid in its normal form, by its kind; it has as many dimensions.
+abbrev normalAs : Grid → (skewed : Bool) → Grid
+normalAs g skewed = record { skewed = skewed; rows = cond skewed (g .rows) 0; dims = cond skewed 2 (g .dims); sizes = sizeArray (cond skewed [] (sizesOf g)) }
 
--- And so the same chain.
-pub same-chain : (c : Chain) → Accepted c → trimmed (readBack c) [] ≡ trimmed c []
-same-chain c ok = ap (λ (d : Chain). trimmed d []) (normal-chain c ok) ∙ same-normal c [] (omega (arith, dims-flat (c .grid) (ok .flat), ok .few-dims)) (ok .few)
+pub normal-flat : (g : Grid) → g .skewed ≡ false → record { skewed = false; rows = 0; dims = g .dims; sizes = readSizes g } ≡ normalGrid g
+unfolding dimsOf
+normal-flat g flat = (λ i. record { skewed = false; rows = 0; dims = g .dims; sizes = normal-sizes g i }) ∙ ap (normalAs g) (sym flat)
+
+pub normal-skewed : (g : Grid) → g .skewed ≡ true → record { skewed = true; rows = g .rows; dims = 2; sizes = replicate 4 0 } ≡ normalGrid g
+unfolding dimsOf tabulate
+normal-skewed g skewed = ap (normalAs g) (sym skewed)
+
+pub normal-dims : (g : Grid) → dimsOf (normalGrid g) ≡ dimsOf g
+unfolding dimsOf
+normal-dims g = go (g .skewed)
+  where
+    go : (skewed : Bool) → cond skewed 2 (cond skewed 2 (g .dims)) ≡ cond skewed 2 (g .dims)
+    go true = refl
+    go false = refl
+
+pub normal-chain : (c : Chain) (numbers : List ℕ) → c .window .count ≤ 32 → readBack c ≡ chainOf (trimmed c numbers)
+unfolding readBack chainOf trimmed readOrder orderOf
+normal-chain c numbers few = λ i. record {
+  grid = sym (grid-normal (c .grid) numbers) i;
+  window = record { count = c .window .count; offsets = normal-offsets (dimsOf (c .grid)) (c .window) few i };
+  bounds = boundsOf (partOf (dimsOf (c .grid)) (c .bounds));
+  capacities = normal-capacities c few i;
+  order = record { stood = c .order .stood; filters = tabulate 32 (λ t. getD (cond (c .order .stood) (tabulate (c .window .count) (λ i. getD (c .order .filters) i 0)) []) t 0) };
+  kernel = c .kernel;
+}
+
+-- And so the same chain, with rows that are the same.
+same-rows : (c : Chain) (one other : List ℕ) → groundOf (c .grid) one ≡ groundOf (c .grid) other → trimmed c one ≡ trimmed c other
+unfolding trimmed
+same-rows c one other e = λ i. record {
+  dims = dimsOf (c .grid);
+  ground = e i;
+  count = c .window .count;
+  offsets = offsetsOf (dimsOf (c .grid)) (c .window);
+  part = partOf (dimsOf (c .grid)) (c .bounds);
+  capacities = capacitiesOf c;
+  ordered = c .order .stood;
+  order = orderOf (c .window .count) (c .order);
+  kernel = c .kernel;
+}
+
+pub same-chain : (c : Chain) (numbers told : List ℕ) → Accepted c numbers → groundOf (c .grid) told ≡ groundOf (c .grid) numbers → trimmed (readBack c) told ≡ trimmed c numbers
+same-chain c numbers told ok e =
+    ap (λ (d : Chain). trimmed d told) (normal-chain c told (ok .few)) ∙ same-normal c told (ok .few-dims) (ok .few) ∙ same-rows c told numbers e

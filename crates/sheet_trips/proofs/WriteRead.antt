@@ -14,36 +14,40 @@ use lib.Signed.{mag}
 use borrow.Author.Tests.{eq-eqb, ne-eqb, lt-leb, lt-ltb, le-ltb}
 use Rattle.model.specs.declared.Bounds.{Bounds}
 use Rattle.model.specs.declared.Chain.{Chain}
+use Rattle.model.specs.declared.Grid.{Grid}
 use Rattle.model.specs.declared.Kernel.{Kernel}
 use Rattle.model.specs.declared.Kernel.the-variants as kernel
 use Rattle.model.specs.declared.Last.{Last}
 use Rattle.model.specs.declared.Last.the-variants as stood
+use Rattle.model.specs.declared.ReadChain.{ReadChain}
 use Rattle.model.specs.declared.Reading.{Reading}
 use Rattle.model.specs.declared.Verdict.the-variants as verdict
 use Rattle.model.specs.Boxes.Part.{box}
 use Rattle.model.specs.Lists.{tabulate, upTo as firstNumbers, any}
-use Rattle.model.specs.Values.{sizesOf, entryOf, offsetOf, capacityOf, orderOf, partOf, noBounds, boundsOf, noOrder, setOrder, trimmed}
-use Rattle.model.specs.Judging.{badDims, badSizes, judgeChain}
+use Rattle.model.specs.Values.{sizesOf, rowsOf, groundOf, dimsOf, entryOf, offsetOf, capacityOf, orderOf, partOf, noBounds, boundsOf, noOrder, normalGrid, blankChain, setGrid, setOrder, trimmed}
+use Rattle.model.specs.Grounds.Ground.{rows}
+use Rattle.model.specs.Judging.{badDims, badSizes, badRowCount, badRows, judgeChain}
 use Rattle.model.specs.Lines.{linesOf}
 use Rattle.model.specs.Frames.{kept, padded, framed}
 use Rattle.model.specs.Numbers.{byteAt, wordAt, wordBytes, signedWord, wordPattern}
 use Rattle.model.specs.Reading.{badKernel, badForm, malformed, nextInChain, miscounted, among, misplaced, badLength, sizesIn, lowestIn, highestIn, kernelIn}
-use Rattle.model.specs.Reading.{withGrid, withBox, withCapacity, withOrder, withKernel, start, closes, complete, readLines, endVerdict, readChain}
-use Rattle.model.specs.Writing.{offsetLine, indexPair, capacityLine, kernelLine, sheetOf}
+use Rattle.model.specs.Reading.{numbersOn, taken, withGrid, withRows, withBox, withCapacity, withOrder, withKernel, start, closes, complete, readLines, endVerdict, numbersIn, readChain}
+use Rattle.model.specs.Writing.{gridLine, offsetLine, indexPair, capacityLine, kernelLine, chainLines, sheetOf}
 use Rattle.model.proofs.ListLaws.{length-tabulate, getD-tabulate}
-use Rattle.model.proofs.ChainLaws.{length-order}
+use Rattle.model.proofs.ChainLaws.{length-order, dims-flat, ground-flat, ground-skewed}
 use Rattle.model.proofs.TermLaws.{order-below}
-use Rattle.sheet_laws.specs.Rows.{gridRow, toCapacities, linesBehind, linesFrom}
-use Rattle.sheet_laws.proofs.Cases.{by-lt}
-use Rattle.sheet_laws.proofs.AcceptedLines.{taken-grid, taken-box, taken-capacity, taken-order, taken-kernel}
-use Rattle.sheet_laws.proofs.AcceptedChains.{Accepted, accepted-chain}
-use Rattle.sheet_laws.proofs.SheetLength.{pairs-length}
-use Rattle.sheet_laws.proofs.SheetRows.{offset-front, line-grid, line-offset, line-box, line-capacity, line-order, line-kernel, sheet-rows}
+use Rattle.sheet_laws.specs.Rows.{gridRow, rowsLine, toCapacities, linesBehind, lineAt, linesFrom}
+use Rattle.sheet_laws.proofs.Cases.{by-bool, by-lt}
+use Rattle.sheet_laws.proofs.AcceptedLines.{taken-grid, taken-rows, taken-box, taken-capacity, taken-order, taken-kernel}
+use Rattle.sheet_laws.proofs.AcceptedChains.{number-fits, some-rows, few-rows, no-bad-row, Accepted, accepted-chain}
+use Rattle.sheet_laws.proofs.SheetLength.{pairs-length, rows-length}
+use Rattle.sheet_laws.proofs.SheetRows.{grid-front, rows-line, offset-front, line-offset, line-box, line-capacity, line-order, line-kernel, sheet-rows}
 use Rattle.sheet_trips.specs.RoundTrips.{FactorsFit, InRange, WriteRead}
 use Rattle.sheet_trips.proofs.Bytes.{Small, small-each, small-append, small-take, small-word, lineSeen, past, filters-read}
 use Rattle.sheet_trips.proofs.Bytes.Small.{none, more}
 use Rattle.sheet_trips.proofs.Values.{signed-word-pattern, word-pattern-small}
-use Rattle.sheet_trips.proofs.ReadBack.{upTo, readSizes, readEntries, readOffsets, readCapacities, readOrder, readBack, same-chain, normal-chain}
+use Rattle.sheet_trips.proofs.RowLines.{written-numbers, small-rows, number-back, rows-heads, rows-same}
+use Rattle.sheet_trips.proofs.ReadBack.{upTo, readSizes, readEntries, readOffsets, readCapacities, readOrder, readBack, normal-flat, normal-skewed, normal-dims, normal-chain, same-chain}
 use Rattle.sheet_trips.proofs.LineGoes.{all-clear, Goes, line-goes, four, small-offset, offset-goes}
 
 -- What stood last behind k offsets, a box or none, and g capacities.
@@ -58,8 +62,8 @@ midway c b k g = record {
   last = lastOf (b .stood) k g;
   given = g;
   chain = record {
-    grid = record { skewed = false; rows = 0; dims = c .grid .dims; sizes = readSizes (c .grid) };
-    window = record { count = k; offsets = readOffsets (c .grid .dims) (c .window) k };
+    grid = normalGrid (c .grid);
+    window = record { count = k; offsets = readOffsets (dimsOf (c .grid)) (c .window) k };
     bounds = b;
     capacities = readCapacities (c .capacities) g;
     order = noOrder;
@@ -69,7 +73,7 @@ midway c b k g = record {
 
 -- The chain's own bounds, read.
 abbrev readBounds : Chain → Bounds
-readBounds c = boundsOf (partOf (c .grid .dims) (c .bounds))
+readBounds c = boundsOf (partOf (dimsOf (c .grid)) (c .bounds))
 
 -- Before the kernel, where an order stood or did not.
 abbrev toKernel : Chain → (ordered : Bool) → Reading
@@ -80,6 +84,10 @@ toKernel c ordered =
       given = n - 1;
       chain = setOrder (readOrder n ordered (c .order .filters)) (midway c (readBounds c) n (n - 1) .chain);
     }
+
+-- Behind the first line, which gives the grid.
+abbrev onlyGrid : Grid → Reading
+onlyGrid g = record { last = stood.Grid; given = 0; chain = setGrid g blankChain }
 
 -- A byte of the padded front of a row.
 module _ (n : ℕ) (row : List ℕ) (h : n ≤ length row) (l : n ≤ kept) where
@@ -175,67 +183,151 @@ kernel-comes true false (suc n) zero h = ap not (eq-eqb _ _ h)
 kernel-comes false false (suc n) zero h = ap not (eq-eqb _ _ h)
 kernel-comes boxed false (suc n) (suc g) h = ap not (eq-eqb _ _ h)
 
-module _ (c : Chain) (range : InRange c) (ok : Accepted c) where
-  abbrev dims : ℕ
-  dims = c .grid .dims
-
+-- `numbers` stand beside the chain, `told` are those on the first line of its sheet.
+module _ (c : Chain) (numbers told : List ℕ) (range : InRange c) (ok : Accepted c numbers) where
   abbrev count : ℕ
   count = c .window .count
 
-  -- The grid's line.
-  abbrev gridBytes : List ℕ
-  gridBytes = take (2 + 4 * dims) (gridRow (c .grid))
+  -- The grid's line, of a rectangle.
+  module _ (flat : c .grid .skewed ≡ false) where
+    abbrev sizes : ℕ
+    sizes = c .grid .dims
 
-  grid-fits : 2 + 4 * dims ≤ length (gridRow (c .grid))
-  unfolding gridRow wordBytes
-  grid-fits = omega (arith, ok .few-dims)
+    few-sizes : sizes ≤ 4
+    few-sizes = omega (arith, ok .few-dims, dims-flat (c .grid) flat)
 
-  grid-short : 2 + 4 * dims ≤ kept
-  grid-short = omega (arith, ok .few-dims)
+    abbrev gridBytes : List ℕ
+    gridBytes = take (2 + 4 * sizes) (gridRow (c .grid))
 
-  grid-heads : (byteAt (padded gridBytes) 0 ≡ 1) × (byteAt (padded gridBytes) 1 ≡ dims)
-  unfolding gridRow
-  grid-heads =
-      (byte-in (2 + 4 * dims) (gridRow (c .grid)) grid-fits grid-short 0 (omega arith), byte-in (2 + 4 * dims) (gridRow (c .grid)) grid-fits grid-short 1 (omega arith))
+    grid-fits : 2 + 4 * sizes ≤ length (gridRow (c .grid))
+    unfolding gridRow wordBytes
+    grid-fits = omega (arith, few-sizes)
 
-  size-in : (i d : ℕ) → i + 3 < kept → (d < dims → i + 4 ≤ 2 + 4 * dims) → (dims ≤ d → 2 + 4 * dims ≤ i)
-      → (let w = getD (c .grid .sizes) d 0 in let row = gridRow (c .grid) in
-      byteAt row i ≡ w / 16777216 → byteAt row (i + 1) ≡ w / 65536 % 256 → byteAt row (i + 2) ≡ w / 256 % 256 → byteAt row (i + 3) ≡ w % 256
-      → wordAt (padded gridBytes) i ≡ upTo 0 dims d w)
-  size-in i d t inside outside = word-in (2 + 4 * dims) (gridRow (c .grid)) grid-fits grid-short i d dims (getD (c .grid .sizes) d 0) t inside outside (range .sizes d)
+    grid-short : 2 + 4 * sizes ≤ kept
+    grid-short = omega (arith, few-sizes)
 
-  grid-sizes : sizesIn (padded gridBytes) ≡ readSizes (c .grid)
-  unfolding sizesIn readSizes tabulate gridRow wordBytes
-  grid-sizes =
-      rw (
-        size-in 2 0 (omega arith) (λ q. omega arith) (λ q. omega arith) refl refl refl refl,
-        size-in 6 1 (omega arith) (λ q. omega arith) (λ q. omega arith) refl refl refl refl,
-        size-in 10 2 (omega arith) (λ q. omega arith) (λ q. omega arith) refl refl refl refl,
-        size-in 14 3 (omega arith) (λ q. omega arith) (λ q. omega arith) refl refl refl refl,
-      )
+    grid-heads : (byteAt (padded gridBytes) 0 ≡ 1) × (byteAt (padded gridBytes) 1 ≡ sizes)
+    unfolding gridRow
+    grid-heads =
+        (byte-in (2 + 4 * sizes) (gridRow (c .grid)) grid-fits grid-short 0 (omega arith), byte-in (2 + 4 * sizes) (gridRow (c .grid)) grid-fits grid-short 1 (omega arith))
 
-  good-sizes : badSizes (take dims (readSizes (c .grid))) ≡ false
-  unfolding readSizes sizesOf
-  good-sizes = ap badSizes (front-sizes dims (λ d. getD (c .grid .sizes) d 0) (ok .few-dims)) ∙ ok .sizes
+    size-in : (i d : ℕ) → i + 3 < kept → (d < sizes → i + 4 ≤ 2 + 4 * sizes) → (sizes ≤ d → 2 + 4 * sizes ≤ i)
+        → (let w = getD (c .grid .sizes) d 0 in let row = gridRow (c .grid) in
+        byteAt row i ≡ w / 16777216 → byteAt row (i + 1) ≡ w / 65536 % 256 → byteAt row (i + 2) ≡ w / 256 % 256 → byteAt row (i + 3) ≡ w % 256
+        → wordAt (padded gridBytes) i ≡ upTo 0 sizes d w)
+    size-in i d t inside outside = word-in (2 + 4 * sizes) (gridRow (c .grid)) grid-fits grid-short i d sizes (getD (c .grid .sizes) d 0) t inside outside (range .sizes d)
 
-  grid-goes : Goes true start gridBytes (midway c noBounds 0 0)
-  unfolding lastOf withGrid malformed badForm misplaced among any nextInChain miscounted badDims badLength readOffsets readCapacities
-  grid-goes =
-      let heads = grid-heads in
-      let l : length gridBytes ≡ 2 + 4 * dims = length-take-le (2 + 4 * dims) (gridRow (c .grid)) grid-fits in
-      let p : 2 ≤ 2 + 4 * dims = omega arith in
-      let z : 2 + 4 * dims ≡ 0 → ⊥ = λ e. omega arith in
-      let some : dims ≡ 0 → ⊥ = λ e. omega (arith, ok .some-dims) in (
-        all-clear true start (lineSeen gridBytes)
-            (rw (heads .0, l, ne-eqb _ _ z, le-ltb _ _ p))
-            (rw (heads .0))
-            (rw (heads .0, heads .1, ne-eqb _ _ some, le-ltb _ _ (ok .few-dims)))
-            (rw (heads .0, heads .1, l, eq-eqb (2 + 4 * dims) (2 + 4 * dims) refl))
-            (rw (heads .0, heads .1, grid-sizes) good-sizes)
-            (rw (heads .0))
-            (rw (heads .0)),
-        taken-grid start (padded gridBytes) (heads .0) ∙ rw (heads .1, grid-sizes),
-      )
+    grid-sizes : sizesIn (padded gridBytes) ≡ readSizes (c .grid)
+    unfolding sizesIn readSizes tabulate gridRow wordBytes
+    grid-sizes =
+        rw (
+          size-in 2 0 (omega arith) (λ q. omega arith) (λ q. omega arith) refl refl refl refl,
+          size-in 6 1 (omega arith) (λ q. omega arith) (λ q. omega arith) refl refl refl refl,
+          size-in 10 2 (omega arith) (λ q. omega arith) (λ q. omega arith) refl refl refl refl,
+          size-in 14 3 (omega arith) (λ q. omega arith) (λ q. omega arith) refl refl refl refl,
+        )
+
+    good-sizes : badSizes (take sizes (readSizes (c .grid))) ≡ false
+    unfolding readSizes sizesOf
+    good-sizes = ap badSizes (front-sizes sizes (λ d. getD (c .grid .sizes) d 0) few-sizes) ∙ ok .sizes flat
+
+    sizes-taken : taken start (padded gridBytes) ≡ midway c noBounds 0 0
+    unfolding lastOf withGrid readOffsets readCapacities
+    sizes-taken =
+        taken-grid start (padded gridBytes) (grid-heads .0)
+        ∙ rw (grid-heads .1, grid-sizes) (ap (λ (g : Grid). onlyGrid g) (normal-flat (c .grid) flat))
+
+    sizes-goes : Goes true told start gridBytes (midway c noBounds 0 0)
+    unfolding malformed badForm misplaced among any nextInChain miscounted badDims badLength
+    sizes-goes =
+        let heads = grid-heads in
+        let l : length gridBytes ≡ 2 + 4 * sizes = length-take-le (2 + 4 * sizes) (gridRow (c .grid)) grid-fits in
+        let p : 2 ≤ 2 + 4 * sizes = omega arith in
+        let z : 2 + 4 * sizes ≡ 0 → ⊥ = λ e. omega arith in
+        let some : sizes ≡ 0 → ⊥ = λ e. omega (arith, ok .some-dims, dims-flat (c .grid) flat) in (
+          all-clear true told start (lineSeen gridBytes)
+              (rw (heads .0, l, ne-eqb _ _ z, le-ltb _ _ p))
+              (rw (heads .0))
+              (rw (heads .0, heads .1, ne-eqb _ _ some, le-ltb _ _ few-sizes))
+              (rw (heads .0))
+              (rw (heads .0, heads .1, l, eq-eqb (2 + 4 * sizes) (2 + 4 * sizes) refl))
+              (rw (heads .0, heads .1, grid-sizes) good-sizes)
+              (rw (heads .0))
+              (rw (heads .0))
+              (rw (heads .0)),
+          sizes-taken,
+        )
+
+    small-sizes : Small gridBytes
+    unfolding gridRow
+    small-sizes =
+        small-take (2 + 4 * sizes)
+        (more {b = 1} (omega arith)
+        (more {b = sizes} (omega (arith, few-sizes)) (small-append (size 0) (small-append (size 1) (small-append (size 2) (size 3))))))
+      where
+        size : (d : ℕ) → Small (wordBytes (getD (c .grid .sizes) d 0))
+        size d = small-word _ (range .sizes d)
+
+  -- Of rows.
+  module _ (skewed : c .grid .skewed ≡ true) where
+    abbrev rowCount : ℕ
+    rowCount = c .grid .rows
+
+    abbrev rowBytes : List ℕ
+    rowBytes = rowsLine rowCount numbers
+
+    fine : badRows (rowsOf rowCount numbers) ≡ false
+    fine = ok .rows skewed
+
+    few-of-them : rowCount ≤ 512
+    few-of-them = few-rows rowCount numbers fine
+
+    small-numbers : Small rowBytes
+    small-numbers = small-rows rowCount numbers few-of-them (number-fits rowCount numbers (no-bad-row rowCount numbers fine))
+
+    rows-taken : taken start (padded rowBytes) ≡ midway c noBounds 0 0
+    unfolding lastOf withRows readOffsets readCapacities
+    rows-taken =
+        let heads = rows-heads rowCount numbers in
+        taken-rows start (padded rowBytes) (heads .0)
+        ∙ rw (heads .1) (ap (λ (g : Grid). onlyGrid g) (normal-skewed (c .grid) skewed))
+
+    rows-goes : rowsOf rowCount told ≡ rowsOf rowCount numbers → Goes true told start rowBytes (midway c noBounds 0 0)
+    unfolding malformed badForm misplaced among any nextInChain miscounted badRowCount badLength
+    rows-goes again =
+        let heads = rows-heads rowCount numbers in
+        let l : length rowBytes ≡ 3 + 4 * rowCount = rows-length rowCount numbers in
+        let p : 3 ≤ 3 + 4 * rowCount = omega arith in
+        let z : 3 + 4 * rowCount ≡ 0 → ⊥ = λ e. omega arith in
+        let some : rowCount ≡ 0 → ⊥ = λ e. omega (arith, some-rows rowCount numbers fine) in (
+          all-clear true told start (lineSeen rowBytes)
+              (rw (heads .0, l, ne-eqb _ _ z, le-ltb _ _ p))
+              (rw (heads .0))
+              (rw (heads .0))
+              (rw (heads .0, heads .1, ne-eqb _ _ some, le-ltb _ _ few-of-them))
+              (rw (heads .0, heads .1, l, eq-eqb (3 + 4 * rowCount) (3 + 4 * rowCount) refl))
+              (rw (heads .0))
+              (rw (heads .0, heads .1, again) (no-bad-row rowCount numbers fine))
+              (rw (heads .0))
+              (rw (heads .0)),
+          rows-taken,
+        )
+
+  -- Of either kind.
+  small-grid : Small (gridLine (c .grid) numbers)
+  small-grid =
+      by-bool (c .grid .skewed)
+      (λ e. rw (rows-line (c .grid) numbers e) (small-numbers e))
+      (λ e. rw (grid-front (c .grid) numbers e (few-sizes e)) (small-sizes e))
+
+  grid-goes : (c .grid .skewed ≡ true → rowsOf (c .grid .rows) told ≡ rowsOf (c .grid .rows) numbers) → Goes true told start (gridLine (c .grid) numbers) (midway c noBounds 0 0)
+  grid-goes again =
+      by-bool (c .grid .skewed)
+      (λ e. rw (rows-line (c .grid) numbers e) (rows-goes e (again e)))
+      (λ e. rw (grid-front (c .grid) numbers e (few-sizes e)) (sizes-goes e))
+
+  abbrev dims : ℕ
+  dims = dimsOf (c .grid)
 
   -- An offset's line.
   entry-fits : (k d : ℕ) → mag (getD (offsetOf dims (c .window) k) d (pos 0)) < 32768
@@ -245,12 +337,12 @@ module _ (c : Chain) (range : InRange c) (ok : Accepted c) where
       (λ l. rw (getD-tabulate dims (λ i. entryOf (c .window) k i) d (pos 0) l) (range .entries (4 * k + d)))
       (λ l. rw (List·getD-eq-default (offsetOf dims (c .window) k) (pos 0) {n = d} (rw length-tabulate l)) (omega arith))
 
-  offset-read : (k : ℕ) → k < 32 → Goes true (midway c noBounds k 0) (offsetLine (offsetOf dims (c .window) k)) (midway c noBounds (suc k) 0)
+  offset-read : (k : ℕ) → k < 32 → Goes true told (midway c noBounds k 0) (offsetLine (offsetOf dims (c .window) k)) (midway c noBounds (suc k) 0)
   unfolding lastOf readOffsets readEntries offsetOf
   offset-read k less =
       let s : k + 1 ≡ suc k = omega arith in
       let l : length (offsetOf dims (c .window) k) ≡ dims = length-tabulate dims (λ i. entryOf (c .window) k i) in
-      let g = offset-goes true (midway c noBounds k 0) (offsetOf dims (c .window) k) (before-offset k) l (omega (arith, l, ok .few-dims)) (entry-fits k) less in
+      let g = offset-goes true told (midway c noBounds k 0) (offsetOf dims (c .window) k) (before-offset k) (l ∙ sym (normal-dims (c .grid))) (omega (arith, l, ok .few-dims)) (entry-fits k) less in
       (g .0, g .1 ∙ rw (s, front-entries dims (λ i. entryOf (c .window) k i) (ok .few-dims)))
 
   -- A capacity's line.
@@ -262,11 +354,11 @@ module _ (c : Chain) (range : InRange c) (ok : Accepted c) where
     unfolding capacityLine wordBytes padded wordAt
     capacity-word = let h = range .capacities k in omega arith
 
-    capacity-goes : Goes true (midway c b count k) (capacityLine places) (midway c b count (suc k))
+    capacity-goes : Goes true told (midway c b count k) (capacityLine places) (midway c b count (suc k))
     unfolding lastOf withCapacity malformed badForm badLength readCapacities capacityLine wordBytes padded
     capacity-goes =
         let s : k + 1 ≡ suc k = omega arith in (
-          all-clear true (midway c b count k) (lineSeen (capacityLine places)) refl (capacity-comes (b .stood) count k less) refl refl refl refl refl,
+          all-clear true told (midway c b count k) (lineSeen (capacityLine places)) refl (capacity-comes (b .stood) count k less) refl refl refl refl refl refl refl,
           taken-capacity (midway c b count k) (padded (capacityLine places)) refl ∙ rw (s, capacity-word, capacity-last (b .stood) count k less),
         )
 
@@ -348,18 +440,9 @@ small-kernel (kernel.Blend g) h =
     more {b = 4} (omega arith)
     (more {b = 3} (omega arith) (small-append (small-word _ (toBits-lt binary32 (g .a) (h .0))) (small-word _ (toBits-lt binary32 (g .b) (h .1)))))
 
-module _ (c : Chain) (range : InRange c) (ok : Accepted c) where
+module _ (c : Chain) (numbers told : List ℕ) (range : InRange c) (ok : Accepted c numbers) where
   abbrev n : ℕ
   n = c .window .count
-
-  small-grid : Small (gridRow (c .grid))
-  unfolding gridRow
-  small-grid =
-      more {b = 1} (omega arith)
-      (more {b = c .grid .dims} (omega (arith, ok .few-dims)) (small-append (size 0) (small-append (size 1) (small-append (size 2) (size 3)))))
-    where
-      size : (d : ℕ) → Small (wordBytes (getD (c .grid .sizes) d 0))
-      size d = small-word _ (range .sizes d)
 
   small-capacity : (k : ℕ) → Small (capacityLine (capacityOf c k))
   unfolding capacityLine
@@ -385,18 +468,20 @@ module _ (c : Chain) (range : InRange c) (ok : Accepted c) where
       })
       (filters-read n 6 order (length-order n (c .order) ∙ ap (λ (b : Bool). cond b n 0) is) ∙ ap (λ (b : Bool). tabulate 32 (λ t. getD (cond b (tabulate n (λ i. getD (c .order .filters) i 0)) []) t 0)) is)
 
-  order-goes : ordered ≡ true → Goes true (midway c (readBounds c) n (n - 1)) (6 ∷ order) (toKernel c true)
+  order-goes : ordered ≡ true → Goes true told (midway c (readBounds c) n (n - 1)) (6 ∷ order) (toKernel c true)
   unfolding malformed badForm badLength padded
   order-goes is =
       let e : n ≡ n - 1 + 1 = omega (arith, ok .some) in
       let l : length order ≡ cond ordered n 0 = length-order n (c .order) in
       let due : length (6 ∷ order) ≡ 1 + n = omega (arith, l ∙ ap (λ (b : Bool). cond b n 0) is) in
       let some : length (6 ∷ order) ≡ 0 → ⊥ = λ z. omega (arith, due) in (
-        all-clear true (midway c (readBounds c) n (n - 1)) (lineSeen (6 ∷ order))
+        all-clear true told (midway c (readBounds c) n (n - 1)) (lineSeen (6 ∷ order))
             (rw (ne-eqb _ _ some))
             (order-comes (readBounds c .stood) n (n - 1) e)
             refl
+            refl
             (rw (eq-eqb _ _ due))
+            refl
             refl
             refl
             refl,
@@ -406,14 +491,16 @@ module _ (c : Chain) (range : InRange c) (ok : Accepted c) where
   abbrev atEnd : Reading
   atEnd = record { last = stood.Kernel; given = n - 1; chain = readBack c }
 
-  kernel-goes : Goes true (toKernel c ordered) (kernelLine (c .kernel)) atEnd
+  kernel-goes : Goes true told (toKernel c ordered) (kernelLine (c .kernel)) atEnd
   unfolding withKernel badLength readBack
   kernel-goes =
       let head = kernel-head (c .kernel) in
       let e : n ≡ n - 1 + 1 = omega (arith, ok .some) in (
-        all-clear true (toKernel c ordered) (lineSeen (kernelLine (c .kernel)))
+        all-clear true told (toKernel c ordered) (lineSeen (kernelLine (c .kernel)))
             (head .0)
             (rw (head .1) (kernel-comes (readBounds c .stood) ordered n (n - 1) e))
+            (rw (head .1))
+            (rw (head .1))
             (rw (head .1))
             (rw (head .1))
             (rw (head .1))
@@ -423,7 +510,7 @@ module _ (c : Chain) (range : InRange c) (ok : Accepted c) where
       )
 
   offsets-read : (i k m : ℕ) → k + i ≡ n
-      → readLines true (midway c noBounds k 0) (linesOf (linesFrom c (1 + k) (i + m))) ≡ readLines true (midway c noBounds n 0) (linesOf (linesFrom c (1 + n) m))
+      → readLines true told (midway c noBounds k 0) (linesOf (linesFrom c numbers (1 + k) (i + m))) ≡ readLines true told (midway c noBounds n 0) (linesOf (linesFrom c numbers (1 + n) m))
   unfolding linesFrom
   offsets-read zero k m e =
       let f : k ≡ n = omega arith in
@@ -432,60 +519,62 @@ module _ (c : Chain) (range : InRange c) (ok : Accepted c) where
   offsets-read (suc i) k m e =
       let z : suc i + m ≡ suc (i + m) = omega arith in
       let y : 1 + k + 1 ≡ 1 + suc k = omega arith in
-      rw (z, line-offset c k (omega arith), ← offset-front (c .grid .dims) (c .window) k (ok .few-dims), y)
-      (line-goes true (midway c noBounds k 0) (midway c noBounds (suc k) 0) (offsetLine (offsetOf (c .grid .dims) (c .window) k)) _
-      (small-offset (offsetOf (c .grid .dims) (c .window) k) (entry-fits c range ok k)) (offset-read c range ok k (omega (arith, ok .few)))
+      rw (z, line-offset c numbers k (omega arith), ← offset-front (dimsOf (c .grid)) (c .window) k (ok .few-dims), y)
+      (line-goes true told (midway c noBounds k 0) (midway c noBounds (suc k) 0) (offsetLine (offsetOf (dimsOf (c .grid)) (c .window) k)) _
+      (small-offset (offsetOf (dimsOf (c .grid)) (c .window) k) (entry-fits c numbers told range ok k)) (offset-read c numbers told range ok k (omega (arith, ok .few)))
       ∙ offsets-read i (suc k) m (omega arith))
 
   -- The box's line, where it stood.
   abbrev boxed : Bool
   boxed = c .bounds .stood
 
-  bounds-read : boxed ≡ true → (let x = padded (boxBytes (c .grid .dims) (c .bounds)) in
+  bounds-read : boxed ≡ true → (let x = padded (boxBytes (dimsOf (c .grid)) (c .bounds)) in
       record { stood = true; lowest = lowestIn x; highest = highestIn x } ≡ readBounds c)
   unfolding partOf
-  bounds-read is = pairs-back (c .bounds) (range .lowest) (range .highest) (c .grid .dims) (ok .few-dims) ∙ rw is
+  bounds-read is = pairs-back (c .bounds) (range .lowest) (range .highest) (dimsOf (c .grid)) (ok .few-dims) ∙ rw is
 
-  box-goes : boxed ≡ true → Goes true (midway c noBounds n 0) (boxBytes (c .grid .dims) (c .bounds)) (midway c (readBounds c) n 0)
+  box-goes : boxed ≡ true → Goes true told (midway c noBounds n 0) (boxBytes (dimsOf (c .grid)) (c .bounds)) (midway c (readBounds c) n 0)
   unfolding withBox malformed badForm badLength padded firstNumbers
   box-goes is =
-      let bs = boxBytes (c .grid .dims) (c .bounds) in
-      let due : length bs ≡ 1 + 8 * c .grid .dims = omega (arith, pairs-length (c .bounds) (firstNumbers (c .grid .dims)), length-tabulate (c .grid .dims) (λ k. k)) in
+      let bs = boxBytes (dimsOf (c .grid)) (c .bounds) in
+      let due : length bs ≡ 1 + 8 * dimsOf (c .grid) = omega (arith, pairs-length (c .bounds) (firstNumbers (dimsOf (c .grid))), length-tabulate (dimsOf (c .grid)) (λ k. k)) in
       let some : length bs ≡ 0 → ⊥ = λ z. omega (arith, due) in (
-        all-clear true (midway c noBounds n 0) (lineSeen bs)
+        all-clear true told (midway c noBounds n 0) (lineSeen bs)
             (rw (ne-eqb _ _ some))
             (box-comes n (ok .some))
             refl
-            (rw (eq-eqb _ _ due))
+            refl
+            (rw (normal-dims (c .grid), eq-eqb _ _ due))
+            refl
             refl
             refl
             refl,
         taken-box (midway c noBounds n 0) (padded bs) refl ∙ rw (← box-last n (ok .some)) (ap (λ (b : Bounds). midway c b n 0) (bounds-read is)),
       )
 
-  box-read : (m : ℕ) → readLines true (midway c noBounds n 0) (linesOf (linesFrom c (1 + n) (cond boxed 1 0 + m)))
-      ≡ readLines true (midway c (readBounds c) n 0) (linesOf (linesFrom c (1 + toCapacities boxed n) m))
+  box-read : (m : ℕ) → readLines true told (midway c noBounds n 0) (linesOf (linesFrom c numbers (1 + n) (cond boxed 1 0 + m)))
+      ≡ readLines true told (midway c (readBounds c) n 0) (linesOf (linesFrom c numbers (1 + toCapacities boxed n) m))
   unfolding linesFrom partOf boundsOf
   box-read m = go boxed refl
     where
       go : (b : Bool) → boxed ≡ b
-          → readLines true (midway c noBounds n 0) (linesOf (linesFrom c (1 + n) (cond b 1 0 + m)))
-          ≡ readLines true (midway c (readBounds c) n 0) (linesOf (linesFrom c (1 + toCapacities b n) m))
+          → readLines true told (midway c noBounds n 0) (linesOf (linesFrom c numbers (1 + n) (cond b 1 0 + m)))
+          ≡ readLines true told (midway c (readBounds c) n 0) (linesOf (linesFrom c numbers (1 + toCapacities b n) m))
       go true e =
           let z : 1 + m ≡ suc m = omega arith in
           let y : 1 + (n + 1) ≡ 1 + n + 1 = omega arith in
           rw (z, y)
-          (ap (λ l. readLines true (midway c noBounds n 0) (linesOf (framed l ++ linesFrom c (1 + n + 1) m))) (line-box c e (ok .few-dims))
-          ∙ line-goes true (midway c noBounds n 0) (midway c (readBounds c) n 0) (boxBytes (c .grid .dims) (c .bounds)) (linesFrom c (1 + n + 1) m)
-          (small-box (c .bounds) (range .lowest) (range .highest) (c .grid .dims)) (box-goes e))
+          (ap (λ l. readLines true told (midway c noBounds n 0) (linesOf (framed l ++ linesFrom c numbers (1 + n + 1) m))) (line-box c numbers e (ok .few-dims))
+          ∙ line-goes true told (midway c noBounds n 0) (midway c (readBounds c) n 0) (boxBytes (dimsOf (c .grid)) (c .bounds)) (linesFrom c numbers (1 + n + 1) m)
+          (small-box (c .bounds) (range .lowest) (range .highest) (dimsOf (c .grid))) (box-goes e))
       go false e =
           let z : 0 + m ≡ m = omega arith in
           let y : 1 + (n + 0) ≡ 1 + n = omega arith in
           rw (z, y, e)
 
   capacities-read : (i k m : ℕ) → k + i + 1 ≡ n
-      → readLines true (midway c (readBounds c) n k) (linesOf (linesFrom c (1 + toCapacities boxed n + k) (i + m)))
-      ≡ readLines true (midway c (readBounds c) n (n - 1)) (linesOf (linesFrom c (toCapacities boxed n + n) m))
+      → readLines true told (midway c (readBounds c) n k) (linesOf (linesFrom c numbers (1 + toCapacities boxed n + k) (i + m)))
+      ≡ readLines true told (midway c (readBounds c) n (n - 1)) (linesOf (linesFrom c numbers (toCapacities boxed n + n) m))
   unfolding linesFrom
   capacities-read zero k m e =
       let f : k ≡ n - 1 = omega arith in
@@ -495,12 +584,12 @@ module _ (c : Chain) (range : InRange c) (ok : Accepted c) where
   capacities-read (suc i) k m e =
       let z : suc i + m ≡ suc (i + m) = omega arith in
       let y : 1 + toCapacities boxed n + k + 1 ≡ 1 + toCapacities boxed n + suc k = omega arith in
-      rw (z, line-capacity c k (omega arith), y)
-      (line-goes true (midway c (readBounds c) n k) (midway c (readBounds c) n (suc k)) (capacityLine (capacityOf c k)) _ (small-capacity k) (capacity-goes c range ok (readBounds c) k (omega arith))
+      rw (z, line-capacity c numbers k (omega arith), y)
+      (line-goes true told (midway c (readBounds c) n k) (midway c (readBounds c) n (suc k)) (capacityLine (capacityOf c k)) _ (small-capacity k) (capacity-goes c numbers told range ok (readBounds c) k (omega arith))
       ∙ capacities-read i (suc k) m (omega arith))
 
-  order-read : readLines true (midway c (readBounds c) n (n - 1)) (linesOf (linesFrom c (toCapacities boxed n + n) (cond ordered 1 0 + 1)))
-      ≡ readLines true (toKernel c ordered) (linesOf (linesFrom c (toCapacities boxed n + n + cond ordered 1 0) 1))
+  order-read : readLines true told (midway c (readBounds c) n (n - 1)) (linesOf (linesFrom c numbers (toCapacities boxed n + n) (cond ordered 1 0 + 1)))
+      ≡ readLines true told (toKernel c ordered) (linesOf (linesFrom c numbers (toCapacities boxed n + n + cond ordered 1 0) 1))
   unfolding linesFrom readOrder tabulate
   order-read = go ordered refl
     where
@@ -508,45 +597,81 @@ module _ (c : Chain) (range : InRange c) (ok : Accepted c) where
       at = toCapacities boxed n + n
 
       go : (b : Bool) → ordered ≡ b
-          → readLines true (midway c (readBounds c) n (n - 1)) (linesOf (linesFrom c at (cond b 1 0 + 1))) ≡ readLines true (toKernel c b) (linesOf (linesFrom c (at + cond b 1 0) 1))
+          → readLines true told (midway c (readBounds c) n (n - 1)) (linesOf (linesFrom c numbers at (cond b 1 0 + 1))) ≡ readLines true told (toKernel c b) (linesOf (linesFrom c numbers (at + cond b 1 0) 1))
       go true e =
-          ap (λ l. readLines true (midway c (readBounds c) n (n - 1)) (linesOf (framed l ++ linesFrom c (at + 1) 1))) (line-order c e (ok .some) (ok .few))
-          ∙ line-goes true (midway c (readBounds c) n (n - 1)) (toKernel c true) (6 ∷ order) (linesFrom c (at + 1) 1) small-order (order-goes e)
+          ap (λ l. readLines true told (midway c (readBounds c) n (n - 1)) (linesOf (framed l ++ linesFrom c numbers (at + 1) 1))) (line-order c numbers e (ok .some) (ok .few))
+          ∙ line-goes true told (midway c (readBounds c) n (n - 1)) (toKernel c true) (6 ∷ order) (linesFrom c numbers (at + 1) 1) small-order (order-goes e)
       go false e =
           let z : at ≡ at + 0 = omega arith in
-          ap (λ m. readLines true (toKernel c false) (linesOf (linesFrom c m 1))) z
+          ap (λ m. readLines true told (toKernel c false) (linesOf (linesFrom c numbers m 1))) z
 
-  all-read : readLines true start (linesOf (sheetOf c)) ≡ record { verdict = verdict.Accepted; reading = atEnd }
-  unfolding linesFrom readLines linesOf linesBehind
-  all-read =
+  all-read : (c .grid .skewed ≡ true → rowsOf (c .grid .rows) told ≡ rowsOf (c .grid .rows) numbers)
+      → readLines true told start (linesOf (sheetOf c numbers)) ≡ record { verdict = verdict.Accepted; reading = atEnd }
+  unfolding linesFrom lineAt readLines linesOf linesBehind
+  all-read again =
       let b : ℕ = cond boxed 1 0 in
       let s : ℕ = cond ordered 1 0 in
       let a : ℕ = 1 + toCapacities boxed n in
       let z : linesBehind boxed ordered n + 1 ≡ suc (n + (b + (n - 1 + (s + 1)))) = omega (arith, ok .some) in
       let y : a + 0 ≡ a = omega arith in
-      rw (sheet-rows c (ok .few-dims) (ok .some) (ok .few) (ok .flat), z, line-grid c (ok .flat) (ok .few-dims))
-      (line-goes true start (midway c noBounds 0 0) (take (2 + 4 * c .grid .dims) (gridRow (c .grid))) (linesFrom c 1 (n + (b + (n - 1 + (s + 1)))))
-      (small-take (2 + 4 * c .grid .dims) small-grid) (grid-goes c range ok)
+      rw (sheet-rows c numbers (ok .few-dims) (ok .some) (ok .few), z)
+      (line-goes true told start (midway c noBounds 0 0) (gridLine (c .grid) numbers) (linesFrom c numbers 1 (n + (b + (n - 1 + (s + 1)))))
+      (small-grid c numbers told range ok) (grid-goes c numbers told range ok again)
       ∙ offsets-read n 0 (b + (n - 1 + (s + 1))) (omega arith)
       ∙ box-read (n - 1 + (s + 1))
-      ∙ ap (λ i. readLines true (midway c (readBounds c) n 0) (linesOf (linesFrom c i (n - 1 + (s + 1))))) (sym y)
+      ∙ ap (λ i. readLines true told (midway c (readBounds c) n 0) (linesOf (linesFrom c numbers i (n - 1 + (s + 1))))) (sym y)
       ∙ capacities-read (n - 1) 0 (s + 1) (omega (arith, ok .some))
       ∙ order-read
-      ∙ ap (λ l. readLines true (toKernel c ordered) (linesOf (framed l ++ []))) (line-kernel c (ok .some))
-      ∙ line-goes true (toKernel c ordered) atEnd (kernelLine (c .kernel)) [] (small-kernel (c .kernel) (range .factors)) kernel-goes)
+      ∙ ap (λ l. readLines true told (toKernel c ordered) (linesOf (framed l ++ []))) (line-kernel c numbers (ok .some))
+      ∙ line-goes true told (toKernel c ordered) atEnd (kernelLine (c .kernel)) [] (small-kernel (c .kernel) (range .factors)) kernel-goes)
 
-judged-alike : (c d : Chain) → trimmed c [] ≡ trimmed d [] → judgeChain c [] ≡ judgeChain d []
+-- The numbers on the first line of the sheet.
+module _ (c : Chain) (numbers : List ℕ) (range : InRange c) (ok : Accepted c numbers) where
+  abbrev told : List ℕ
+  told = numbersIn (sheetOf c numbers)
+
+  told-are : told ≡ numbersOn (gridLine (c .grid) numbers)
+  unfolding sheetOf chainLines flatMap
+  told-are = written-numbers (gridLine (c .grid) numbers) _ (small-grid c numbers [] range ok)
+
+  number-told : c .grid .skewed ≡ true → (i : ℕ) → i < 2 * c .grid .rows → getD told i 0 ≡ getD numbers i 0
+  number-told e i h =
+      ap (λ ns. getD ns i 0) told-are
+      ∙ ap (λ l. getD (numbersOn l) i 0) (rows-line (c .grid) numbers e)
+      ∙ number-back (c .grid .rows) numbers (few-rows (c .grid .rows) numbers (ok .rows e)) i h
+
+  rows-told : c .grid .skewed ≡ true → rowsOf (c .grid .rows) told ≡ rowsOf (c .grid .rows) numbers
+  rows-told e = rows-same (c .grid .rows) told numbers (number-told e)
+
+  ground-told : groundOf (c .grid) told ≡ groundOf (c .grid) numbers
+  ground-told =
+      by-bool (c .grid .skewed)
+      (λ e. ground-skewed (c .grid) e told ∙ ap rows (rows-told e) ∙ sym (ground-skewed (c .grid) e numbers))
+      (λ e. ground-flat (c .grid) e told ∙ sym (ground-flat (c .grid) e numbers))
+
+judged-alike : (c d : Chain) (ns ms : List ℕ) → trimmed c ns ≡ trimmed d ms → judgeChain c ns ≡ judgeChain d ms
 unfolding judgeChain
-judged-alike c d e = rw e
+judged-alike c d ns ms e = rw e
 
 pub write-read : WriteRead
 unfolding readChain endVerdict complete closes
-write-read c range h =
+write-read c numbers range h =
     record {
-      accepted = ap (λ r. r .verdict) back;
-      same = ap (λ r. trimmed (r .chain) []) back ∙ same-chain c (accepted-chain c h);
-      normal = ap (λ r. r .chain) back ∙ normal-chain c (accepted-chain c h);
+      read = back ∙ (λ i. record { verdict = verdict.Accepted; chain = normal-chain c numbers (ok .few) i });
+      same = ap (λ (r : ReadChain). trimmed (r .chain) (told c numbers range ok)) back ∙ same;
+      rows = number-told c numbers range ok;
     }
   where
-    back : readChain (sheetOf c) ≡ record { verdict = verdict.Accepted; chain = readBack c }
-    back = rw (all-read c range (accepted-chain c h), judged-alike (readBack c) c (same-chain c (accepted-chain c h)), h)
+    ok : Accepted c numbers
+    ok = accepted-chain c numbers h
+
+    same : trimmed (readBack c) (told c numbers range ok) ≡ trimmed c numbers
+    same = same-chain c numbers (told c numbers range ok) ok (ground-told c numbers range ok)
+
+    back : readChain (sheetOf c numbers) ≡ record { verdict = verdict.Accepted; chain = readBack c }
+    back =
+        rw (
+          all-read c numbers (told c numbers range ok) range ok (rows-told c numbers range ok),
+          judged-alike (readBack c) c (told c numbers range ok) numbers same,
+          h,
+        )

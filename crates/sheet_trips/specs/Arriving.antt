@@ -3,14 +3,18 @@ use Prim.Native.Nat.{ℕ}
 use mathlib.Core.Bool.{Bool}
 use mathlib.Core.List.{List, _++_}
 use mathlib.Core.Path.{_≡_}
-use Rattle.model.specs.declared.Arriving.{Arriving}
+use Rattle.model.specs.declared.Verdict.the-variants as verdict
 use Rattle.model.specs.Lines.{linesOf}
-use Rattle.model.specs.Reading.{start, readLines}
-use Rattle.model.specs.Arriving.{opened, arrive, finished}
+use Rattle.model.specs.Reading.{start, readLines, numbersIn}
+use Rattle.model.specs.Arriving.{Arrived, opening, arrive, finished}
 
--- It gives what reading the sheet whole gives; and two pieces are one.
+-- It gives what reading the sheet whole gives and, where no line is turned back, the numbers on its first line; and two pieces are one.
+pub record Arrives (chained : Bool) (sheet : List ℕ) : Type 0 where
+  pub read : finished (arrive chained opening sheet .sheet) ≡ readLines chained (numbersIn sheet) start (linesOf sheet)
+  pub numbers : readLines chained (numbersIn sheet) start (linesOf sheet) .verdict ≡ verdict.Accepted → arrive chained opening sheet .numbers ≡ numbersIn sheet
+
 abbrev pub AsItArrives : Type 0
-AsItArrives = (chained : Bool) (sheet : List ℕ) → finished (arrive chained opened sheet) ≡ readLines chained start (linesOf sheet)
+AsItArrives = (chained : Bool) (sheet : List ℕ) → Arrives chained sheet
 
 abbrev pub InPieces : Type 0
-InPieces = (chained : Bool) (a : Arriving) (xs ys : List ℕ) → arrive chained (arrive chained a xs) ys ≡ arrive chained a (xs ++ ys)
+InPieces = (chained : Bool) (a : Arrived) (xs ys : List ℕ) → arrive chained (arrive chained a xs) ys ≡ arrive chained a (xs ++ ys)

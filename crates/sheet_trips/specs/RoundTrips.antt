@@ -1,6 +1,7 @@
 -- Sheets round-trip (document 01, "Lines of the sheet"): what is promised of writing and reading together.
-use Prim.Native.Nat.{ℕ, _≤_, _<_}
-use mathlib.Core.List.{List, [], _++_}
+use Prim.Native.Nat.{ℕ, _*_, _≤_, _<_}
+use mathlib.Core.Bool.{true}
+use mathlib.Core.List.{List, _++_}
 use mathlib.Core.Path.{_≡_}
 use lib.Dec.{T}
 use lib.Ieee.{fits, binary32}
@@ -13,7 +14,7 @@ use Rattle.model.specs.declared.Kernel.the-variants as kernel
 use Rattle.model.specs.declared.Verdict.the-variants as verdict
 use Rattle.model.specs.Values.{trimmed, Same, chainOf}
 use Rattle.model.specs.Judging.{judgeChain}
-use Rattle.model.specs.Reading.{readChain}
+use Rattle.model.specs.Reading.{readChain, numbersIn}
 use Rattle.model.specs.Writing.{sheetOf, Written, writeOf}
 
 -- What the machine's types give of a chain's value: sizes and capacities of 32 bits, entries of 16 bits and indices of 32 bits in two's complement, factors that binary32 holds.
@@ -31,18 +32,19 @@ pub record InRange (c : Chain) : Type 0 where
   pub capacities : (k : ℕ) → getD (c .capacities) k 0 < 4294967296
   pub factors : FactorsFit (c .kernel)
 
--- A chain that no number turns back, with no rows beside it, written and read, is accepted and is the same chain, in its normal form.
-pub record Returns (c : Chain) : Type 0 where
-  pub accepted : readChain (sheetOf c) .verdict ≡ verdict.Accepted
-  pub same : Same (readChain (sheetOf c) .chain) [] c []
-  pub normal : readChain (sheetOf c) .chain ≡ chainOf (trimmed c [])
+-- A sheet tells of a chain and the rows beside it: it is accepted, and what is read from it is the same chain, in its normal form, with each number of its rows.
+pub record Tells (sheet : List ℕ) (c : Chain) (numbers : List ℕ) : Type 0 where
+  pub read : readChain sheet ≡ record { verdict = verdict.Accepted; chain = chainOf (trimmed c numbers) }
+  pub same : Same (readChain sheet .chain) (numbersIn sheet) c numbers
+  pub rows : c .grid .skewed ≡ true → (i : ℕ) → i < 2 * c .grid .rows → getD (numbersIn sheet) i 0 ≡ getD numbers i 0
 
+-- So does the sheet that is written of a chain that no number turns back.
 abbrev pub WriteRead : Type 0
-WriteRead = (c : Chain) → InRange c → judgeChain c [] ≡ verdict.Accepted → Returns c
+WriteRead = (c : Chain) (numbers : List ℕ) → InRange c → judgeChain c numbers ≡ verdict.Accepted → Tells (sheetOf c numbers) c numbers
 
 -- An accepted chain sheet, read and written, gives back its bytes.
 abbrev pub ReadWrite : Type 0
-ReadWrite = (sheet : List ℕ) → readChain sheet .verdict ≡ verdict.Accepted → sheetOf (readChain sheet .chain) ≡ sheet
+ReadWrite = (sheet : List ℕ) → readChain sheet .verdict ≡ verdict.Accepted → sheetOf (readChain sheet .chain) (numbersIn sheet) ≡ sheet
 
 -- The same of the calls. What `write_chain` wrote `read_chain` accepts and reads as the same chain; an accepted sheet that was read is written as the same bytes.
 abbrev pub bytesOf : Written → List ℕ
@@ -50,11 +52,11 @@ bytesOf w = take (w .answer .bytes) (w .output)
 
 abbrev pub WriteReadCalls : Type 0
 WriteReadCalls =
-    (c : Chain) → InRange c → (out : List ℕ) → writeOf c out .answer .verdict ≡ verdict.Accepted
-    → readChain (bytesOf (writeOf c out)) ≡ record { verdict = verdict.Accepted; chain = chainOf (trimmed c []) }
+    (c : Chain) (numbers : List ℕ) → InRange c → (out : List ℕ) → writeOf c numbers out .answer .verdict ≡ verdict.Accepted
+    → Tells (bytesOf (writeOf c numbers out)) c numbers
 
 abbrev pub ReadWriteCalls : Type 0
 ReadWriteCalls =
     (sheet out : List ℕ) → readChain sheet .verdict ≡ verdict.Accepted → length sheet ≤ length out
-    → writeOf (readChain sheet .chain) out
+    → writeOf (readChain sheet .chain) (numbersIn sheet) out
     ≡ record { answer = record { verdict = verdict.Accepted; bytes = length sheet }; output = sheet ++ drop (length sheet) out }

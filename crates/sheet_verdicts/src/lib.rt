@@ -5,6 +5,7 @@ use model::Last;
 use model::Reading;
 use model::Refusal;
 use model::Verdict;
+use values::dims_of;
 use values::wide;
 ghost use mathlib.Core.Path.{_≡_};
 ghost use mathlib.Core.Bool.{cond, not, _&&_};
@@ -13,7 +14,8 @@ ghost use Prim.Native.Nat.{_<_};
 ghost use lib.Dec.{eqb, leb};
 ghost use lib.ListN.{take};
 ghost use Rattle.model.specs.declared.Verdict.the-variants.{Refused};
-ghost use Rattle.model.specs.Judging.{badDims, badSizes};
+ghost use Rattle.model.specs.Judging.{badDims, badSizes, badRowCount, badRows};
+ghost use Rattle.model.specs.Values.{rowsOf};
 ghost use Rattle.model.specs.Frames.{shown};
 ghost use Rattle.model.specs.NamedWindows.{badName};
 ghost use Rattle.model.specs.Reading.{badKernel, badForm, malformed, nextInRequest, nextInChain, miscounted, among, misplaced, badLength, sizesIn, lineVerdict, cellVerdict};
@@ -60,6 +62,9 @@ fn bad_form(len: usize, kind: u8, second: u8) -> bool
     if kind == 8 {
         return false;
     }
+    if kind == 9 {
+        return len < 3;
+    }
     true
 }
 
@@ -99,7 +104,7 @@ fn comes_in_request(last: Last, kind: u8) -> bool
     ensures { λ r. ⌜ r ≡ among kind (nextInRequest last) ⌝ }
 {
     match last {
-        Last::Nothing => kind == 1,
+        Last::Nothing => of_two(kind, 1, 9),
         Last::Grid => of_two(kind, 2, 7),
         Last::Offset => of_three(kind, 2, 8, 4),
         Last::Name => of_two(kind, 8, 4),
@@ -115,7 +120,7 @@ fn comes_in_chain(last: Last, kind: u8) -> bool
     ensures { λ r. ⌜ r ≡ among kind (nextInChain last) ⌝ }
 {
     match last {
-        Last::Nothing => kind == 1,
+        Last::Nothing => of_two(kind, 1, 9),
         Last::Grid => kind == 2,
         Last::Offset => {
             if kind == 2 {
@@ -176,11 +181,27 @@ fn bad_dims(kind: u8, dims: u8) -> bool
     4 < dims
 }
 
-fn bad_length(len: usize, kind: u8, second: u8, dims: u8, count: u8) -> bool
-    ensures { λ r. ⌜ r ≡ badLength len kind second dims count ⌝ }
+// On an `09` line: its row count.
+fn bad_row_count(kind: u8, rows: u32) -> bool
+    ensures { λ r. ⌜ r ≡ (eqb kind 9 && badRowCount rows) ⌝ }
+{
+    if kind != 9 {
+        return false;
+    }
+    if rows == 0 {
+        return true;
+    }
+    512 < rows
+}
+
+fn bad_length(len: usize, kind: u8, second: u8, rows: u32, dims: u8, count: u8) -> bool
+    ensures { λ r. ⌜ r ≡ badLength len kind second rows dims count ⌝ }
 {
     if kind == 1 {
         return len != 2 + 4 * (second as usize);
+    }
+    if kind == 9 {
+        return len != 3 + 4 * (rows as usize);
     }
     if kind == 2 {
         return len != 1 + 2 * (dims as usize);
@@ -228,6 +249,16 @@ fn bad_grid(kind: u8, dims: u8, x: [u8; KEPT]) -> bool
     bad_sizes(dims, sheet_fields::sizes_in(x))
 }
 
+// On an `09` line: its rows, or their count.
+fn bad_rows(kind: u8, count: u32, rows: &[u32]) -> bool
+    ensures { λ r. ⌜ r ≡ (eqb kind 9 && badRows (rowsOf count (now (rows .entry)))) ⌝ }
+{
+    if kind != 9 {
+        return false;
+    }
+    rows::bad_rows(count, rows)
+}
+
 // A 33rd `02` line.
 fn too_many(kind: u8, count: u8) -> bool
     ensures { λ r. ⌜ r ≡ (eqb kind 2 && leb 32 count) ⌝ }
@@ -268,28 +299,33 @@ fn refused_if(holds: bool, number: Refusal, rest: Verdict) -> Verdict
     rest
 }
 
-// The checks of a line stand below from the last to the first.
-pub fn line_verdict(chained: bool, r: Reading, f: Frame) -> Verdict
-    ensures { λ v. ⌜ v ≡ lineVerdict chained r (shown f) ⌝ }
+// The checks of a line stand below from the last to the first. `rows`: the numbers on the sheet's first line, behind its row count.
+pub fn line_verdict(chained: bool, rows: &[u32], r: Reading, f: Frame) -> Verdict
+    ensures { λ v. ⌜ v ≡ lineVerdict chained (now (rows .entry)) r (shown f) ⌝ }
 {
     let x = f.first;
     let kind = x[0];
     let second = x[1];
+    let row_count = sheet_fields::row_count_in(x);
     let chain = r.chain;
-    let grid = chain.grid;
+    let dimensions = dims_of(chain.grid);
     let window = chain.window;
     let form = is_malformed(whole_frame(f.sound, f.half), f.len, kind, second);
     let last = r.last;
     let place = is_misplaced(chained, last, r.given, window.count, kind);
     let dims = bad_dims(kind, second);
-    let length = bad_length(f.len, kind, second, grid.dims, window.count);
+    let counted = bad_row_count(kind, row_count);
+    let length = bad_length(f.len, kind, second, row_count, dimensions, window.count);
     let sizes = bad_grid(kind, second, x);
+    let lent = bad_rows(kind, row_count, rows);
     let many = too_many(kind, window.count);
-    let name = bad_name(kind, second, grid.dims);
-    let v7 = refused_if(name, Refusal::BadName, Verdict::Accepted);
-    let v6 = refused_if(many, Refusal::BadCount, v7);
-    let v5 = refused_if(sizes, Refusal::BadGrid, v6);
-    let v4 = refused_if(length, Refusal::Malformed, v5);
+    let name = bad_name(kind, second, dimensions);
+    let v9 = refused_if(name, Refusal::BadName, Verdict::Accepted);
+    let v8 = refused_if(many, Refusal::BadCount, v9);
+    let v7 = refused_if(lent, Refusal::BadRows, v8);
+    let v6 = refused_if(sizes, Refusal::BadGrid, v7);
+    let v5 = refused_if(length, Refusal::Malformed, v6);
+    let v4 = refused_if(counted, Refusal::BadRows, v5);
     let v3 = refused_if(dims, Refusal::BadGrid, v4);
     let v2 = refused_if(place, Refusal::Misplaced, v3);
     refused_if(form, Refusal::Malformed, v2)

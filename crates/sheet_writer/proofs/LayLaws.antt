@@ -16,18 +16,20 @@ use Rattle.model.specs.declared.Grid.{Grid}
 use Rattle.model.specs.declared.Kernel.{Kernel}
 use Rattle.model.specs.declared.Kernel.the-variants as kernel
 use Rattle.model.specs.Lists.{tabulate}
+use Rattle.model.specs.Values.{dimsOf}
 use Rattle.model.specs.Frames.{kept, digitOf, digitsOf, framed, padded}
 use Rattle.model.specs.Numbers.{halfBytes, wordBytes, wordPattern}
 use Rattle.model.specs.Lines.{lineFeed}
 use Rattle.model.specs.Writing.{gridLine, indexPair, capacityLine, kernelLine, sheetOf}
 use Rattle.model.proofs.ListLaws.{length-tabulate, getD-tabulate}
-use Rattle.sheet_laws.proofs.Cases.{by-lt}
-use Rattle.sheet_laws.proofs.SheetLength.{framed-length}
+use Rattle.model.proofs.ChainLaws.{dims-flat}
+use Rattle.sheet_laws.proofs.Cases.{by-bool, by-lt}
+use Rattle.sheet_laws.proofs.SheetLength.{framed-length, grid-length}
 use Rattle.sheet_laws.proofs.SheetRows.{grid-front, sheet-rows}
 use Rattle.sheet_laws.specs.declared.Part.{Part}
 use Rattle.sheet_laws.specs.declared.Part.the-variants as part
 use Rattle.sheet_writer.specs.Laying.{Inside}
-use Rattle.sheet_laws.specs.Rows.{gridRow, offsetRow, boxRow, orderRow, rowOf, lenOf, toCapacities, partBehind, partAt, linesBehind, lineAt, linesFrom}
+use Rattle.sheet_laws.specs.Rows.{gridRow, gridLen, offsetRow, boxRow, orderRow, rowOf, lenOf, toCapacities, partBehind, partAt, linesBehind, lineAt, linesFrom}
 
 sets-join : (xs ys l : List ℕ) (i : ℕ) → sets (sets l i xs) (i + length xs) ys ≡ sets l i (xs ++ ys)
 sets-join [] ys l i = ap (λ j. sets l j ys) (zero-right i)
@@ -90,7 +92,7 @@ pub fit-grid : (g : Grid) → g .dims ≤ 4 → Fit (2 + 4 * g .dims) (gridRow g
 unfolding gridRow wordBytes
 fit-grid g h = (omega arith, omega arith)
 
-pub fit : (c : Chain) (p : Part) → c .grid .dims ≤ 4 → c .window .count ≤ 32 → Fit (lenOf c p) (rowOf c p)
+pub fit : (c : Chain) (p : Part) → dimsOf (c .grid) ≤ 4 → c .window .count ≤ 32 → Fit (lenOf c p) (rowOf c p)
 unfolding lenOf rowOf offsetRow boxRow indexPair orderRow capacityLine halfBytes wordBytes
 fit c (part.Offset k) h m = (omega arith, omega arith)
 fit c part.Box h m = (omega arith, omega arith)
@@ -129,35 +131,46 @@ unfolding Inside
 capacity-inside n p k h e = subst (λ (q : Part). Inside n q) e h
 
 -- The grid's line, and the lines behind it.
-grid-length : (g : Grid) → g .skewed ≡ false → g .dims ≤ 4 → length (gridLine g) ≡ 2 + 4 * g .dims
-grid-length g flat few = ap length (grid-front g flat few) ∙ length-take-le _ (gridRow g) (fit-grid g few .0)
+pub flat-len : (g : Grid) → g .skewed ≡ false → gridLen g ≡ 2 + 4 * g .dims
+unfolding gridLen
+flat-len g flat = rw flat
 
-pub grid-laid : (g : Grid) → g .skewed ≡ false → g .dims ≤ 4 → framed (take (2 + 4 * g .dims) (padded (gridRow g))) ≡ framed (gridLine g)
-grid-laid g flat few = ap framed (take-padded _ (gridRow g) (fit-grid g few) ∙ sym (grid-front g flat few))
+pub skewed-len : (g : Grid) → g .skewed ≡ true → gridLen g ≡ 3 + 4 * g .rows
+unfolding gridLen
+skewed-len g skewed = rw skewed
 
-pub grid-framed : (g : Grid) → g .skewed ≡ false → g .dims ≤ 4 → length (framed (gridLine g)) ≡ 2 * (2 + 4 * g .dims) + 1
-grid-framed g flat few = framed-length (gridLine g) ∙ ap (λ n. 2 * n + 1) (grid-length g flat few)
+pub few-bytes : (g : Grid) → dimsOf g ≤ 4 → (g .skewed ≡ true → g .rows ≤ 512) → gridLen g ≤ 2051
+few-bytes g few rows =
+    by-bool (g .skewed)
+    (λ e. omega (arith, skewed-len g e, rows e))
+    (λ e. omega (arith, flat-len g e, dims-flat g e))
 
-module _ (c : Chain) (flat : c .grid .skewed ≡ false) (few : c .grid .dims ≤ 4) (some : 0 < c .window .count) (most : c .window .count ≤ 32)
+pub grid-laid : (g : Grid) (numbers : List ℕ) → g .skewed ≡ false → g .dims ≤ 4 → framed (take (2 + 4 * g .dims) (padded (gridRow g))) ≡ framed (gridLine g numbers)
+grid-laid g numbers flat few = ap framed (take-padded _ (gridRow g) (fit-grid g few) ∙ sym (grid-front g numbers flat few))
+
+grid-framed : (g : Grid) (numbers : List ℕ) → length (framed (gridLine g numbers)) ≡ 2 * gridLen g + 1
+grid-framed g numbers = framed-length (gridLine g numbers) ∙ ap (λ n. 2 * n + 1) (grid-length g numbers)
+
+module _ (c : Chain) (numbers : List ℕ) (few : dimsOf (c .grid) ≤ 4) (some : 0 < c .window .count) (most : c .window .count ≤ 32)
     (lines : ℕ) (told : lines ≡ linesBehind (c .bounds .stood) (c .order .stood) (c .window .count)) where
   abbrev behind-grid : List ℕ
-  behind-grid = linesFrom c 1 lines
+  behind-grid = linesFrom c numbers 1 lines
 
-  pub grid-first : sheetOf c ≡ framed (gridLine (c .grid)) ++ behind-grid
+  pub grid-first : sheetOf c numbers ≡ framed (gridLine (c .grid) numbers) ++ behind-grid
   unfolding linesFrom lineAt
   grid-first =
       let e : linesBehind (c .bounds .stood) (c .order .stood) (c .window .count) + 1 ≡ suc lines = omega (arith, told) in
-      sheet-rows c few some most flat ∙ ap (linesFrom c 0) e
+      sheet-rows c numbers few some most ∙ ap (linesFrom c numbers 0) e
 
-  pub all-length : length (sheetOf c) ≡ 2 * (2 + 4 * c .grid .dims) + 1 + length behind-grid
-  all-length = ap length grid-first ∙ length-append (framed (gridLine (c .grid))) _ ∙ ap (λ n. n + length behind-grid) (grid-framed (c .grid) flat few)
+  pub all-length : length (sheetOf c numbers) ≡ 2 * gridLen (c .grid) + 1 + length behind-grid
+  all-length = ap length grid-first ∙ length-append (framed (gridLine (c .grid) numbers)) _ ∙ ap (λ n. n + length behind-grid) (grid-framed (c .grid) numbers)
 
-  pub all-laid : (out behind : List ℕ) (at : ℕ) → at ≡ 2 * (2 + 4 * c .grid .dims) + 1 → behind ≡ sets out 0 (framed (gridLine (c .grid)))
-      → sets behind at behind-grid ≡ sets out 0 (sheetOf c)
+  pub all-laid : (out behind : List ℕ) (at : ℕ) → at ≡ 2 * gridLen (c .grid) + 1 → behind ≡ sets out 0 (framed (gridLine (c .grid) numbers))
+      → sets behind at behind-grid ≡ sets out 0 (sheetOf c numbers)
   all-laid out behind at a b =
-      let e : at ≡ 0 + length (framed (gridLine (c .grid))) = omega (arith, grid-framed (c .grid) flat few) in
+      let e : at ≡ 0 + length (framed (gridLine (c .grid) numbers)) = omega (arith, grid-framed (c .grid) numbers) in
       ap₂ (λ (o : List ℕ) (i : ℕ). sets o i behind-grid) b e
-      ∙ sets-join (framed (gridLine (c .grid))) behind-grid out 0
+      ∙ sets-join (framed (gridLine (c .grid) numbers)) behind-grid out 0
       ∙ ap (sets out 0) (sym grid-first)
 
 pub few-ahead : (boxed : Bool) (n : ℕ) → toCapacities boxed n ≤ n + 1
@@ -170,24 +183,24 @@ few-lines boxed true n = omega (arith, few-ahead boxed n)
 few-lines boxed false n = omega (arith, few-ahead boxed n)
 
 -- The lines that remain behind the first m of them.
-module _ (c : Chain) (m lines : ℕ) where
+module _ (c : Chain) (numbers : List ℕ) (m lines : ℕ) where
   abbrev at-m : Part
   at-m = partAt (c .bounds .stood) (c .order .stood) (c .window .count) m
 
-  pub no-more : lines ≤ m → linesFrom c (1 + m) (lines - m) ≡ []
+  pub no-more : lines ≤ m → linesFrom c numbers (1 + m) (lines - m) ≡ []
   unfolding linesFrom
   no-more h =
       let e : lines - m ≡ 0 = omega arith in
       rw e
 
-  module _ (few : c .grid .dims ≤ 4) (most : c .window .count ≤ 32) (more : m < lines) where
+  module _ (few : dimsOf (c .grid) ≤ 4) (most : c .window .count ≤ 32) (more : m < lines) where
     abbrev line : List ℕ
     line = framed (take (lenOf c at-m) (rowOf c at-m))
 
     line-length : length line ≡ 2 * lenOf c at-m + 1
     line-length = framed-length (take (lenOf c at-m) (rowOf c at-m)) ∙ ap (λ n. 2 * n + 1) (length-take-le _ _ (fit c at-m few most .0))
 
-    one-more : linesFrom c (1 + m) (lines - m) ≡ line ++ linesFrom c (1 + (m + 1)) (lines - (m + 1))
+    one-more : linesFrom c numbers (1 + m) (lines - m) ≡ line ++ linesFrom c numbers (1 + (m + 1)) (lines - (m + 1))
     unfolding linesFrom lineAt
     one-more =
         let e : lines - m ≡ suc (lines - (m + 1)) = omega arith in
@@ -195,12 +208,12 @@ module _ (c : Chain) (m lines : ℕ) where
         let g : 1 + (m + 1) ≡ suc m + 1 = omega arith in
         rw (e, f, g)
 
-    pub more-length : length (linesFrom c (1 + m) (lines - m)) ≡ 2 * lenOf c at-m + 1 + length (linesFrom c (1 + (m + 1)) (lines - (m + 1)))
-    more-length = ap length one-more ∙ length-append line _ ∙ ap (λ n. n + length (linesFrom c (1 + (m + 1)) (lines - (m + 1)))) line-length
+    pub more-length : length (linesFrom c numbers (1 + m) (lines - m)) ≡ 2 * lenOf c at-m + 1 + length (linesFrom c numbers (1 + (m + 1)) (lines - (m + 1)))
+    more-length = ap length one-more ∙ length-append line _ ∙ ap (λ n. n + length (linesFrom c numbers (1 + (m + 1)) (lines - (m + 1)))) line-length
 
     pub line-on : (out : List ℕ) (at : ℕ)
-        → sets (sets out at (framed (take (lenOf c at-m) (padded (rowOf c at-m))))) (at + 2 * lenOf c at-m + 1) (linesFrom c (1 + (m + 1)) (lines - (m + 1)))
-        ≡ sets out at (linesFrom c (1 + m) (lines - m))
+        → sets (sets out at (framed (take (lenOf c at-m) (padded (rowOf c at-m))))) (at + 2 * lenOf c at-m + 1) (linesFrom c numbers (1 + (m + 1)) (lines - (m + 1)))
+        ≡ sets out at (linesFrom c numbers (1 + m) (lines - m))
     line-on out at =
         let f : at + 2 * lenOf c at-m + 1 ≡ at + length line = omega (arith, line-length) in
-        rw (f, take-padded _ _ (fit c at-m few most), one-more) (sets-join line (linesFrom c (1 + (m + 1)) (lines - (m + 1))) out at)
+        rw (f, take-padded _ _ (fit c at-m few most), one-more) (sets-join line (linesFrom c numbers (1 + (m + 1)) (lines - (m + 1))) out at)

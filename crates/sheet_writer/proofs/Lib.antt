@@ -1,3 +1,4 @@
 pub mod LayLaws
+pub mod RowsLaws
 pub mod CallLaws
 pub mod Written

@@ -1,29 +1,30 @@
 -- Where no number turns the chain back, laying its sheet into the output is writing it.
 use Prim.Native.Nat.{ℕ}
-use mathlib.Core.Bool.{Bool, cond}
-use mathlib.Core.List.{List, []}
-use mathlib.Core.Path.{_≡_, ap, _∙_}
+use mathlib.Core.Bool.{false, _&&_}
+use mathlib.Core.List.{List}
+use mathlib.Core.Path.{_≡_}
 use native.Mathlib.Omega.{arith}
 use lib.ListN.{length}
 use borrow.Author.Tests.{ne-eqb, le-ltb}
 use Rattle.model.specs.declared.Chain.{Chain}
-use Rattle.model.specs.declared.Refusal.the-variants as refusal
 use Rattle.model.specs.declared.Verdict.the-variants as verdict
+use Rattle.model.specs.Values.{rowsOf, dimsOf}
 use Rattle.model.specs.Answers.{firstOf}
-use Rattle.model.specs.Judging.{badDims, badCount, judgeChain}
+use Rattle.model.specs.Judging.{badDims, badRows, badCount, judgeChain}
 use Rattle.model.specs.Writing.{writeVerdict, writeOf}
+use Rattle.sheet_laws.proofs.Cases.{by-bool}
 use Rattle.sheet_laws.proofs.AcceptedChains.{accepted-chain}
-use Rattle.sheet_writer.specs.Laying.{layChecks, layVerdict, layOf}
+use Rattle.sheet_writer.specs.Laying.{layChecks, layOf}
 
-same-verdict : (c : Chain) (room : ℕ) → judgeChain c [] ≡ verdict.Accepted → layVerdict c room ≡ writeVerdict c room
-unfolding layChecks layVerdict writeVerdict firstOf badDims badCount
-same-verdict c room h =
-    let ok = accepted-chain c h in
-    let d : c .grid .dims ≡ 0 → ⊥ = λ e. omega (arith, ok .some-dims) in
+same-verdict : (c : Chain) (numbers : List ℕ) (room : ℕ) → judgeChain c numbers ≡ verdict.Accepted → firstOf (layChecks c numbers room) ≡ writeVerdict c numbers room
+unfolding layChecks writeVerdict firstOf badDims badCount
+same-verdict c numbers room h =
+    let ok = accepted-chain c numbers h in
+    let fine : (c .grid .skewed && badRows (rowsOf (c .grid .rows) numbers)) ≡ false = by-bool (c .grid .skewed) (λ e. rw (e, ok .rows e)) (λ e. rw e) in
+    let d : dimsOf (c .grid) ≡ 0 → ⊥ = λ e. omega (arith, ok .some-dims) in
     let n : c .window .count ≡ 0 → ⊥ = λ e. omega (arith, ok .some) in
-    ap (λ (b : Bool). cond b (verdict.Refused refusal.BadRows) (firstOf (layChecks c room))) (ok .flat)
-    ∙ rw (h, ne-eqb _ _ d, le-ltb _ _ (ok .few-dims), ne-eqb _ _ n, le-ltb _ _ (ok .few))
+    rw (h, fine, ne-eqb _ _ d, le-ltb _ _ (ok .few-dims), ne-eqb _ _ n, le-ltb _ _ (ok .few))
 
-pub laid-written : (c : Chain) (out : List ℕ) → judgeChain c [] ≡ verdict.Accepted → layOf c out ≡ writeOf c out
+pub laid-written : (c : Chain) (numbers out : List ℕ) → judgeChain c numbers ≡ verdict.Accepted → layOf c numbers out ≡ writeOf c numbers out
 unfolding layOf writeOf
-laid-written c out h = rw (same-verdict c (length out) h)
+laid-written c numbers out h = rw (same-verdict c numbers (length out) h)

@@ -1,17 +1,18 @@
--- Writing a chain sheet without judging the chain: only 16 of a skewed grid and 3 and 4 of its counts are looked at, then 12.
+-- Writing a chain sheet without judging the chain: only 16 of a skewed grid and 3 and 4 of the counts are looked at, then 12.
 use Prim.Native.Nat.{ℕ, _+_, _≤_, _<_}
-use mathlib.Core.Bool.{false}
+use mathlib.Core.Bool.{true, false, _&&_}
 use mathlib.Core.List.{List, [], _∷_, _++_}
 use mathlib.Core.Path.{_≡_}
 use lib.Dec.{ltb}
 use lib.ListN.{length, drop}
 use Rattle.model.specs.declared.Chain.{Chain}
+use Rattle.model.specs.declared.Grid.{Grid}
 use Rattle.model.specs.declared.Refusal.the-variants as refusal
-use Rattle.model.specs.declared.Verdict.{Verdict}
 use Rattle.model.specs.declared.Verdict.the-variants as verdict
 use Rattle.model.specs.declared.Wrote.{Wrote}
 use Rattle.model.specs.Answers.{Check, check, firstOf, byVerdict}
-use Rattle.model.specs.Judging.{badDims, badCount}
+use Rattle.model.specs.Values.{rowsOf, dimsOf}
+use Rattle.model.specs.Judging.{badDims, badRows, badCount}
 use Rattle.model.specs.Writing.{Written, sheetOf}
 use Rattle.sheet_laws.specs.declared.Part.{Part}
 use Rattle.sheet_laws.specs.declared.Part.the-variants as part
@@ -19,32 +20,36 @@ use Rattle.sheet_laws.specs.declared.Part.the-variants as part
 abbrev pub written : Wrote → List ℕ → Written
 written answer output = record { answer = answer; output = output }
 
--- What is looked at of a rectangle,
-unfoldable pub layChecks : Chain → (room : ℕ) → List Check
-layChecks c room =
-    check (badDims (c .grid .dims)) refusal.BadGrid
+unfoldable pub layChecks : Chain → (numbers : List ℕ) → (room : ℕ) → List Check
+layChecks c numbers room =
+    check (c .grid .skewed && badRows (rowsOf (c .grid .rows) numbers)) refusal.BadRows
+    ∷ check (badDims (dimsOf (c .grid))) refusal.BadGrid
     ∷ check (badCount (c .window .count)) refusal.BadCount
-    ∷ check (ltb room (length (sheetOf c))) refusal.ShortOutput
+    ∷ check (ltb room (length (sheetOf c numbers))) refusal.ShortOutput
     ∷ []
 
--- and in all.
-unfoldable pub layVerdict : Chain → (room : ℕ) → Verdict
-layVerdict c room = firstOf (check (c .grid .skewed) refusal.BadRows ∷ layChecks c room)
-
 -- The sheet from the first place on; later places, and after a refusal all places, stay as they were.
-unfoldable pub layOf : Chain → List ℕ → Written
-layOf c output =
-    let sheet = sheetOf c in
-    byVerdict (layVerdict c (length output))
+unfoldable pub layOf : Chain → (numbers : List ℕ) → List ℕ → Written
+layOf c numbers output =
+    let sheet = sheetOf c numbers in
+    byVerdict (firstOf (layChecks c numbers (length output)))
     (written (record { verdict = verdict.Accepted; bytes = length sheet }) (sheet ++ drop (length sheet) output))
     (λ r. written (record { verdict = verdict.Refused r; bytes = 0 }) output)
 
--- The grid is a rectangle, and the counts are in order.
+-- 16 lets the rows of a grid pass, where it is skewed.
+abbrev pub RowsFit : Grid → (numbers : List ℕ) → Type 0
+RowsFit g numbers = g .skewed ≡ true → badRows (rowsOf (g .rows) numbers) ≡ false
+
+-- The counts are in order.
 pub record Counted (c : Chain) : Type 0 where
-  pub flat : c .grid .skewed ≡ false
-  pub dims : c .grid .dims ≤ 4
+  pub dims : dimsOf (c .grid) ≤ 4
+  pub rows : c .grid .skewed ≡ true → c .grid .rows ≤ 512
   pub some : 0 < c .window .count
   pub most : c .window .count ≤ 32
+
+-- The sheet has so many characters, whatever the numbers of its rows are.
+abbrev pub HasLength : Chain → ℕ → Type 0
+HasLength c n = (numbers : List ℕ) → n ≡ length (sheetOf c numbers)
 
 -- A sheet with n offsets has such a line.
 unfoldable pub Inside : (n : ℕ) → Part → Type 0

@@ -1,4 +1,6 @@
-// Writing a chain sheet, line by line: a line's bytes are made by value, then laid into the lent output.
+// Writing a chain sheet, line by line: a line's bytes are made by value, then laid into the lent output; those of an `09` line are laid as they are made.
+mod skewed;
+
 use model::Bounds;
 use model::Chain;
 use model::Grid;
@@ -10,19 +12,21 @@ use model::Verdict;
 use model::Window;
 use model::Wrote;
 use sheet_laws::Part;
+use values::dims_of;
 use values::high_digit;
 use values::low_digit;
-ghost use mathlib.Core.Bool.{false};
+use values::wide_usize;
 ghost use mathlib.Core.Path.{_≡_};
 ghost use Prim.Native.Nat.{_+_, _*_, _/_, _%_, _≤_, _<_};
 ghost use lib.ListN.{length, take, getD};
 ghost use lib.Seq.{sets};
 ghost use lib.IntN.{pos};
 ghost use Rattle.model.specs.Frames.{kept, framed, padded};
+ghost use Rattle.model.specs.Values.{dimsOf};
 ghost use Rattle.model.specs.Numbers.{halfBytes, wordBytes, pattern};
 ghost use Rattle.model.specs.Writing.{gridLine, indexPair, capacityLine, kernelLine, sheetOf};
-ghost use Rattle.sheet_laws.specs.Rows.{gridRow, offsetRow, boxRow, orderRow, rowOf, lenOf, toCapacities, partAt, linesBehind};
-ghost use Rattle.sheet_writer.specs.Laying.{written, layOf, Counted, Inside};
+ghost use Rattle.sheet_laws.specs.Rows.{gridRow, gridLen, offsetRow, boxRow, orderRow, rowOf, lenOf, toCapacities, partAt, linesBehind};
+ghost use Rattle.sheet_writer.specs.Laying.{written, layOf, Counted, RowsFit, HasLength, Inside};
 
 // Two and four bytes, most significant first, from byte `at` of a line on.
 
@@ -167,8 +171,11 @@ fn kernel_len(k: Kernel) -> usize
 }
 
 fn grid_len(g: Grid) -> usize
-    ensures { λ r. ⌜ r ≡ 2 + 4 * g .dims ⌝ }
+    ensures { λ r. ⌜ r ≡ gridLen g ⌝ }
 {
+    if g.skewed {
+        return 3 + 4 * wide_usize(g.rows);
+    }
     2 + 4 * (g.dims as usize)
 }
 
@@ -228,8 +235,8 @@ fn line_len(c: Chain, p: Part) -> usize
     let window = c.window;
     let k = c.kernel;
     match p {
-        Part::Offset(_) => 1 + 2 * (grid.dims as usize),
-        Part::Box => 1 + 8 * (grid.dims as usize),
+        Part::Offset(_) => 1 + 2 * (dims_of(grid) as usize),
+        Part::Box => 1 + 8 * (dims_of(grid) as usize),
         Part::Capacity(_) => 5,
         Part::Order => 1 + (window.count as usize),
         Part::Kernel => kernel_len(k),
@@ -275,7 +282,7 @@ fn put_frame(out: &mut [u8], at: usize, x: [u8; KEPT], len: usize) -> usize
 
 fn sheet_len(c: Chain) -> usize
     requires { ⌜ Counted c ⌝ }
-    ensures { λ r. ⌜ r ≡ length (sheetOf c) ⌝ }
+    ensures { λ r. ⌜ HasLength c r ⌝ }
 {
     let grid = c.grid;
     let window = c.window;
@@ -296,18 +303,21 @@ fn sheet_len(c: Chain) -> usize
 }
 
 // The grid's line, from the first place of the output on; the place behind it.
-fn put_grid(out: &mut [u8], g: Grid) -> usize
-    requires { ⌜ (g .dims ≤ 4) × (2 * (2 + 4 * g .dims) + 1 ≤ length (now out)) × (g .skewed ≡ false) ⌝ }
-    ensures { λ r. ⌜ (r ≡ 2 * (2 + 4 * g .dims) + 1) × (now (out .exit) ≡ sets (now (out .entry)) 0 (framed (gridLine g))) ⌝ }
+fn put_grid(out: &mut [u8], g: Grid, rows: &[u32]) -> usize
+    requires { ⌜ (dimsOf g ≤ 4) × RowsFit g (now rows) × (2 * gridLen g + 1 ≤ length (now out)) ⌝ }
+    ensures { λ r. ⌜ (r ≡ 2 * gridLen g + 1) × (now (out .exit) ≡ sets (now (out .entry)) 0 (framed (gridLine g (now (rows .entry))))) ⌝ }
 {
+    if g.skewed {
+        return skewed::put_rows(out, g.rows, rows);
+    }
     let x = grid_row(g);
     let len = grid_len(g);
     put_frame(out, 0, x, len)
 }
 
-fn put_sheet(out: &mut [u8], c: Chain) -> usize
-    requires { ⌜ (Counted c) × (length (sheetOf c) ≤ length (now out)) ⌝ }
-    ensures { λ r. ⌜ (r ≡ length (sheetOf c)) × (now (out .exit) ≡ sets (now (out .entry)) 0 (sheetOf c)) ⌝ }
+fn put_sheet(out: &mut [u8], c: Chain, rows: &[u32]) -> usize
+    requires { ⌜ (Counted c) × RowsFit (c .grid) (now rows) × (length (sheetOf c (now rows)) ≤ length (now out)) ⌝ }
+    ensures { λ r. ⌜ (r ≡ length (sheetOf c (now (rows .entry)))) × (now (out .exit) ≡ sets (now (out .entry)) 0 (sheetOf c (now (rows .entry)))) ⌝ }
 {
     let grid = c.grid;
     let window = c.window;
@@ -317,7 +327,7 @@ fn put_sheet(out: &mut [u8], c: Chain) -> usize
     let ordered = order.stood;
     let n = window.count as usize;
     let lines = lines_behind(boxed, ordered, n);
-    let mut at = put_grid(out, grid);
+    let mut at = put_grid(out, grid, rows);
     let mut m: usize = 0;
     while m < lines {
         let p = part_at(boxed, ordered, n, m);
@@ -329,25 +339,26 @@ fn put_sheet(out: &mut [u8], c: Chain) -> usize
     at
 }
 
-// A chain sheet into the lent output, or why not: 16 of a skewed grid, for whose rows a sheet has no line, the counts' 3 and 4, then 12. Nothing else of the chain is judged.
-pub fn write_sheet(c: Chain, out: &mut [u8]) -> Wrote
-    ensures { λ r. ⌜ written r (now (out .exit)) ≡ layOf c (now (out .entry)) ⌝ }
+// A chain sheet into the lent output, or why not: 16 of a skewed grid, the counts' 3 and 4, then 12. Nothing else of the chain is judged.
+pub fn write_sheet(c: Chain, rows: &[u32], out: &mut [u8]) -> Wrote
+    ensures { λ r. ⌜ written r (now (out .exit)) ≡ layOf c (now (rows .entry)) (now (out .entry)) ⌝ }
 {
     let grid = c.grid;
     let window = c.window;
-    if grid.skewed {
+    if skewed::bad_rows(grid, rows) {
         return Wrote {
             verdict: Verdict::Refused(Refusal::BadRows),
             bytes: 0,
         };
     }
-    if grid.dims == 0 {
+    let dims = dims_of(grid);
+    if dims == 0 {
         return Wrote {
             verdict: Verdict::Refused(Refusal::BadGrid),
             bytes: 0,
         };
     }
-    if 4 < grid.dims {
+    if 4 < dims {
         return Wrote {
             verdict: Verdict::Refused(Refusal::BadGrid),
             bytes: 0,
@@ -371,7 +382,7 @@ pub fn write_sheet(c: Chain, out: &mut [u8]) -> Wrote
             bytes: 0,
         };
     }
-    let bytes = put_sheet(out, c);
+    let bytes = put_sheet(out, c, rows);
     Wrote {
         verdict: Verdict::Accepted,
         bytes,

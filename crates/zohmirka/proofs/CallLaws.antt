@@ -1,12 +1,13 @@
 -- Each way through a call, by what the functions that it calls answered.
 use Prim.Native.Nat.{ℕ, _≤_, _<_}
-use mathlib.Core.List.{List, []}
-use mathlib.Core.Path.{_≡_}
+use mathlib.Core.Bool.{false}
+use mathlib.Core.List.{List}
+use mathlib.Core.Path.{_≡_, refl, sym, _∙_, subst}
 use lib.ListN.{length}
 use borrow.Author.Tests.{lt-ltb, le-ltb}
 use Rattle.model.specs.Answers.{verdictNumber, firstOf}
 use Rattle.model.specs.Planning.{planOf}
-use Rattle.model.specs.Reading.{readRequest, readChain}
+use Rattle.model.specs.Reading.{numbersIn, readRequest, readChain}
 use Rattle.model.specs.Writing.{Written, writeOf}
 use Rattle.model.specs.declared.Answer.the-variants as answer
 use Rattle.model.specs.declared.Chain.{Chain}
@@ -17,17 +18,18 @@ use Rattle.model.specs.declared.Refusal.{Refusal}
 use Rattle.model.specs.declared.Refusal.the-variants as refusal
 use Rattle.model.specs.declared.Verdict.the-variants as verdict
 use Rattle.model.specs.declared.Wrote.{Wrote}
-use Rattle.zohmirka_words.specs.Words.{chainInto}
+use Rattle.zohmirka_words.specs.Words.{chainInto, rowPlaces, rowsInto}
 use Rattle.zohmirka_reports.specs.declared.Report.{Report}
 use Rattle.zohmirka_reports.specs.Reports.{reportOf}
 use Rattle.zohmirka_runs.specs.Runs.{Runs, runValue}
 use Rattle.zohmirka.specs.Calls.{Sheets, written, planCall, runSheet, readVerdict, readCall}
+use Rattle.zohmirka.proofs.FlatLaws.{written-flat, run-flat, plan-flat, planned-flat, rows-flat}
 
-pub sheet-written : (c : Chain) (sheet : List ℕ) (n : ℕ) (w : Wrote) (left : List ℕ)
-    → _≡_ {A = Written} (record { answer = w; output = left }) (writeOf c sheet) → n ≡ verdictNumber (w .verdict)
-    → record { answer = record { refusal = n; bytes = w .bytes }; sheet = left } ≡ written c sheet
+pub sheet-written : (c : Chain) (numbers sheet : List ℕ) (n : ℕ) (w : Wrote) (left : List ℕ)
+    → _≡_ {A = Written} (record { answer = w; output = left }) (writeOf c numbers sheet) → n ≡ verdictNumber (w .verdict)
+    → record { answer = record { refusal = n; bytes = w .bytes }; sheet = left } ≡ written c numbers sheet
 unfolding written
-sheet-written c sheet n w left f g = rw (← f, g)
+sheet-written c numbers sheet n w left f g = rw (← f, g)
 
 module _ (request sheet : List ℕ) (r : ReadRequest) (e : r ≡ readRequest request) where
   pub plan-refused : (n : ℕ) (x : Refusal) → r .verdict ≡ verdict.Refused x → n ≡ verdictNumber (verdict.Refused x)
@@ -35,10 +37,19 @@ module _ (request sheet : List ℕ) (r : ReadRequest) (e : r ≡ readRequest req
   unfolding planCall verdictNumber
   plan-refused n x q d = rw (← e, q, d)
 
-  pub plan-written : (p : Planned) (wrote : Sheets) → r .verdict ≡ verdict.Accepted → p ≡ planOf (r .request) [] → wrote ≡ written (p .chain) sheet
+  pub plan-written : (numbers : List ℕ) (p : Planned) (wrote : Sheets) → r .verdict ≡ verdict.Accepted → numbers ≡ numbersIn request
+      → p ≡ planOf (r .request) numbers → wrote ≡ written (p .chain) numbers sheet
       → wrote ≡ planCall request sheet
   unfolding planCall
-  plan-written p wrote q d f = rw (← e, q, ← d, f)
+  plan-written numbers p wrote q b d f = rw (← e, q, ← b, ← d, f)
+
+  -- On a rectangle, whatever is lent beside it.
+  pub flat-plan-written : (none others : List ℕ) (p : Planned) (wrote : Sheets) → r .verdict ≡ verdict.Accepted → r .request .grid .skewed ≡ false
+      → p ≡ planOf (r .request) none → wrote ≡ written (p .chain) others sheet
+      → wrote ≡ planCall request sheet
+  flat-plan-written none others p wrote q flat d f =
+      let still = subst (λ (x : Planned). x .chain .grid .skewed ≡ false) (sym d) (planned-flat (r .request) flat none) in
+      plan-written (numbersIn request) p wrote q refl (d ∙ plan-flat (r .request) flat none (numbersIn request)) (f ∙ written-flat (p .chain) still others (numbersIn request) sheet)
 
 module _ (state store cells out : List ℕ) (allowance : ℕ) where
   module _ (sheet : List ℕ) (read : ReadChain) (e : read ≡ readChain sheet) where
@@ -47,21 +58,42 @@ module _ (state store cells out : List ℕ) (allowance : ℕ) where
     unfolding runSheet
     sheet-refused x r q f = rw (← e, q, f)
 
-    pub sheet-run : (ran : Runs) → read .verdict ≡ verdict.Accepted → ran ≡ runValue state store cells out allowance (read .chain)
+    pub sheet-run : (numbers : List ℕ) (ran : Runs) → read .verdict ≡ verdict.Accepted → numbers ≡ numbersIn sheet
+        → ran ≡ runValue state store cells out allowance (read .chain) numbers
         → ran ≡ runSheet state store cells out allowance sheet
     unfolding runSheet
-    sheet-run ran q f = rw (← e, q, f)
+    sheet-run numbers ran q b f = rw (← e, q, ← b, f)
 
-module _ (sheet chain : List ℕ) (read : ReadChain) (e : read ≡ readChain sheet) where
-  pub read-refused : (n : ℕ) (x : Refusal) → read .verdict ≡ verdict.Refused x → n ≡ verdictNumber (verdict.Refused x) → record { refusal = n; chain = chain } ≡ readCall sheet chain
+    -- On a rectangle, whatever is lent beside it.
+    pub flat-sheet-run : (none : List ℕ) (ran : Runs) → read .verdict ≡ verdict.Accepted → read .chain .grid .skewed ≡ false
+        → ran ≡ runValue state store cells out allowance (read .chain) none
+        → ran ≡ runSheet state store cells out allowance sheet
+    flat-sheet-run none ran q flat f = sheet-run (numbersIn sheet) ran q refl (f ∙ run-flat (read .chain) flat none (numbersIn sheet) state store cells out allowance)
+
+module _ (sheet chain rows : List ℕ) (read : ReadChain) (e : read ≡ readChain sheet) where
+  pub read-refused : (n : ℕ) (x : Refusal) → read .verdict ≡ verdict.Refused x → n ≡ verdictNumber (verdict.Refused x)
+      → record { refusal = n; chain = chain; rows = rows } ≡ readCall sheet chain rows
   unfolding readCall readVerdict verdictNumber
   read-refused n x q f = rw (← e, q, f)
 
   module _ (q : read .verdict ≡ verdict.Accepted) where
-    pub read-short : (n : ℕ) → length chain < 210 → n ≡ verdictNumber (verdict.Refused refusal.ShortOutput) → record { refusal = n; chain = chain } ≡ readCall sheet chain
+    pub read-short : (n : ℕ) → length chain < 212 → n ≡ verdictNumber (verdict.Refused refusal.ShortOutput)
+        → record { refusal = n; chain = chain; rows = rows } ≡ readCall sheet chain rows
     unfolding readCall readVerdict verdictNumber firstOf
     read-short n h f = rw (← e, q, lt-ltb _ _ h, f)
 
-    pub read-written : (chain′ : List ℕ) → 210 ≤ length chain → chain′ ≡ chainInto (read .chain) chain → record { refusal = 0; chain = chain′ } ≡ readCall sheet chain
-    unfolding readCall readVerdict verdictNumber firstOf chainInto
-    read-written chain′ h f = rw (← e, q, f, le-ltb _ _ h)
+    module _ (h : 212 ≤ length chain) (k : ℕ) (d : k ≡ rowPlaces (read .chain .grid)) where
+      pub rows-short : (n : ℕ) → length rows < k → n ≡ verdictNumber (verdict.Refused refusal.ShortOutput)
+          → record { refusal = n; chain = chain; rows = rows } ≡ readCall sheet chain rows
+      unfolding readCall readVerdict verdictNumber firstOf
+      rows-short n g f = rw (← e, q, le-ltb _ _ h, ← d, lt-ltb _ _ g, f)
+
+      pub read-written : (chain′ numbers rows′ : List ℕ) → k ≤ length rows → chain′ ≡ chainInto (read .chain) chain → numbers ≡ numbersIn sheet
+          → rows′ ≡ rowsInto (read .chain .grid) numbers rows → record { refusal = 0; chain = chain′; rows = rows′ } ≡ readCall sheet chain rows
+      unfolding readCall readVerdict verdictNumber firstOf chainInto rowsInto
+      read-written chain′ numbers rows′ g f b r = rw (← e, q, f, r, ← b, ← d, le-ltb _ _ h, le-ltb _ _ g)
+
+      -- Of a rectangle no rows are written.
+      pub flat-read-written : (chain′ : List ℕ) → k ≤ length rows → chain′ ≡ chainInto (read .chain) chain → read .chain .grid .skewed ≡ false
+          → record { refusal = 0; chain = chain′; rows = rows } ≡ readCall sheet chain rows
+      flat-read-written chain′ g f flat = read-written chain′ (numbersIn sheet) rows g f refl (rows-flat (read .chain .grid) flat (numbersIn sheet) rows)

@@ -1,1 +1,2 @@
+pub mod FlatLaws
 pub mod CallLaws

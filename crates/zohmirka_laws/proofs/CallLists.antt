@@ -8,7 +8,7 @@ use Rattle.model.specs.Lists.{tabulate}
 use Rattle.model.specs.Values.{Trimmed, trimmed}
 use Rattle.model.specs.Answers.{byVerdict}
 use Rattle.model.specs.Judging.{judgeChain}
-use Rattle.model.specs.Reading.{readChain}
+use Rattle.model.specs.Reading.{numbersIn, readChain}
 use Rattle.model.specs.Clock.{Counters, first, fresh}
 use Rattle.model.specs.Running.{layout, countersOf, withCounters, outcomeOf, judgeRun, ended, Run, runTrimmed, runOf}
 use Rattle.model.specs.CallLists.{Lending, Between, Fresh, lentCells, callRun, after, afterAll, runs}
@@ -86,66 +86,69 @@ unfolding countersOf tabulate
 first-word zero h ws long = absurd (omega arith)
 first-word (suc n) h ws long = in-counter ws long 0 (omega arith)
 
-abbrev onValue : Chain → Call
-onValue c state store cells out allowance = runValue state store cells out allowance c
+abbrev onValue : Chain → (numbers : List ℕ) → Call
+onValue c numbers state store cells out allowance = runValue state store cells out allowance c numbers
 
-module _ (c : Chain) (ok : judgeChain c [] ≡ verdict.Accepted) where
-  fresh-value : (k : Slices) → stateSize ≤ length (k .state) → ((i : ℕ) → i < stateSize → wordAt (k .state) i ≡ 0) → Fresh (trimmed c []) (between k)
+module _ (c : Chain) (numbers : List ℕ) (ok : judgeChain c numbers ≡ verdict.Accepted) where
+  fresh-value : (k : Slices) → stateSize ≤ length (k .state) → ((i : ℕ) → i < stateSize → wordAt (k .state) i ≡ 0) → Fresh (trimmed c numbers) (between k)
   unfolding countersOf fresh layout
   fresh-value k long zeros =
-      let few = accepts.accepted-chain c [] ok .few in
+      let few = accepts.accepted-chain c numbers ok .few in
       record {
         counters = λ i. record {
           fired = (ap (λ (s : State). s .fired .0) (in-long (k .state) long) ∙ zeros 32 (omega arith)) i;
-          passed = tabulate-back 0 (replicate (trimmed c [] .count) 0) (trimmed c [] .count) _ (length-replicate (trimmed c [] .count) 0)
-              (λ j h. in-counter (k .state) long j (omega arith) ∙ zeros j (omega arith) ∙ sym (getD-replicate (trimmed c [] .count) j 0 0 h)) i;
+          passed = tabulate-back 0 (replicate (trimmed c numbers .count) 0) (trimmed c numbers .count) _ (length-replicate (trimmed c numbers .count) 0)
+              (λ j h. in-counter (k .state) long j (omega arith) ∙ zeros j (omega arith) ∙ sym (getD-replicate (trimmed c numbers .count) j 0 0 h)) i;
         };
       }
 
   module _ (stream : ℕ → ℕ) where
-    one-value : (l : Lending) (k : Slices) → stateSize ≤ length (k .state) → OneCall (onValue c) c stream l k
+    one-value : (l : Lending) (k : Slices) → stateSize ≤ length (k .state) → OneCall (onValue c numbers) c numbers stream l k
     unfolding runValue runOf callRun lentCells left after
     one-value l k long = record {
       report = ap (λ (r : Run). reportOf (r .answer)) same;
       out = ap (λ (r : Run). r .output) same;
-      hands-on = λ i. record { state = (state-back (trimmed c []) (a .few) (k .state) long _ _ _ _ ∙ ap (λ (r : Run). r .state) same) i; store = same i .store ++ drop (l .front) (k .store) };
+      hands-on = λ i. record { state = (state-back (trimmed c numbers) (a .few) (k .state) long _ _ _ _ ∙ ap (λ (r : Run). r .state) same) i; store = same i .store ++ drop (l .front) (k .store) };
       long = left-length _ _ (k .state) long;
       later = left-later _ _ (k .state) long;
     }
       where
-        a : Accepted (trimmed c [])
-        a = accepts.accepted-chain c [] ok
+        a : Accepted (trimmed c numbers)
+        a = accepts.accepted-chain c numbers ok
 
-        same : runOf c [] (stateIn (k .state)) (take (l .front) (k .store)) (tabulate (l .cells) (λ i. stream (wordAt (k .state) 0 + i))) (l .output) (l .allowance)
-            ≡ callRun (trimmed c []) stream l (between k)
+        same : runOf c numbers (stateIn (k .state)) (take (l .front) (k .store)) (tabulate (l .cells) (λ i. stream (wordAt (k .state) 0 + i))) (l .output) (l .allowance)
+            ≡ callRun (trimmed c numbers) stream l (between k)
         same =
-            ap (λ (p : ℕ). runTrimmed (trimmed c []) (stateIn (k .state)) (take (l .front) (k .store)) (tabulate (l .cells) (λ i. stream (p + i))) (l .output) (l .allowance))
-            (sym (first-word (trimmed c [] .count) (a .some) (k .state) long))
+            ap (λ (p : ℕ). runTrimmed (trimmed c numbers) (stateIn (k .state)) (take (l .front) (k .store)) (tabulate (l .cells) (λ i. stream (p + i))) (l .output) (l .allowance))
+            (sym (first-word (trimmed c numbers .count) (a .some) (k .state) long))
 
-    all-value : (ls : List Lending) (k : Slices) → stateSize ≤ length (k .state) → AllCalls (onValue c) c stream ls k
+    all-value : (ls : List Lending) (k : Slices) → stateSize ≤ length (k .state) → AllCalls (onValue c numbers) c numbers stream ls k
     unfolding leftAll calledAll runs afterAll
     all-value [] k long = record { reports = refl; outs = refl; hands-on = refl }
     all-value (l ∷ ls) k long =
         let o = one-value l k long in
-        let r = all-value ls (left (onValue c) stream l k) (rw (o .long) long) in
+        let r = all-value ls (left (onValue c numbers) stream l k) (rw (o .long) long) in
         record {
-          reports = ap₂ (λ x xs. x ∷ xs) (o .report) (r .reports ∙ ap (λ (b : Between). map (λ (x : Run). reportOf (x .answer)) (runs (trimmed c []) stream ls b)) (o .hands-on));
-          outs = ap₂ (λ x xs. x ∷ xs) (o .out) (r .outs ∙ ap (λ (b : Between). map (λ (x : Run). x .output) (runs (trimmed c []) stream ls b)) (o .hands-on));
-          hands-on = r .hands-on ∙ ap (afterAll (trimmed c []) stream ls) (o .hands-on);
+          reports = ap₂ (λ x xs. x ∷ xs) (o .report) (r .reports ∙ ap (λ (b : Between). map (λ (x : Run). reportOf (x .answer)) (runs (trimmed c numbers) stream ls b)) (o .hands-on));
+          outs = ap₂ (λ x xs. x ∷ xs) (o .out) (r .outs ∙ ap (λ (b : Between). map (λ (x : Run). x .output) (runs (trimmed c numbers) stream ls b)) (o .hands-on));
+          hands-on = r .hands-on ∙ ap (afterAll (trimmed c numbers) stream ls) (o .hands-on);
         }
 
-  lists-value : Lists (onValue c) c
+  lists-value : Lists (onValue c numbers) c numbers
   lists-value = record { accepted = ok; fresh = fresh-value; one = one-value; all = all-value }
 
 pub lists-on-chains : ListsOnChains
-lists-on-chains chain h = lists-value (chainIn chain) (unnumbered (judgeChain (chainIn chain) []) h)
+lists-on-chains chain rows h = lists-value (chainIn chain) rows (unnumbered (judgeChain (chainIn chain) rows) h)
 
 pub lists-on-sheets : ListsOnSheets
 unfolding runSheet
-lists-on-sheets sheet h = subst (λ (f : Call). Lists f (readChain sheet .chain)) (λ i state store cells out allowance. same state store cells out allowance i) (lists-value (readChain sheet .chain) (read-judged sheet ok))
+lists-on-sheets sheet h =
+    subst (λ (f : Call). Lists f (readChain sheet .chain) (numbersIn sheet)) (λ i state store cells out allowance. same state store cells out allowance i)
+    (lists-value (readChain sheet .chain) (numbersIn sheet) (read-judged sheet ok))
   where
     ok : readChain sheet .verdict ≡ verdict.Accepted
     ok = unnumbered (readChain sheet .verdict) h
 
-    same : (state store cells out : List ℕ) (allowance : ℕ) → runValue state store cells out allowance (readChain sheet .chain) ≡ runSheet state store cells out allowance sheet
+    same : (state store cells out : List ℕ) (allowance : ℕ)
+        → runValue state store cells out allowance (readChain sheet .chain) (numbersIn sheet) ≡ runSheet state store cells out allowance sheet
     same state store cells out allowance = rw ok

@@ -1,4 +1,5 @@
 pub mod Laid
+pub mod LentRows
 pub mod States
 pub mod ReadChains
 pub mod ThereAndBack

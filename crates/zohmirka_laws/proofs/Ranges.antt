@@ -78,7 +78,7 @@ indices-small ws from = each-tabulate Index 4 (λ d. signedWord (wordAt ws (from
 pub words-range : (ws : List ℕ) → ((i : ℕ) → Word (wordAt ws i)) → InRange (chainIn ws)
 unfolding chainIn boundsIn
 words-range ws small =
-    by-lt (length ws) 210
+    by-lt (length ws) 212
     (λ h. subst InRange (few-chain ws h) blank-range)
     (λ h. rw (le-ltb _ _ h)
     (record {
@@ -149,33 +149,33 @@ module _ (dims : ℕ) (b : Bounds) (held : HeldBounds b) where
       (λ e. rw e (copied-small dims (b .lowest) (held .0 .1), copied-small dims (b .highest) (held .1 .1)))
       (λ e. rw e (λ d. rw (blank-at {A = ℤ} 4 d (pos 0)) (omega arith), λ d. rw (blank-at {A = ℤ} 4 d (pos 0)) (omega arith)))
 
-module _ (c : Chain) (held : Held c) where
-  request-small : (i : ℕ) → Small (getD (trimmedRequest (requestOf c) [] .offsets) i [])
+module _ (c : Chain) (numbers : List ℕ) (held : Held c) where
+  request-small : (i : ℕ) → Small (getD (trimmedRequest (requestOf c) numbers .offsets) i [])
   unfolding trimmedRequest offsetsOf offsetOf
   request-small =
       each-tabulate Small (c .window .count) (offsetOf (dimsOf (c .grid)) (c .window)) []
       (λ k. each-tabulate Entry (dimsOf (c .grid)) (λ d. getD (c .window .offsets) (4 * k + d) (pos 0)) (pos 0) (λ d. held .window .1 (4 * k + d)) (omega arith))
       (λ j. omega arith)
 
-  request-bounds : Indices (boundsOf (trimmedRequest (requestOf c) [] .part) .lowest) × Indices (boundsOf (trimmedRequest (requestOf c) [] .part) .highest)
+  request-bounds : Indices (boundsOf (trimmedRequest (requestOf c) numbers .part) .lowest) × Indices (boundsOf (trimmedRequest (requestOf c) numbers .part) .highest)
   unfolding trimmedRequest
   request-bounds = copied-bounds (dimsOf (c .grid)) (c .bounds) (held .bounds)
 
-  request-fits : FactorsFit (trimmedRequest (requestOf c) [] .kernel)
+  request-fits : FactorsFit (trimmedRequest (requestOf c) numbers .kernel)
   unfolding trimmedRequest
   request-fits = held .factors
 
-pub planned-range : (c : Chain) → Held c → judgeRequest (requestOf c) [] ≡ verdict.Accepted → InRange (planOf (requestOf c) [] .chain)
+pub planned-range : (c : Chain) (numbers : List ℕ) → Held c → judgeRequest (requestOf c) numbers ≡ verdict.Accepted → InRange (planOf (requestOf c) numbers .chain)
 unfolding planOf plannedChain chainOf judgeRequest sorted
-planned-range c held ok = rw ok
+planned-range c numbers held ok = rw ok
     (record {
       sizes = sizes-small t ok (t .ground) refl;
-      entries = each-tabulate Entry 128 (λ i. getD (getD (falling (t .offsets)) (i / 4) []) (i % 4) (pos 0)) (pos 0) (λ i. sorted-small (t .offsets) (request-small c held) (i / 4) (i % 4)) (omega arith);
-      lowest = request-bounds c held .0;
-      highest = request-bounds c held .1;
+      entries = each-tabulate Entry 128 (λ i. getD (getD (falling (t .offsets)) (i / 4) []) (i % 4) (pos 0)) (pos 0) (λ i. sorted-small (t .offsets) (request-small c numbers held) (i / 4) (i % 4)) (omega arith);
+      lowest = request-bounds c numbers held .0;
+      highest = request-bounds c numbers held .1;
       capacities = each-tabulate Word 31 (λ k. getD (t .capacities) k 0) 0 (capacity-small t ok) (omega arith);
-      factors = request-fits c held;
+      factors = request-fits c numbers held;
     })
   where
     t : Trimmed
-    t = trimmedRequest (requestOf c) []
+    t = trimmedRequest (requestOf c) numbers

@@ -1,4 +1,4 @@
--- What a chain read from a sheet holds: a rectangle, arrays of their lengths, entries of 16 bits, indices of 32, filter numbers of 8, factors that binary32 holds.
+-- What a chain read from a sheet holds: arrays of their lengths, entries of 16 bits, indices of 32, a dimension count and filter numbers of 8, factors that binary32 holds.
 use Prim.Native.Nat.{ℕ, zero, suc, _+_, _<_}
 use mathlib.Core.Bool.{Bool, true, false, cond}
 use mathlib.Core.List.{List, [], _∷_, map}
@@ -18,7 +18,7 @@ use Rattle.model.specs.Lines.{Line, linesOf}
 use Rattle.model.specs.Lists.{tabulate, all}
 use Rattle.model.specs.NamedWindows.{windows, namedOf, entriesOf, withReferences, windowNamed}
 use Rattle.model.specs.Numbers.{byteAt, signed, signedWord, wordAt}
-use Rattle.model.specs.Reading.{withGrid, withOffset, withName, withBox, withCapacity, withOrder, withKernel, kernelIn, entriesIn, lowestIn, highestIn, sizesIn, filtersIn, taken, stepOf, start, readLines, lineVerdict}
+use Rattle.model.specs.Reading.{withGrid, withRows, withOffset, withName, withBox, withCapacity, withOrder, withKernel, kernelIn, entriesIn, lowestIn, highestIn, sizesIn, filtersIn, taken, stepOf, start, readLines, lineVerdict}
 use Rattle.model.specs.declared.Bounds.{Bounds}
 use Rattle.model.specs.declared.Chain.{Chain}
 use Rattle.model.specs.declared.LineStep.{LineStep}
@@ -68,8 +68,7 @@ abbrev HeldOrder : Order → Type 0
 HeldOrder o = (length (o .filters) ≡ 32) × ((t : ℕ) → Byte (getD (o .filters) t 0))
 
 pub record Held (c : Chain) : Type 0 where
-  pub flat : c .grid .skewed ≡ false
-  pub rowless : c .grid .rows ≡ 0
+  pub dims : Byte (c .grid .dims)
   pub sizes : length (c .grid .sizes) ≡ 4
   pub window : HeldWindow (c .window)
   pub bounds : HeldBounds (c .bounds)
@@ -148,16 +147,15 @@ kernel-fits x =
 
 module _ (r : Reading) (x : List ℕ) (small : (i : ℕ) → Byte (byteAt x i)) (h : Held (r .chain)) where
   held-taken : Held (taken r x .chain)
-  unfolding taken withGrid withOffset withName withBox withCapacity withOrder withKernel sizesIn lowestIn highestIn filtersIn
+  unfolding taken withGrid withRows withOffset withName withBox withCapacity withOrder withKernel sizesIn lowestIn highestIn filtersIn
   held-taken =
       by-bool (eqb (getD x 0 0) 1)
-      (λ e. rw e (record { flat = refl; rowless = refl; sizes = refl; window = h .window; bounds = h .bounds; capacities = h .capacities; order = h .order; factors = h .factors }))
+      (λ e. rw e (record { dims = small 1; sizes = refl; window = h .window; bounds = h .bounds; capacities = h .capacities; order = h .order; factors = h .factors }))
       (λ e.
       by-bool (eqb (getD x 0 0) 2)
       (λ d. rw (e, d)
       (record {
-        flat = h .flat;
-        rowless = h .rowless;
+        dims = h .dims;
         sizes = h .sizes;
         window = (length-sets (entriesIn x) _ _ ∙ h .window .0, each-sets (entriesIn x) _ _ (each-entry x) (h .window .1));
         bounds = h .bounds;
@@ -169,8 +167,7 @@ module _ (r : Reading) (x : List ℕ) (small : (i : ℕ) → Byte (byteAt x i)) 
       by-bool (eqb (getD x 0 0) 3)
       (λ f. rw (e, d, f)
       (record {
-        flat = h .flat;
-        rowless = h .rowless;
+        dims = h .dims;
         sizes = h .sizes;
         window = h .window;
         bounds = h .bounds;
@@ -180,16 +177,20 @@ module _ (r : Reading) (x : List ℕ) (small : (i : ℕ) → Byte (byteAt x i)) 
       }))
       (λ f.
       by-bool (eqb (getD x 0 0) 6)
-      (λ o. rw (e, d, f, o) (record { flat = h .flat; rowless = h .rowless; sizes = h .sizes; window = h .window; bounds = h .bounds; capacities = h .capacities; order = order-held; factors = h .factors }))
+      (λ o. rw (e, d, f, o) (record { dims = h .dims; sizes = h .sizes; window = h .window; bounds = h .bounds; capacities = h .capacities; order = order-held; factors = h .factors }))
       (λ o.
       by-bool (eqb (getD x 0 0) 7)
-      (λ g. rw (e, d, f, o, g) (record { flat = h .flat; rowless = h .rowless; sizes = h .sizes; window = named-held (getD x 1 0); bounds = h .bounds; capacities = h .capacities; order = h .order; factors = h .factors }))
+      (λ g. rw (e, d, f, o, g) (record { dims = h .dims; sizes = h .sizes; window = named-held (getD x 1 0); bounds = h .bounds; capacities = h .capacities; order = h .order; factors = h .factors }))
       (λ g.
       by-bool (eqb (getD x 0 0) 8)
       (λ b. rw (e, d, f, o, g, b)
-      (record { flat = h .flat; rowless = h .rowless; sizes = h .sizes; window = h .window; bounds = (each-index _ _ _ _, each-index _ _ _ _); capacities = h .capacities; order = h .order; factors = h .factors }))
-      (λ b. rw (e, d, f, o, g, b)
-      (record { flat = h .flat; rowless = h .rowless; sizes = h .sizes; window = h .window; bounds = h .bounds; capacities = h .capacities; order = h .order; factors = kernel-fits x })))))))
+      (record { dims = h .dims; sizes = h .sizes; window = h .window; bounds = (each-index _ _ _ _, each-index _ _ _ _); capacities = h .capacities; order = h .order; factors = h .factors }))
+      (λ b.
+      by-bool (eqb (getD x 0 0) 9)
+      (λ k. rw (e, d, f, o, g, b, k)
+      (record { dims = omega arith; sizes = refl; window = h .window; bounds = h .bounds; capacities = h .capacities; order = h .order; factors = h .factors }))
+      (λ k. rw (e, d, f, o, g, b, k)
+      (record { dims = h .dims; sizes = h .sizes; window = h .window; bounds = h .bounds; capacities = h .capacities; order = h .order; factors = kernel-fits x }))))))))
     where
       n : ℕ
       n = r .chain .window .count
@@ -202,16 +203,16 @@ module _ (r : Reading) (x : List ℕ) (small : (i : ℕ) → Byte (byteAt x i)) 
       order-held = (length-tabulate 32 (λ t. cond (ltb t n) (byteAt x (1 + t)) 0), each-tabulate Byte 32 (λ t. cond (ltb t n) (byteAt x (1 + t)) 0) 0 (λ t. byte t (ltb t n)) (omega arith))
 
 -- A line that is not turned back holds bytes.
-held-step : (chainSheet : Bool) (r : Reading) (l : Line) → Held (r .chain) → Held (stepOf chainSheet r (seenOf (l .ended) (l .chars)) .reading .chain)
+held-step : (chainSheet : Bool) (numbers : List ℕ) (r : Reading) (l : Line) → Held (r .chain) → Held (stepOf chainSheet numbers r (seenOf (l .ended) (l .chars)) .reading .chain)
 unfolding stepOf
-held-step chainSheet r l h = go (lineVerdict chainSheet r s) refl
+held-step chainSheet numbers r l h = go (lineVerdict chainSheet numbers r s) refl
   where
     s : Seen
     s = seenOf (l .ended) (l .chars)
 
-    go : (v : Verdict) → lineVerdict chainSheet r s ≡ v → Held (byVerdict v (taken r (s .first)) (λ x. r) .chain)
+    go : (v : Verdict) → lineVerdict chainSheet numbers r s ≡ v → Held (byVerdict v (taken r (s .first)) (λ x. r) .chain)
     go verdict.Accepted e =
-        let digits = and-true (l .ended) (whole (l .chars)) (admitted chainSheet r s e .0) .1 in
+        let digits = and-true (l .ended) (whole (l .chars)) (admitted chainSheet numbers r s e .0) .1 in
         held-taken r (s .first) (small-at (small-padded (small-bytes (l .chars) digits))) h
     go (verdict.Refused x) e = h
 
@@ -219,22 +220,21 @@ held-either : (v : Verdict) (a b : LineStep) → Held (a .reading .chain) → He
 held-either verdict.Accepted a b h k = h
 held-either (verdict.Refused x) a b h k = k
 
-held-lines : (chainSheet : Bool) (r : Reading) (ls : List Line) → Held (r .chain) → Held (readLines chainSheet r ls .reading .chain)
+held-lines : (chainSheet : Bool) (numbers : List ℕ) (r : Reading) (ls : List Line) → Held (r .chain) → Held (readLines chainSheet numbers r ls .reading .chain)
 unfolding readLines
-held-lines chainSheet r [] h = h
-held-lines chainSheet r (l ∷ ls) h =
-    let s = stepOf chainSheet r (seenOf (l .ended) (l .chars)) in
-    let k = held-step chainSheet r l h in
-    held-either (s .verdict) (readLines chainSheet (s .reading) ls) s (held-lines chainSheet (s .reading) ls k) k
+held-lines chainSheet numbers r [] h = h
+held-lines chainSheet numbers r (l ∷ ls) h =
+    let s = stepOf chainSheet numbers r (seenOf (l .ended) (l .chars)) in
+    let k = held-step chainSheet numbers r l h in
+    held-either (s .verdict) (readLines chainSheet numbers (s .reading) ls) s (held-lines chainSheet numbers (s .reading) ls k) k
 
-pub held-read : (chainSheet : Bool) (sheet : List ℕ) → Held (readLines chainSheet start (linesOf sheet) .reading .chain)
+pub held-read : (chainSheet : Bool) (numbers sheet : List ℕ) → Held (readLines chainSheet numbers start (linesOf sheet) .reading .chain)
 unfolding FactorsFit
-held-read chainSheet sheet = held-lines chainSheet start (linesOf sheet) held-start
+held-read chainSheet numbers sheet = held-lines chainSheet numbers start (linesOf sheet) held-start
   where
     held-start : Held (start .chain)
     held-start = record {
-      flat = refl;
-      rowless = refl;
+      dims = omega arith;
       sizes = refl;
       window = (refl, λ i. rw (blank-at 128 i (pos 0)) (omega arith));
       bounds = ((refl, λ d. rw (blank-at 4 d (pos 0)) (omega arith)), (refl, λ d. rw (blank-at 4 d (pos 0)) (omega arith)));

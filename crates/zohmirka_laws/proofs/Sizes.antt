@@ -17,7 +17,7 @@ use Rattle.model.specs.Judging.{groundRefusal, windowChecks, kernelChecks, chai
 use Rattle.model.specs.Planning.{planOf}
 use Rattle.model.specs.Frames.{seenOf}
 use Rattle.model.specs.Lines.{Line, linesOf}
-use Rattle.model.specs.Reading.{lineChecks, lineVerdict, stepOf, start, complete, readLines, endVerdict, readChain, readRequest}
+use Rattle.model.specs.Reading.{lineChecks, lineVerdict, stepOf, start, complete, readLines, endVerdict, numbersIn, readChain, readRequest}
 use Rattle.model.specs.Writing.{sheetOf, longestSheet, writeVerdict, writeOf}
 use Rattle.model.specs.Running.{layout, countersOf, shortStore, badState, widthOf}
 use Rattle.model.specs.declared.Chain.{Chain}
@@ -28,36 +28,58 @@ use Rattle.model.specs.declared.Reading.{Reading}
 use Rattle.model.specs.declared.Refusal.the-variants as refusal
 use Rattle.model.specs.declared.Verdict.{Verdict}
 use Rattle.model.specs.declared.Verdict.the-variants as verdict
-use Rattle.model.proofs.ChainLaws.{dims-flat}
 use Rattle.run_laws.proofs.Accepts as accepts
 use Rattle.run_laws.proofs.Plans.{plan-accepted}
-use Rattle.sheet_laws.proofs.AcceptedChains.{accepted-chain}
+use Rattle.sheet_laws.proofs.AcceptedChains.{few-rows, accepted-chain}
 use Rattle.sheet_laws.proofs.SheetLength.{sheet-length}
+use Rattle.sheet_laws.proofs.Cases.{by-bool}
 use Rattle.sheet_trips.proofs.AcceptedSheets.{accepted-request}
+use Rattle.sheet_trips.proofs.Calls.{read-judged}
 use Rattle.runner.proofs.RunLaws as run
-use Rattle.zohmirka_words.specs.Words.{stateIn, chainIn}
+use Rattle.zohmirka_words.specs.Words.{stateIn, chainSize, chainIn, rowPlaces}
 use Rattle.zohmirka_reports.specs.Reports.{reportOf}
 use Rattle.zohmirka_runs.specs.Runs.{runValue}
-use Rattle.zohmirka.specs.Calls.{written, planCall, runSheet}
-use Rattle.zohmirka_laws.specs.Promises.{LongSheet, LongSheetOfChain, LongStore, LongStoreOfSheet, FewWords}
+use Rattle.zohmirka.specs.Calls.{written, planCall, runSheet, readVerdict, readCall}
+use Rattle.zohmirka_laws.specs.Promises.{LongSheet, LongSheetOfChain, LongRows, FewRows, LongStore, LongStoreOfSheet, FewWords}
+use Rattle.zohmirka_laws.proofs.LentRows.{places-skewed, places-flat}
 use Rattle.zohmirka_laws.proofs.Promised.{unnumbered}
 
 -- ---- The longest sheet
 
-room-enough : (c : Chain) (room : ℕ) → judgeChain c [] ≡ verdict.Accepted → longestSheet ≤ room → writeVerdict c room ≡ verdict.Accepted
+room-enough : (c : Chain) (numbers : List ℕ) (room : ℕ) → judgeChain c numbers ≡ verdict.Accepted → longestSheet ≤ room → writeVerdict c numbers room ≡ verdict.Accepted
 unfolding writeVerdict firstOf
-room-enough c room e h =
-    let a = accepted-chain c e in
-    let l : ltb room (length (sheetOf c)) ≡ false = le-ltb room (length (sheetOf c)) (omega (arith, sheet-length c (omega (arith, dims-flat (c .grid) (a .flat), a .few-dims)) (a .few))) in
+room-enough c numbers room e h =
+    let l : ltb room (length (sheetOf c numbers)) ≡ false = le-ltb room (length (sheetOf c numbers)) (omega (arith, sheet-length c numbers (accepted-chain c numbers e))) in
     rw (e, l)
 
 pub long-sheet : LongSheet
 unfolding planCall written writeOf verdictNumber
-long-sheet request sheet e h = rw (e, room-enough (planOf (readRequest request .request) [] .chain) (length sheet) (plan-accepted (readRequest request .request) [] (accepted-request request e)) h)
+long-sheet request sheet e h =
+    let r = readRequest request .request in
+    let numbers = numbersIn request in
+    rw (e, room-enough (planOf r numbers .chain) numbers (length sheet) (plan-accepted r numbers (accepted-request request e)) h)
 
 pub long-sheet-of-chain : LongSheetOfChain
 unfolding written writeOf verdictNumber
-long-sheet-of-chain chain sheet e h = rw (room-enough (chainIn chain) (length sheet) (unnumbered (judgeChain (chainIn chain) []) e) h)
+long-sheet-of-chain chain lent sheet e h = rw (room-enough (chainIn chain) lent (length sheet) (unnumbered (judgeChain (chainIn chain) lent) e) h)
+
+-- ---- 1,024 numbers of rows
+
+few-places : (c : Chain) (numbers : List ℕ) → judgeChain c numbers ≡ verdict.Accepted → rowPlaces (c .grid) ≤ 1024
+few-places c numbers e =
+    by-bool (c .grid .skewed)
+    (λ k. omega (arith, places-skewed (c .grid) k, few-rows (c .grid .rows) numbers (accepted-chain c numbers e .rows k)))
+    (λ k. omega (arith, places-flat (c .grid) k))
+
+pub few-row-numbers : FewRows
+few-row-numbers chain lent e = few-places (chainIn chain) lent (unnumbered (judgeChain (chainIn chain) lent) e)
+
+pub long-rows : LongRows
+unfolding readCall readVerdict verdictNumber firstOf
+long-rows sheet chain lent e long enough =
+    let ok = unnumbered (readChain sheet .verdict) e in
+    let n : rowPlaces (readChain sheet .chain .grid) ≤ length lent = omega (arith, few-places (readChain sheet .chain) (numbersIn sheet) (read-judged sheet ok)) in
+    rw (ok, le-ltb (length chain) chainSize long, le-ltb (length lent) (rowPlaces (readChain sheet .chain .grid)) n)
 
 -- ---- 16,384 words of store
 
@@ -85,74 +107,74 @@ ground-other (rectangle sizes) = λ e. omega arith
 ground-other (rows rs) = λ e. omega arith
 
 -- nor is a chain,
-judged-other : (c : Chain) → Other (verdictNumber (judgeChain c []))
+judged-other : (c : Chain) (numbers : List ℕ) → Other (verdictNumber (judgeChain c numbers))
 unfolding judgeChain judged windowChecks kernelChecks chainChecks valueChecks numberOf
-judged-other c =
-    first-other (valueChecks (trimmed c []))
-    (ground-other (trimmed c [] .ground), (λ e. omega arith, (λ e. omega arith, (λ e. omega arith, (λ e. omega arith, (λ e. omega arith, (λ e. omega arith, (λ e. omega arith, (λ e. omega arith, tt)))))))))
+judged-other c numbers =
+    first-other (valueChecks (trimmed c numbers))
+    (ground-other (trimmed c numbers .ground), (λ e. omega arith, (λ e. omega arith, (λ e. omega arith, (λ e. omega arith, (λ e. omega arith, (λ e. omega arith, (λ e. omega arith, (λ e. omega arith, tt)))))))))
 
 -- nor is a sheet.
-lines-other : (ls : List Line) (r : Reading) → Other (verdictNumber (readLines true r ls .verdict))
+lines-other : (numbers : List ℕ) (ls : List Line) (r : Reading) → Other (verdictNumber (readLines true numbers r ls .verdict))
 unfolding readLines stepOf lineVerdict lineChecks numberOf verdictNumber
-lines-other [] r = λ e. omega arith
-lines-other (l ∷ ls) r = go (s .verdict) first (lines-other ls (s .reading))
+lines-other numbers [] r = λ e. omega arith
+lines-other numbers (l ∷ ls) r = go (s .verdict) first (lines-other numbers ls (s .reading))
   where
     s : LineStep
-    s = stepOf true r (seenOf (l .ended) (l .chars))
+    s = stepOf true numbers r (seenOf (l .ended) (l .chars))
 
     first : Other (verdictNumber (s .verdict))
     first =
-        first-other (lineChecks true r (seenOf (l .ended) (l .chars)))
-        (λ e. omega arith, (λ e. omega arith, (λ e. omega arith, (λ e. omega arith, (λ e. omega arith, (λ e. omega arith, (λ e. omega arith, tt)))))))
+        first-other (lineChecks true numbers r (seenOf (l .ended) (l .chars)))
+        (λ e. omega arith, (λ e. omega arith, (λ e. omega arith, (λ e. omega arith, (λ e. omega arith, (λ e. omega arith, (λ e. omega arith, (λ e. omega arith, (λ e. omega arith, tt)))))))))
 
-    go : (v : Verdict) → Other (verdictNumber (s .verdict)) → Other (verdictNumber (readLines true (s .reading) ls .verdict))
-        → Other (verdictNumber (byVerdict v (readLines true (s .reading) ls) (λ x. s) .verdict))
+    go : (v : Verdict) → Other (verdictNumber (s .verdict)) → Other (verdictNumber (readLines true numbers (s .reading) ls .verdict))
+        → Other (verdictNumber (byVerdict v (readLines true numbers (s .reading) ls) (λ x. s) .verdict))
     go verdict.Accepted a b = b
     go (verdict.Refused x) a b = a
 
 read-other : (sheet : List ℕ) → Other (verdictNumber (readChain sheet .verdict))
 unfolding readChain endVerdict verdictNumber numberOf
-read-other sheet = go (s .verdict) (complete (s .reading)) (lines-other (linesOf sheet) start)
+read-other sheet = go (s .verdict) (complete (s .reading)) (lines-other (numbersIn sheet) (linesOf sheet) start)
   where
     s : LineStep
-    s = readLines true start (linesOf sheet)
+    s = readLines true (numbersIn sheet) start (linesOf sheet)
 
     go : (v : Verdict) (b : Bool) → Other (verdictNumber v)
-        → Other (verdictNumber (byVerdict v (cond b (judgeChain (s .reading .chain) []) (verdict.Refused refusal.Misplaced)) verdict.Refused))
-    go verdict.Accepted true h = judged-other (s .reading .chain)
+        → Other (verdictNumber (byVerdict v (cond b (judgeChain (s .reading .chain) (numbersIn sheet)) (verdict.Refused refusal.Misplaced)) verdict.Refused))
+    go verdict.Accepted true h = judged-other (s .reading .chain) (numbersIn sheet)
     go verdict.Accepted false h = λ e. omega arith
     go (verdict.Refused x) b h = h
 
 module _ (state store cells out : List ℕ) (allowance : ℕ) (long : 16384 ≤ length store) where
-  value-long : (c : Chain) → runValue state store cells out allowance c .report .refusal ≡ 10 → ⊥
+  value-long : (c : Chain) (numbers : List ℕ) → runValue state store cells out allowance c numbers .report .refusal ≡ 10 → ⊥
   unfolding runValue reportOf answerNumber verdictNumber numberOf shortStore
-  value-long c h = go (judgeChain c []) refl
+  value-long c numbers h = go (judgeChain c numbers) refl
     where
-      ample : judgeChain c [] ≡ verdict.Accepted → shortStore (trimmed c []) store ≡ false
-      ample e = le-ltb (length store) (sum (trimmed c [] .capacities)) (omega (arith, accepts.accepted-chain c [] e .places))
+      ample : judgeChain c numbers ≡ verdict.Accepted → shortStore (trimmed c numbers) store ≡ false
+      ample e = le-ltb (length store) (sum (trimmed c numbers .capacities)) (omega (arith, accepts.accepted-chain c numbers e .places))
 
-      stated : judgeChain c [] ≡ verdict.Accepted → (b : Bool) → badState (layout (trimmed c [])) (countersOf (c .window .count) (stateIn state)) ≡ b → ⊥
-      stated e true d = let x = rw (← run.run-bad c [] (stateIn state) store cells out allowance (accepts.accepted-chain c [] e) (ample e) d) at h in omega arith
-      stated e false d = let x = rw (← run.run-ends c [] (stateIn state) store cells out allowance (accepts.accepted-chain c [] e) (ample e) d) at h in omega arith
+      stated : judgeChain c numbers ≡ verdict.Accepted → (b : Bool) → badState (layout (trimmed c numbers)) (countersOf (c .window .count) (stateIn state)) ≡ b → ⊥
+      stated e true d = let x = rw (← run.run-bad c numbers (stateIn state) store cells out allowance (accepts.accepted-chain c numbers e) (ample e) d) at h in omega arith
+      stated e false d = let x = rw (← run.run-ends c numbers (stateIn state) store cells out allowance (accepts.accepted-chain c numbers e) (ample e) d) at h in omega arith
 
-      go : (v : Verdict) → judgeChain c [] ≡ v → ⊥
-      go verdict.Accepted e = stated e (badState (layout (trimmed c [])) (countersOf (c .window .count) (stateIn state))) refl
+      go : (v : Verdict) → judgeChain c numbers ≡ v → ⊥
+      go verdict.Accepted e = stated e (badState (layout (trimmed c numbers)) (countersOf (c .window .count) (stateIn state))) refl
       go (verdict.Refused x) e =
-          let n : Other (numberOf x) = rw e at (judged-other c) in
-          n (rw (← run.run-refused c [] (stateIn state) store cells out allowance x e) at h)
+          let n : Other (numberOf x) = rw e at (judged-other c numbers) in
+          n (rw (← run.run-refused c numbers (stateIn state) store cells out allowance x e) at h)
 
   sheet-long : (sheet : List ℕ) → runSheet state store cells out allowance sheet .report .refusal ≡ 10 → ⊥
   unfolding runSheet reportOf answerNumber verdictNumber
   sheet-long sheet h = go (readChain sheet .verdict) refl
     where
       go : (v : Verdict) → readChain sheet .verdict ≡ v → ⊥
-      go verdict.Accepted e = value-long (readChain sheet .chain) (rw e at h)
+      go verdict.Accepted e = value-long (readChain sheet .chain) (numbersIn sheet) (rw e at h)
       go (verdict.Refused x) e =
           let n : Other (numberOf x) = rw e at (read-other sheet) in
           n (rw e at h)
 
 pub long-store : LongStore
-long-store state store cells out allowance chain long = value-long state store cells out allowance long (chainIn chain)
+long-store state store cells out allowance chain lent long = value-long state store cells out allowance long (chainIn chain) lent
 
 pub long-store-of-sheet : LongStoreOfSheet
 long-store-of-sheet state store cells out allowance sheet long = sheet-long state store cells out allowance long sheet
@@ -168,4 +190,4 @@ at-most (kernel.Blend g) n h = omega arith
 
 pub few-words : FewWords
 unfolding widthOf trimmed
-few-words c e = at-most (c .kernel) (c .window .count) (accepts.accepted-chain c [] e .few)
+few-words c numbers e = at-most (c .kernel) (c .window .count) (accepts.accepted-chain c numbers e .few)

@@ -20,7 +20,7 @@ use Rattle.sheet_laws.proofs.Cases.{by-lt}
 use Rattle.sheet_trips.specs.RoundTrips.{FactorsFit}
 use Rattle.sheet_trips.proofs.Values.{signed-pattern, pattern-small, signed-word-pattern}
 use Rattle.zohmirka_words.specs.Words.{wordAt, laid, kernelWords, chainWord, chainWords, countIn, kernelIn, orderIn, indicesIn, boundsIn, chainIn}
-use Rattle.zohmirka_words.proofs.WordLaws.{at-stood, at-filter, at-box-stood, at-lowest, at-highest, order-of-words, bounds-of-words, chain-of-words}
+use Rattle.zohmirka_words.proofs.WordLaws.{at-stood, at-filter, at-box-stood, at-lowest, at-highest, at-skewed, at-rows, order-of-words, bounds-of-words, chain-of-words}
 use Rattle.zohmirka_laws.proofs.Laid.{laid-long, laid-at}
 use Rattle.zohmirka_laws.proofs.ReadChains.{HeldIndices, Held}
 
@@ -35,7 +35,7 @@ count-back : (n : ℕ) → n < 256 → n ≡ countIn n
 unfolding countIn
 count-back n h = by-lt n 255 (λ l. rw (lt-ltb _ _ l)) (λ l. rw (le-ltb _ _ l) (omega arith))
 
--- Whether a line stood, and the indices of a box.
+-- Whether a line stood or a grid is skewed, and the indices of a box.
 stood-back : (w : ℕ) (b : Bool) → w ≡ cond b 1 0 → b ≡ not (eqb w 0)
 stood-back w true e = rw e
 stood-back w false e = rw e
@@ -95,31 +95,28 @@ module _ (c : Chain) where
     abbrev ws : List ℕ
     ws = laid (chainWords c) old
 
-    long : 210 ≤ length ws
+    long : 212 ≤ length ws
     unfolding chainWords
-    long = laid-long 210 (chainWord c) old
+    long = laid-long 212 (chainWord c) old
 
-    at : (i : ℕ) → i < 210 → wordAt ws i ≡ chainWord c i
+    at : (i : ℕ) → i < 212 → wordAt ws i ≡ chainWord c i
     unfolding chainWords
-    at i h = laid-at 210 (chainWord c) old i h
+    at i h = laid-at 212 (chainWord c) old i h
 
-    pub chain-back : Held c → c .grid .dims ≤ 4 → c .window .count ≤ 32 → c ≡ chainIn ws
+    pub chain-back : Held c → c .window .count ≤ 32 → c ≡ chainIn ws
     unfolding tabulate
-    chain-back h few some =
-        (λ i.
-        record {
-          grid = record { skewed = h .flat i; rows = h .rowless i; dims = c .grid .dims; sizes = c .grid .sizes };
-          window = c .window;
-          bounds = c .bounds;
-          capacities = c .capacities;
-          order = c .order;
-          kernel = c .kernel;
-        })
-        ∙ chain-of-words ws (c .grid .dims) (c .window .count) (c .grid .sizes) (c .capacities) (c .window .offsets) (c .bounds) (c .order) (c .kernel) long dims sizes count offsets
-        capacities bounds orders kernels
+    chain-back h some =
+        chain-of-words ws (c .grid .skewed) (c .grid .rows) (c .grid .dims) (c .window .count) (c .grid .sizes) (c .capacities) (c .window .offsets) (c .bounds) (c .order) (c .kernel) long skewed rows
+        dims sizes count offsets capacities bounds orders kernels
       where
+        skewed : c .grid .skewed ≡ not (eqb (wordAt ws 210) 0)
+        skewed = stood-back _ (c .grid .skewed) (at 210 (omega arith) ∙ at-skewed c)
+
+        rows : c .grid .rows ≡ wordAt ws 211
+        rows = sym (at 211 (omega arith) ∙ at-rows c)
+
         dims : c .grid .dims ≡ countIn (wordAt ws 0)
-        dims = count-back (c .grid .dims) (omega arith) ∙ ap countIn (sym (at 0 (omega arith) ∙ at-dims))
+        dims = count-back (c .grid .dims) (h .dims) ∙ ap countIn (sym (at 0 (omega arith) ∙ at-dims))
 
         sizes : c .grid .sizes ≡ wordAt ws 1 ∷ wordAt ws 2 ∷ wordAt ws 3 ∷ wordAt ws 4 ∷ []
         sizes = sym (tabulate-back 0 (c .grid .sizes) 4 (λ d. wordAt ws (1 + d)) (h .sizes) (λ d b. at (1 + d) (omega arith) ∙ at-size d b))
@@ -148,7 +145,7 @@ module _ (c : Chain) where
             lowest = indices-back ws 202 (c .bounds .lowest) (h .bounds .0) (λ d b. at (202 + d) (omega arith) ∙ at-lowest c d b)
 
             highest : c .bounds .highest ≡ indicesIn ws 206
-            highest = indices-back ws 206 (c .bounds .highest) (h .bounds .1) (λ d b. at (206 + d) (omega arith) ∙ at-highest c d)
+            highest = indices-back ws 206 (c .bounds .highest) (h .bounds .1) (λ d b. at (206 + d) (omega arith) ∙ at-highest c d b)
 
         orders : c .order ≡ orderIn ws
         orders = order-of-words ws (c .order .stood) (c .order .filters) (stood-back _ (c .order .stood) (at 168 (omega arith) ∙ at-stood c)) filters

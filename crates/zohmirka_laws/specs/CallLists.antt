@@ -6,7 +6,7 @@ use lib.ListN.{length, take, drop}
 use Rattle.model.specs.Lists.{tabulate}
 use Rattle.model.specs.Values.{trimmed}
 use Rattle.model.specs.Judging.{judgeChain}
-use Rattle.model.specs.Reading.{readChain}
+use Rattle.model.specs.Reading.{numbersIn, readChain}
 use Rattle.model.specs.CallLists.{Lending, Between, Fresh, callRun, after, afterAll, runs}
 use Rattle.model.specs.declared.Chain.{Chain}
 use Rattle.model.specs.declared.State.{State}
@@ -30,15 +30,15 @@ StatesBack = (s : State) → length (s .passed) ≡ 32 → StateBack s
 abbrev pub WordsBack : Type 0
 WordsBack = (ws : List ℕ) → stateSize ≤ length ws → stateInto (stateIn ws) ws ≡ ws
 
--- A run call on one chain, which a sheet or words give.
+-- A run call on one chain, which a sheet gives, or words and the rows lent beside them.
 abbrev pub Call : Type 0
 Call = (state store cells out : List ℕ) (allowance : ℕ) → Runs
 
 abbrev pub onSheet : (sheet : List ℕ) → Call
 onSheet sheet state store cells out allowance = runSheet state store cells out allowance sheet
 
-abbrev pub onChain : (chain : List ℕ) → Call
-onChain chain state store cells out allowance = runChain state store cells out allowance chain
+abbrev pub onChain : (chain rows : List ℕ) → Call
+onChain chain rows state store cells out allowance = runChain state store cells out allowance chain rows
 
 -- What the caller keeps between two calls, and the state and the store that this is.
 pub record Slices : Type 0 where
@@ -65,31 +65,31 @@ module _ (call : Call) (stream : ℕ → ℕ) where
   calledAll [] k = []
   calledAll (l ∷ ls) k = called l k ∷ calledAll ls (left l k)
 
-module _ (call : Call) (c : Chain) (stream : ℕ → ℕ) where
-  -- Each call is that of the list on the chain, with the state that the words are; it hands on what that call hands on, and the state's later words stay.
+module _ (call : Call) (c : Chain) (numbers : List ℕ) (stream : ℕ → ℕ) where
+  -- Each call is that of the list on the chain and its rows, with the state that the words are; it hands on what that call hands on, and the state's later words stay.
   pub record OneCall (l : Lending) (k : Slices) : Type 0 where
-    pub report : called call stream l k .report ≡ reportOf (callRun (trimmed c []) stream l (between k) .answer)
-    pub out : called call stream l k .out ≡ callRun (trimmed c []) stream l (between k) .output
-    pub hands-on : between (left call stream l k) ≡ after (trimmed c []) stream l (between k)
+    pub report : called call stream l k .report ≡ reportOf (callRun (trimmed c numbers) stream l (between k) .answer)
+    pub out : called call stream l k .out ≡ callRun (trimmed c numbers) stream l (between k) .output
+    pub hands-on : between (left call stream l k) ≡ after (trimmed c numbers) stream l (between k)
     pub long : length (left call stream l k .state) ≡ length (k .state)
     pub later : drop stateSize (left call stream l k .state) ≡ drop stateSize (k .state)
 
   -- So is a list of calls: all reports, all outputs, and what it hands on at its end.
   pub record AllCalls (ls : List Lending) (k : Slices) : Type 0 where
-    pub reports : map (λ r. r .report) (calledAll call stream ls k) ≡ map (λ r. reportOf (r .answer)) (runs (trimmed c []) stream ls (between k))
-    pub outs : map (λ r. r .out) (calledAll call stream ls k) ≡ map (λ r. r .output) (runs (trimmed c []) stream ls (between k))
-    pub hands-on : between (leftAll call stream ls k) ≡ afterAll (trimmed c []) stream ls (between k)
+    pub reports : map (λ r. r .report) (calledAll call stream ls k) ≡ map (λ r. reportOf (r .answer)) (runs (trimmed c numbers) stream ls (between k))
+    pub outs : map (λ r. r .out) (calledAll call stream ls k) ≡ map (λ r. r .output) (runs (trimmed c numbers) stream ls (between k))
+    pub hands-on : between (leftAll call stream ls k) ≡ afterAll (trimmed c numbers) stream ls (between k)
 
 -- With 33 words or more, which "are 0 when fresh".
-pub record Lists (call : Call) (c : Chain) : Type 0 where
-  pub accepted : judgeChain c [] ≡ Accepted
-  pub fresh : (k : Slices) → stateSize ≤ length (k .state) → ((i : ℕ) → i < stateSize → wordAt (k .state) i ≡ 0) → Fresh (trimmed c []) (between k)
-  pub one : (stream : ℕ → ℕ) (l : Lending) (k : Slices) → stateSize ≤ length (k .state) → OneCall call c stream l k
-  pub all : (stream : ℕ → ℕ) (ls : List Lending) (k : Slices) → stateSize ≤ length (k .state) → AllCalls call c stream ls k
+pub record Lists (call : Call) (c : Chain) (numbers : List ℕ) : Type 0 where
+  pub accepted : judgeChain c numbers ≡ Accepted
+  pub fresh : (k : Slices) → stateSize ≤ length (k .state) → ((i : ℕ) → i < stateSize → wordAt (k .state) i ≡ 0) → Fresh (trimmed c numbers) (between k)
+  pub one : (stream : ℕ → ℕ) (l : Lending) (k : Slices) → stateSize ≤ length (k .state) → OneCall call c numbers stream l k
+  pub all : (stream : ℕ → ℕ) (ls : List Lending) (k : Slices) → stateSize ≤ length (k .state) → AllCalls call c numbers stream ls k
 
--- Of every chain and every sheet that the judge calls accept.
+-- Of every chain, with any rows beside it, and every sheet that the judge calls accept.
 abbrev pub ListsOnChains : Type 0
-ListsOnChains = (chain : List ℕ) → judgeChainCall chain ≡ 0 → Lists (onChain chain) (chainIn chain)
+ListsOnChains = (chain rows : List ℕ) → judgeChainCall chain rows ≡ 0 → Lists (onChain chain rows) (chainIn chain) rows
 
 abbrev pub ListsOnSheets : Type 0
-ListsOnSheets = (sheet : List ℕ) → judgeCall sheet ≡ 0 → Lists (onSheet sheet) (readChain sheet .chain)
+ListsOnSheets = (sheet : List ℕ) → judgeCall sheet ≡ 0 → Lists (onSheet sheet) (readChain sheet .chain) (numbersIn sheet)

@@ -1,6 +1,6 @@
--- What a run call on a chain with no rows beside it leaves.
+-- What a run call on a chain and the rows lent beside it leaves.
 use Prim.Native.Nat.{ℕ}
-use mathlib.Core.List.{List, []}
+use mathlib.Core.List.{List}
 use Rattle.model.specs.Running.{runOf}
 use Rattle.model.specs.declared.Answer.{Answer}
 use Rattle.model.specs.declared.Answer.the-variants as answer
@@ -22,8 +22,8 @@ stateLeft (answer.Ended o) s ws = stateInto s ws
 stateLeft (answer.Refused x) s ws = ws
 
 module _ (state store cells out : List ℕ) (allowance : ℕ) where
-  -- A call on the chain c.
-  unfoldable pub runValue : Chain → Runs
-  runValue c =
-      let ran = runOf c [] (stateIn state) store cells out allowance in
+  -- A call on the chain c, whose rows have these numbers.
+  unfoldable pub runValue : Chain → (numbers : List ℕ) → Runs
+  runValue c numbers =
+      let ran = runOf c numbers (stateIn state) store cells out allowance in
       record { report = reportOf (ran .answer); state = stateLeft (ran .answer) (ran .state) state; store = ran .store; out = ran .output }

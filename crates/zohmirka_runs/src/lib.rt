@@ -1,4 +1,4 @@
-// A run call on a chain with no rows beside it, with its state as words.
+// A run call on a chain and the rows lent beside it, with its state as words.
 use model::Answer;
 use model::Chain;
 use zohmirka_reports::Report;
@@ -9,9 +9,10 @@ use zohmirka_words::state_out;
 ghost use mathlib.Core.Path.{_≡_};
 ghost use Rattle.zohmirka_runs.specs.Runs.{runValue};
 
-// A run call on a chain.
+// A run call on a chain; its rows count only where its grid is skewed.
 pub fn run_value(
     chain: Chain,
+    rows: &[u32],
     state: &mut [u32],
     store: &mut [u32],
     cells: &[u32],
@@ -19,10 +20,10 @@ pub fn run_value(
     allowance: u32,
 ) -> Report
     ensures { λ r. ⌜ record { report = r; state = now (state .exit); store = now (store .exit); out = now (out .exit) }
-        ≡ runValue (now (state .entry)) (now (store .entry)) (now (cells .entry)) (now (out .entry)) allowance chain ⌝ }
+        ≡ runValue (now (state .entry)) (now (store .entry)) (now (cells .entry)) (now (out .entry)) allowance chain (now (rows .entry)) ⌝ }
 {
     let before = state_in(state);
-    let ran = runner::run(chain, &[], before, store, cells, out, allowance);
+    let ran = runner::run(chain, rows, before, store, cells, out, allowance);
     let answer = ran.answer;
     match answer {
         Answer::Refused(x) => refused(x),

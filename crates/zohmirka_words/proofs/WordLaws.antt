@@ -1,4 +1,4 @@
--- Lists whose first entries are set one after the other; states and chains by their words.
+-- Lists whose first entries are set one after the other; states, chains and rows by their words.
 use Prim.Native.Nat.{ℕ, zero, suc, _+_, _-_, _%_, _≤_, _<_}
 use mathlib.Core.Bool.{Bool, true, false, cond, not}
 use mathlib.Core.List.{List, [], _∷_, _++_}
@@ -17,11 +17,12 @@ use Rattle.model.specs.Values.{blankChain}
 use Rattle.model.specs.declared.Bounds.{Bounds}
 use Rattle.model.specs.declared.CellsPassed.{CellsPassed}
 use Rattle.model.specs.declared.Chain.{Chain}
+use Rattle.model.specs.declared.Grid.{Grid}
 use Rattle.model.specs.declared.Kernel.{Kernel}
 use Rattle.model.specs.declared.Order.{Order}
 use Rattle.model.specs.declared.State.{State}
 use Rattle.model.proofs.ListLaws.{length-tabulate}
-use Rattle.zohmirka_words.specs.Words.{wordAt, laid, counter, stateWord, stateWords, stateIn, stateInto, boxWord, chainWord, chainWords, chainInto, countIn, kernelIn, orderIn, indicesIn, boundsIn, chainIn}
+use Rattle.zohmirka_words.specs.Words.{wordAt, laid, counter, stateWord, stateWords, stateIn, stateInto, boxWord, chainWord, chainWords, chainInto, countIn, kernelIn, orderIn, indicesIn, boundsIn, chainIn, rowPlaces, rowWords, rowsInto}
 
 -- The first k entries f's, the others as they were.
 abbrev pub front : {A : Type 0} → (ℕ → A) → ℕ → List A → List A
@@ -69,7 +70,7 @@ pub stood-word : (b : Bool) → boolByte b ≡ cond b 1 0
 stood-word true = refl
 stood-word false = refl
 
--- The words of an order and of a box in their chain.
+-- The words of an order, of a box and of the grid's rows in their chain.
 module _ (c : Chain) where
   pub at-stood : chainWord c 168 ≡ cond (c .order .stood) 1 0
   unfolding chainWord
@@ -89,9 +90,9 @@ module _ (c : Chain) where
       let e : 169 + t - 169 ≡ t = omega arith in
       rw (le-ltb _ _ a, le-ltb _ _ b, le-ltb _ _ d, le-ltb _ _ f, le-ltb _ _ g, le-ltb _ _ k, le-ltb _ _ l, lt-ltb _ _ m, e)
 
-  pub at-box : (i : ℕ) → chainWord c (201 + i) ≡ boxWord (c .bounds) i
+  pub at-box : (i : ℕ) → i < 9 → chainWord c (201 + i) ≡ boxWord (c .bounds) i
   unfolding chainWord
-  at-box i =
+  at-box i h =
       let a : 1 ≤ 201 + i = omega arith in
       let b : 5 ≤ 201 + i = omega arith in
       let d : 6 ≤ 201 + i = omega arith in
@@ -100,8 +101,9 @@ module _ (c : Chain) where
       let k : 168 ≤ 201 + i = omega arith in
       let l : 169 ≤ 201 + i = omega arith in
       let m : 201 ≤ 201 + i = omega arith in
+      let n : 201 + i < 210 = omega arith in
       let e : 201 + i - 201 ≡ i = omega arith in
-      rw (le-ltb _ _ a, le-ltb _ _ b, le-ltb _ _ d, le-ltb _ _ f, le-ltb _ _ g, le-ltb _ _ k, le-ltb _ _ l, le-ltb _ _ m, e)
+      rw (le-ltb _ _ a, le-ltb _ _ b, le-ltb _ _ d, le-ltb _ _ f, le-ltb _ _ g, le-ltb _ _ k, le-ltb _ _ l, le-ltb _ _ m, lt-ltb _ _ n, e)
 
   pub at-box-stood : chainWord c 201 ≡ cond (c .bounds .stood) 1 0
   unfolding chainWord boxWord
@@ -114,16 +116,24 @@ module _ (c : Chain) where
       let b : 1 + d < 5 = omega arith in
       let e : 1 + d - 1 ≡ d = omega arith in
       let f : 202 + d ≡ 201 + (1 + d) = omega arith in
-      rw f (at-box (1 + d) ∙ rw (le-ltb _ _ a, lt-ltb _ _ b, e))
+      rw f (at-box (1 + d) (omega arith) ∙ rw (le-ltb _ _ a, lt-ltb _ _ b, e))
 
-  pub at-highest : (d : ℕ) → chainWord c (206 + d) ≡ wordPattern (getD (c .bounds .highest) d (pos 0))
+  pub at-highest : (d : ℕ) → d < 4 → chainWord c (206 + d) ≡ wordPattern (getD (c .bounds .highest) d (pos 0))
   unfolding boxWord
-  at-highest d =
+  at-highest d h =
       let a : 1 ≤ 5 + d = omega arith in
       let b : 5 ≤ 5 + d = omega arith in
       let e : 5 + d - 5 ≡ d = omega arith in
       let f : 206 + d ≡ 201 + (5 + d) = omega arith in
-      rw f (at-box (5 + d) ∙ rw (le-ltb _ _ a, le-ltb _ _ b, e))
+      rw f (at-box (5 + d) (omega arith) ∙ rw (le-ltb _ _ a, le-ltb _ _ b, e))
+
+  pub at-skewed : chainWord c 210 ≡ cond (c .grid .skewed) 1 0
+  unfolding chainWord
+  at-skewed = refl
+
+  pub at-rows : chainWord c 211 ≡ c .grid .rows
+  unfolding chainWord
+  at-rows = refl
 
 module _ (ws : List ℕ) where
   pub few-state : length ws < 33 → _≡_ {A = State} (record { passed = replicate 32 (counter 0); fired = record { 0 = 4294967295 } }) (stateIn ws)
@@ -151,39 +161,43 @@ module _ (ws : List ℕ) where
       let e : k ≡ 32 = omega arith in
       rw (le-ltb _ _ l) (front-more (stateWord s) 32 ws xs (s .fired .0) l refl (rw e at r) ∙ front-laid (stateWord s) 33 ws)
 
-  pub few-places : (c : Chain) → length ws < 210 → ws ≡ chainInto c ws
+  pub few-places : (c : Chain) → length ws < 212 → ws ≡ chainInto c ws
   unfolding chainInto
   few-places c h = rw (lt-ltb _ _ h)
 
-  -- Whether the order stood, one filter more, one word of the box more, and all words.
-  pub stood-more : (c : Chain) (k : ℕ) (xs : List ℕ) → 168 ≤ k → k ≤ 168 → 210 ≤ length ws → xs ≡ front (chainWord c) k ws
+  -- Whether the order stood, one filter more, one word of the box more, and all words with the two of the rows.
+  pub stood-more : (c : Chain) (k : ℕ) (xs : List ℕ) → 168 ≤ k → k ≤ 168 → 212 ≤ length ws → xs ≡ front (chainWord c) k ws
       → set xs 168 (boolByte (c .order .stood)) ≡ front (chainWord c) 169 ws
   stood-more c k xs h g l r =
       let e : k ≡ 168 = omega arith in
       let d : 168 < length ws = omega arith in
       front-more (chainWord c) 168 ws xs (boolByte (c .order .stood)) d (stood-word (c .order .stood) ∙ sym (at-stood c)) (rw e at r)
 
-  pub filter-more : (c : Chain) (t : ℕ) (xs : List ℕ) → t < 32 → 210 ≤ length ws → xs ≡ front (chainWord c) (169 + t) ws
+  pub filter-more : (c : Chain) (t : ℕ) (xs : List ℕ) → t < 32 → 212 ≤ length ws → xs ≡ front (chainWord c) (169 + t) ws
       → set xs (169 + t) (getD (c .order .filters) t 0) ≡ front (chainWord c) (169 + (t + 1)) ws
   filter-more c t xs h l r =
       let e : 169 + (t + 1) ≡ 169 + t + 1 = omega arith in
       let d : 169 + t < length ws = omega arith in
       rw e (front-more (chainWord c) (169 + t) ws xs (getD (c .order .filters) t 0) d (sym (at-filter c t h)) r)
 
-  pub box-more : (c : Chain) (d : ℕ) (xs : List ℕ) → d < 9 → 210 ≤ length ws → xs ≡ front (chainWord c) (201 + d) ws
+  pub box-more : (c : Chain) (d : ℕ) (xs : List ℕ) → d < 9 → 212 ≤ length ws → xs ≡ front (chainWord c) (201 + d) ws
       → set xs (201 + d) (boxWord (c .bounds) d) ≡ front (chainWord c) (201 + (d + 1)) ws
   box-more c d xs h l r =
       let e : 201 + (d + 1) ≡ 201 + d + 1 = omega arith in
       let f : 201 + d < length ws = omega arith in
-      rw e (front-more (chainWord c) (201 + d) ws xs (boxWord (c .bounds) d) f (sym (at-box c d)) r)
+      rw e (front-more (chainWord c) (201 + d) ws xs (boxWord (c .bounds) d) f (sym (at-box c d h)) r)
 
-  pub words-of-chain : (c : Chain) (d : ℕ) (xs : List ℕ) → 9 ≤ d → d ≤ 9 → 210 ≤ length ws → xs ≡ front (chainWord c) (201 + d) ws → xs ≡ chainInto c ws
+  pub words-of-chain : (c : Chain) (d : ℕ) (xs : List ℕ) → 9 ≤ d → d ≤ 9 → 212 ≤ length ws → xs ≡ front (chainWord c) (201 + d) ws
+      → set (set xs 210 (boolByte (c .grid .skewed))) 211 (c .grid .rows) ≡ chainInto c ws
   unfolding chainInto chainWords
   words-of-chain c d xs h g l r =
       let e : 201 + d ≡ 210 = omega arith in
-      rw (le-ltb _ _ l) (r ∙ rw e (front-laid (chainWord c) 210 ws))
+      let m : 210 < length ws = omega arith in
+      let n : 211 < length ws = omega arith in
+      let kind = front-more (chainWord c) 210 ws xs (boolByte (c .grid .skewed)) m (stood-word (c .grid .skewed) ∙ sym (at-skewed c)) (rw e at r) in
+      rw (le-ltb _ _ l) (front-more (chainWord c) 211 ws (set xs 210 (boolByte (c .grid .skewed))) (c .grid .rows) n (sym (at-rows c)) kind ∙ front-laid (chainWord c) 212 ws)
 
-  pub few-chain : length ws < 210 → blankChain ≡ chainIn ws
+  pub few-chain : length ws < 212 → blankChain ≡ chainIn ws
   unfolding chainIn
   few-chain h = rw (lt-ltb _ _ h)
 
@@ -204,11 +218,23 @@ module _ (ws : List ℕ) where
   unfolding boundsIn
   bounds-of-words stood lowest highest e f g = rw (e, f, g)
 
-  pub chain-of-words : (dims count : ℕ) (sizes capacities : List ℕ) (offsets : List ℤ) (b : Bounds) (o : Order) (k : Kernel) → 210 ≤ length ws
-      → dims ≡ countIn (wordAt ws 0) → sizes ≡ wordAt ws 1 ∷ wordAt ws 2 ∷ wordAt ws 3 ∷ wordAt ws 4 ∷ [] → count ≡ countIn (wordAt ws 5)
+  pub chain-of-words : (skewed : Bool) (rows dims count : ℕ) (sizes capacities : List ℕ) (offsets : List ℤ) (b : Bounds) (o : Order) (k : Kernel) → 212 ≤ length ws
+      → skewed ≡ not (eqb (wordAt ws 210) 0) → rows ≡ wordAt ws 211 → dims ≡ countIn (wordAt ws 0) → sizes ≡ wordAt ws 1 ∷ wordAt ws 2 ∷ wordAt ws 3 ∷ wordAt ws 4 ∷ [] → count ≡ countIn (wordAt ws 5)
       → offsets ≡ tabulate 128 (λ i. signed (wordAt ws (6 + i) % 65536)) → capacities ≡ tabulate 31 (λ i. wordAt ws (134 + i))
       → b ≡ boundsIn ws → o ≡ orderIn ws → k ≡ kernelIn (wordAt ws 165) (wordAt ws 166) (wordAt ws 167)
-      → record { grid = record { skewed = false; rows = 0; dims = dims; sizes = sizes }; window = record { count = count; offsets = offsets }; bounds = b; capacities = capacities; order = o; kernel = k }
+      → record { grid = record { skewed = skewed; rows = rows; dims = dims; sizes = sizes }; window = record { count = count; offsets = offsets }; bounds = b; capacities = capacities; order = o; kernel = k }
       ≡ chainIn ws
   unfolding chainIn
-  chain-of-words dims count sizes capacities offsets b o k h e1 e2 e3 e4 e5 e6 e7 e8 = rw (le-ltb _ _ h, e1, e2, e3, e4, e5, e6, e7, e8)
+  chain-of-words skewed rows dims count sizes capacities offsets b o k h d1 d2 e1 e2 e3 e4 e5 e6 e7 e8 = rw (le-ltb _ _ h, d1, d2, e1, e2, e3, e4, e5, e6, e7, e8)
+
+  -- Rows, where a grid's have so many numbers.
+  module _ (g : Grid) (numbers : List ℕ) (n : ℕ) (e : n ≡ rowPlaces g) where
+    pub few-row-places : length ws < n → ws ≡ rowsInto g numbers ws
+    unfolding rowsInto
+    few-row-places h = rw (← e, lt-ltb _ _ h)
+
+    pub rows-of-words : (k : ℕ) (xs : List ℕ) → n ≤ k → k ≤ n → n ≤ length ws → xs ≡ front (wordAt numbers) k ws → xs ≡ rowsInto g numbers ws
+    unfolding rowsInto rowWords
+    rows-of-words k xs h b l r =
+        let d : k ≡ n = omega arith in
+        rw (← e, le-ltb _ _ l) (r ∙ rw d (front-laid (wordAt numbers) n ws))

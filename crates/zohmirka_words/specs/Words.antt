@@ -1,6 +1,6 @@
--- A state and a chain as words.
-use Prim.Native.Nat.{ℕ, _+_, _-_, _%_}
-use mathlib.Core.Bool.{false, cond, not}
+-- A state, a chain and the rows beside it as words.
+use Prim.Native.Nat.{ℕ, _+_, _-_, _*_, _%_}
+use mathlib.Core.Bool.{cond, not}
 use mathlib.Core.List.{List, [], _∷_, _++_}
 use lib.Dec.{eqb, ltb}
 use lib.IntN.{ℤ, pos}
@@ -12,6 +12,7 @@ use Rattle.model.specs.Values.{blankChain}
 use Rattle.model.specs.declared.Bounds.{Bounds}
 use Rattle.model.specs.declared.CellsPassed.{CellsPassed}
 use Rattle.model.specs.declared.Chain.{Chain}
+use Rattle.model.specs.declared.Grid.{Grid}
 use Rattle.model.specs.declared.Kernel.{Kernel}
 use Rattle.model.specs.declared.Kernel.the-variants as kernel
 use Rattle.model.specs.declared.Order.{Order}
@@ -50,10 +51,10 @@ stateIn ws =
     (record { passed = tabulate 32 (λ k. counter (wordAt ws k)); fired = record { 0 = wordAt ws 32 } })
 
 -- Chains: dimension count, sizes, number of references, entries, capacities, kernel and factors, whether the author's order stood, its filters, whether the box stood, its lowest
--- indices, its highest. They say nothing of rows: a chain of words is on a rectangle.
+-- indices, its highest, whether the grid is skewed, how many rows it has. The rows are lent beside them.
 
 abbrev pub chainSize : ℕ
-chainSize = 210
+chainSize = 212
 
 unfoldable pub kernelWords : Kernel → List ℕ
 kernelWords kernel.Raw = 0 ∷ 0 ∷ 0 ∷ []
@@ -77,7 +78,9 @@ chainWord c i =
     (cond (ltb i 168) (getD (kernelWords (c .kernel)) (i - 165) 0)
     (cond (ltb i 169) (cond (c .order .stood) 1 0)
     (cond (ltb i 201) (getD (c .order .filters) (i - 169) 0)
-    (boxWord (c .bounds) (i - 201)))))))))
+    (cond (ltb i 210) (boxWord (c .bounds) (i - 201))
+    (cond (ltb i 211) (cond (c .grid .skewed) 1 0)
+    (c .grid .rows))))))))))
 
 unfoldable pub chainWords : Chain → List ℕ
 chainWords c = tabulate chainSize (chainWord c)
@@ -106,12 +109,12 @@ indicesIn ws from = tabulate 4 (λ d. signedWord (wordAt ws (from + d)))
 unfoldable pub boundsIn : List ℕ → Bounds
 boundsIn ws = record { stood = not (eqb (wordAt ws 201) 0); lowest = indicesIn ws 202; highest = indicesIn ws 206 }
 
--- Too few words are taken for the blank chain, which 3 turns back.
+-- Too few words are taken for the blank chain, which 3 turns back. The grid is skewed if the last word but one is not 0.
 unfoldable pub chainIn : List ℕ → Chain
 chainIn ws =
     cond (ltb (length ws) chainSize) blankChain
     (record {
-      grid = record { skewed = false; rows = 0; dims = countIn (wordAt ws 0); sizes = wordAt ws 1 ∷ wordAt ws 2 ∷ wordAt ws 3 ∷ wordAt ws 4 ∷ [] };
+      grid = record { skewed = not (eqb (wordAt ws 210) 0); rows = wordAt ws 211; dims = countIn (wordAt ws 0); sizes = wordAt ws 1 ∷ wordAt ws 2 ∷ wordAt ws 3 ∷ wordAt ws 4 ∷ [] };
       window = record { count = countIn (wordAt ws 5); offsets = tabulate 128 (λ i. signed (wordAt ws (6 + i) % 65536)) };
       bounds = boundsIn ws;
       capacities = tabulate 31 (λ k. wordAt ws (134 + k));
@@ -122,3 +125,16 @@ chainIn ws =
 -- Too few words stay as they are.
 unfoldable pub chainInto : Chain → List ℕ → List ℕ
 chainInto c ws = cond (ltb (length ws) chainSize) ws (laid (chainWords c) ws)
+
+-- Rows: a start and a length of each; a rectangle has none.
+
+unfoldable pub rowPlaces : Grid → ℕ
+rowPlaces g = cond (g .skewed) (2 * g .rows) 0
+
+-- Those of a grid among these numbers, in which it has the first.
+unfoldable pub rowWords : Grid → (numbers : List ℕ) → List ℕ
+rowWords g numbers = tabulate (rowPlaces g) (wordAt numbers)
+
+-- Too few places stay as they are.
+unfoldable pub rowsInto : Grid → (numbers ws : List ℕ) → List ℕ
+rowsInto g numbers ws = cond (ltb (length ws) (rowPlaces g)) ws (laid (rowWords g numbers) ws)

@@ -1,4 +1,4 @@
-// A state and a chain as words (specs/Words.antt).
+// A state, a chain and the rows beside it as words (specs/Words.antt).
 use model::Bounds;
 use model::CellsPassed;
 use model::Chain;
@@ -14,7 +14,7 @@ ghost use Prim.Native.Nat.{_+_, _%_, _≤_, _<_};
 ghost use lib.ListN.{length};
 ghost use Rattle.model.specs.Lists.{tabulate};
 ghost use Rattle.model.specs.Numbers.{signed};
-ghost use Rattle.zohmirka_words.specs.Words.{wordAt, stateIn, stateInto, kernelWords, boxWord, chainWord, chainInto, countIn, kernelIn, orderIn, indicesIn, boundsIn, chainIn};
+ghost use Rattle.zohmirka_words.specs.Words.{wordAt, stateIn, stateInto, kernelWords, boxWord, chainWord, chainInto, countIn, kernelIn, orderIn, indicesIn, boundsIn, chainIn, rowPlaces, rowsInto};
 
 // The state of its words.
 pub fn state_in(words: &[u32]) -> State
@@ -93,7 +93,7 @@ fn kernel_in(which: u32, a: u32, b: u32) -> Kernel
 }
 
 fn offsets_in(words: &[u32]) -> [i16; 128]
-    requires { ⌜ 210 ≤ length (now words) ⌝ }
+    requires { ⌜ 212 ≤ length (now words) ⌝ }
     ensures { λ r. ⌜ r ≡ tabulate 128 (λ i. signed (wordAt (now (words .entry)) (6 + i) % 65536)) ⌝ }
 {
     let mut offsets = [0i16; 128];
@@ -107,7 +107,7 @@ fn offsets_in(words: &[u32]) -> [i16; 128]
 }
 
 fn capacities_in(words: &[u32]) -> [u32; 31]
-    requires { ⌜ 210 ≤ length (now words) ⌝ }
+    requires { ⌜ 212 ≤ length (now words) ⌝ }
     ensures { λ r. ⌜ r ≡ tabulate 31 (λ k. wordAt (now (words .entry)) (134 + k)) ⌝ }
 {
     let mut capacities = [0u32; 31];
@@ -120,7 +120,7 @@ fn capacities_in(words: &[u32]) -> [u32; 31]
 }
 
 fn order_in(words: &[u32]) -> Order
-    requires { ⌜ 210 ≤ length (now words) ⌝ }
+    requires { ⌜ 212 ≤ length (now words) ⌝ }
     ensures { λ r. ⌜ r ≡ orderIn (now (words .entry)) ⌝ }
 {
     let mut filters = [0u8; 32];
@@ -149,7 +149,7 @@ fn indices_in(words: &[u32], from: usize) -> [i32; 4]
 }
 
 fn bounds_in(words: &[u32]) -> Bounds
-    requires { ⌜ 210 ≤ length (now words) ⌝ }
+    requires { ⌜ 212 ≤ length (now words) ⌝ }
     ensures { λ r. ⌜ r ≡ boundsIn (now (words .entry)) ⌝ }
 {
     Bounds {
@@ -159,16 +159,16 @@ fn bounds_in(words: &[u32]) -> Bounds
     }
 }
 
-// The chain of its words, which is on a rectangle.
+// The chain of its words; its rows are lent beside it.
 pub fn chain_in(words: &[u32]) -> Chain
     ensures { λ r. ⌜ r ≡ chainIn (now (words .entry)) ⌝ }
 {
-    if words.len() < 210 {
+    if words.len() < 212 {
         return values::blank_chain();
     }
     let grid = Grid {
-        skewed: false,
-        rows: 0,
+        skewed: words[210] != 0,
+        rows: words[211],
         dims: count_in(words[0]),
         sizes: [words[1], words[2], words[3], words[4]],
     };
@@ -250,7 +250,7 @@ fn box_word(b: Bounds, i: usize) -> u32
 pub fn chain_out(c: Chain, words: &mut [u32])
     ensures { λ _. ⌜ now (words .exit) ≡ chainInto c (now (words .entry)) ⌝ }
 {
-    if words.len() < 210 {
+    if words.len() < 212 {
         return;
     }
     let mut i: usize = 0;
@@ -270,5 +270,43 @@ pub fn chain_out(c: Chain, words: &mut [u32])
     while d < 9 {
         words[201 + d] = box_word(c.bounds, d);
         d += 1;
+    }
+    let grid = c.grid;
+    words[210] = grid.skewed as u32;
+    words[211] = grid.rows;
+}
+
+// How many numbers the rows of a grid have.
+pub fn row_places(g: Grid) -> usize
+    ensures { λ r. ⌜ r ≡ rowPlaces g ⌝ }
+{
+    let rows = g.rows;
+    if g.skewed {
+        return 2 * (rows as usize);
+    }
+    0
+}
+
+fn number_at(numbers: &[u32], i: usize) -> u32
+    ensures { λ r. ⌜ r ≡ wordAt (now (numbers .entry)) i ⌝ }
+{
+    if i < numbers.len() {
+        return numbers[i];
+    }
+    0
+}
+
+// The numbers of a grid's rows.
+pub fn rows_out(g: Grid, numbers: &[u32], rows: &mut [u32])
+    ensures { λ _. ⌜ now (rows .exit) ≡ rowsInto g (now (numbers .entry)) (now (rows .entry)) ⌝ }
+{
+    let places = row_places(g);
+    if rows.len() < places {
+        return;
+    }
+    let mut i: usize = 0;
+    while i < places {
+        rows[i] = number_at(numbers, i);
+        i += 1;
     }
 }

@@ -1,27 +1,14 @@
 use crate::dice::Dice;
-use crate::native::ROWS;
 
 /// Damages a sheet: bytes and digits changed, lines dropped, doubled, moved, cut, or from another sheet.
 pub fn damage(dice: &mut Dice, text: &mut Vec<u8>) {
     for _ in 0..=dice.below(2) {
-        if ROWS && dice.one_in(8) {
+        if dice.one_in(8) {
             rows(dice, text);
         } else if dice.one_in(3) {
             characters(dice, text);
         } else {
             lines(dice, text);
-        }
-    }
-}
-
-/// Makes a box of each line of rows, while the library takes no rows: there a line `09` is malformed.
-pub fn hide_rows(text: &mut [u8]) {
-    if ROWS {
-        return;
-    }
-    for line in text.split_mut(|&c| c == b'\n') {
-        if line.starts_with(b"09") {
-            line[1] = b'8';
         }
     }
 }
@@ -76,7 +63,7 @@ fn characters(dice: &mut Dice, text: &mut Vec<u8>) {
 }
 
 fn lines(dice: &mut Dice, text: &mut Vec<u8>) {
-    const OTHERS: [&str; 44] = [
+    const OTHERS: [&str; 49] = [
         "",
         "01",
         "0100",
@@ -120,6 +107,11 @@ fn lines(dice: &mut Dice, text: &mut Vec<u8>) {
         "08FFFFFFFF00000001",
         "0800000001000000010000000200000003",
         "09",
+        "0900",
+        "090000",
+        "09000100000005",
+        "0900020000000500010005",
+        "09000110000005",
         "1000",
     ];
     let mut lines: Vec<Vec<u8>> = text.split(|&c| c == b'\n').map(<[u8]>::to_vec).collect();
@@ -156,9 +148,11 @@ fn lines(dice: &mut Dice, text: &mut Vec<u8>) {
         }
         10 => {
             // A box, of as many dimensions as the grid has or nearly, behind a line of some kind.
-            let dims = lines[0]
-                .get(3)
-                .map_or(1, |digit| digit.wrapping_sub(b'0').min(4));
+            let dims = match lines[0].get(3) {
+                _ if lines[0].starts_with(b"09") => 2,
+                Some(digit) => digit.wrapping_sub(b'0').min(4),
+                None => 1,
+            };
             let mut line = b"08".to_vec();
             for _ in 0..(dims as usize + dice.below(3)).saturating_sub(1) {
                 line.extend(format!("{:08X}{:08X}", dice.below(3), dice.below(4)).bytes());

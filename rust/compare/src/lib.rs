@@ -5,6 +5,7 @@ pub mod damage;
 pub mod dice;
 pub mod draft;
 pub mod ground;
+pub mod limits;
 pub mod native;
 pub mod plans;
 pub mod round;

@@ -3,11 +3,6 @@
 /// The archive is linked through the crate `zohmirka`.
 use zohmirka as _;
 
-/// Whether the library takes skewed grids (document 02, request 5). While it does not, no round makes one, and the functions below that take a chain's words leave
-/// the rows beside them out. To switch it on: lend the rows here, and in the safe interface (`rounds::call`, `rounds::sheets`, `bench::clocks`), and see that `words`
-/// has the header's layout.
-pub const ROWS: bool = false;
-
 #[repr(C)]
 #[derive(Clone, Copy, Debug, PartialEq, Eq)]
 pub struct Sheet {
@@ -38,6 +33,8 @@ extern "C" {
         sheet_len: usize,
         chain: *mut u32,
         chain_len: usize,
+        rows: *mut u32,
+        rows_len: usize,
     ) -> u32;
     fn zohmirka_run(
         sheet: *const u8,
@@ -55,6 +52,8 @@ extern "C" {
     fn zohmirka_run_chain(
         chain: *const u32,
         chain_len: usize,
+        rows: *const u32,
+        rows_len: usize,
         state: *mut u32,
         state_len: usize,
         store: *mut u32,
@@ -65,10 +64,17 @@ extern "C" {
         out_len: usize,
         allowance: u32,
     ) -> Report;
-    fn zohmirka_judge_chain(chain: *const u32, chain_len: usize) -> u32;
+    fn zohmirka_judge_chain(
+        chain: *const u32,
+        chain_len: usize,
+        rows: *const u32,
+        rows_len: usize,
+    ) -> u32;
     fn zohmirka_write_chain(
         chain: *const u32,
         chain_len: usize,
+        rows: *const u32,
+        rows_len: usize,
         sheet: *mut u8,
         sheet_len: usize,
     ) -> Sheet;
@@ -90,8 +96,17 @@ pub fn judge(sheet: &[u8]) -> u32 {
     unsafe { zohmirka_judge(sheet.as_ptr(), sheet.len()) }
 }
 
-pub fn read_chain(sheet: &[u8], chain: &mut [u32], _rows: &mut [u32]) -> u32 {
-    unsafe { zohmirka_read_chain(sheet.as_ptr(), sheet.len(), chain.as_mut_ptr(), chain.len()) }
+pub fn read_chain(sheet: &[u8], chain: &mut [u32], rows: &mut [u32]) -> u32 {
+    unsafe {
+        zohmirka_read_chain(
+            sheet.as_ptr(),
+            sheet.len(),
+            chain.as_mut_ptr(),
+            chain.len(),
+            rows.as_mut_ptr(),
+            rows.len(),
+        )
+    }
 }
 
 pub fn run(
@@ -121,7 +136,7 @@ pub fn run(
 
 pub fn run_chain(
     chain: &[u32],
-    _rows: &[u32],
+    rows: &[u32],
     state: &mut [u32],
     store: &mut [u32],
     cells: &[u32],
@@ -132,6 +147,8 @@ pub fn run_chain(
         zohmirka_run_chain(
             chain.as_ptr(),
             chain.len(),
+            rows.as_ptr(),
+            rows.len(),
             state.as_mut_ptr(),
             state.len(),
             store.as_mut_ptr(),
@@ -145,10 +162,19 @@ pub fn run_chain(
     }
 }
 
-pub fn judge_chain(chain: &[u32], _rows: &[u32]) -> u32 {
-    unsafe { zohmirka_judge_chain(chain.as_ptr(), chain.len()) }
+pub fn judge_chain(chain: &[u32], rows: &[u32]) -> u32 {
+    unsafe { zohmirka_judge_chain(chain.as_ptr(), chain.len(), rows.as_ptr(), rows.len()) }
 }
 
-pub fn write_chain(chain: &[u32], _rows: &[u32], sheet: &mut [u8]) -> Sheet {
-    unsafe { zohmirka_write_chain(chain.as_ptr(), chain.len(), sheet.as_mut_ptr(), sheet.len()) }
+pub fn write_chain(chain: &[u32], rows: &[u32], sheet: &mut [u8]) -> Sheet {
+    unsafe {
+        zohmirka_write_chain(
+            chain.as_ptr(),
+            chain.len(),
+            rows.as_ptr(),
+            rows.len(),
+            sheet.as_mut_ptr(),
+            sheet.len(),
+        )
+    }
 }

@@ -2,6 +2,7 @@
 use crate::dice::Dice;
 use crate::draft::distinct;
 use crate::ground::{Ground, Span};
+use straight::{Chain, Shape};
 
 type Rows = Vec<[u16; 2]>;
 
@@ -65,7 +66,8 @@ fn few(dice: &mut Dice) -> (Rows, Vec<Vec<i16>>) {
     (rows, distinct(dice, 2, count, -2, 2))
 }
 
-fn neighbours(dice: &mut Dice) -> (Rows, Vec<Vec<i16>>) {
+/// Neighbours within one step on a small map.
+pub fn neighbours(dice: &mut Dice) -> (Rows, Vec<Vec<i16>>) {
     let rows = rows(dice);
     let count = 1 + dice.below(9);
     (rows, distinct(dice, 2, count, -1, 1))
@@ -151,6 +153,22 @@ fn spoil(dice: &mut Dice, rows: &mut Rows) {
         3 => rows[at][1] = 0,
         _ => rows[at][1] = dice.pick(&[1025, 1026, 0x8001, u16::MAX]),
     }
+}
+
+/// Capacities that are the largest distances over the first rows that have iterations, up to any of them.
+pub fn for_first_rows(dice: &mut Dice, planned: &Chain) -> Vec<u32> {
+    let shape = Shape::of_run(planned);
+    let last = dice.below(shape.iterations as usize) as i64;
+    let mut capacities = vec![0; shape.count - 1];
+    let mut first = 0;
+    while first <= last {
+        let reads = shape.reads(first);
+        for (k, capacity) in capacities.iter_mut().enumerate() {
+            *capacity = (reads[k] - reads[k + 1]).max(*capacity);
+        }
+        first = shape.row_end(first);
+    }
+    capacities
 }
 
 /// Rows one after the other with the columns that all of them have iterations in: the least and the greatest index of each dimension. Where there are none, the least

@@ -1,4 +1,5 @@
-use crate::native::{Report, ROWS};
+use crate::limits::Limits;
+use crate::native::Report;
 use straight::{Chain, Grid, Shape};
 
 /// How often each number (0: accepted) and each outcome came up, by function.
@@ -9,6 +10,8 @@ pub struct Tally {
     pub firings: [[u64; 4]; 5],
     /// Calls on rows that fired and stalled.
     pub stalled_late: u64,
+    /// Calls on rows whose state has the firings of whole rows, neither none nor all: those accepted, and those refused by 11.
+    pub row_ends: [u64; 2],
     /// Firings whose terms go in an order other than the chain's.
     pub ordered: u64,
     /// Those in a box that leaves iterations out.
@@ -24,6 +27,7 @@ pub struct Tally {
     pub above: u64,
     /// The iterations in which they were looked at.
     pub iterations: u64,
+    pub limits: Limits,
 }
 
 #[derive(Clone, Copy)]
@@ -60,6 +64,7 @@ impl Tally {
             outcomes: [0; 5],
             firings: [[0; 4]; 5],
             stalled_late: 0,
+            row_ends: [0; 2],
             ordered: 0,
             boxed: 0,
             full_box: 0,
@@ -68,6 +73,7 @@ impl Tally {
             steps: [0; NUMBERS + 1],
             above: 0,
             iterations: 0,
+            limits: Limits::default(),
         }
     }
 
@@ -97,6 +103,21 @@ impl Tally {
             }
         }
         self.clocks += report.clocks as u64;
+    }
+
+    /// A call on an accepted chain, after so many firings.
+    pub fn count_row_end(&mut self, chain: &Chain, fired: u32, refusal: u32) {
+        let at = match refusal {
+            0 => 0,
+            11 => 1,
+            _ => return,
+        };
+        if let Grid::Rows(_) = chain.grid {
+            let shape = Shape::of_run(chain);
+            let fired = fired as i64;
+            let between = fired > 0 && fired < shape.iterations;
+            self.row_ends[at] += (between && shape.row_end(fired - 1) == fired) as u64;
+        }
     }
 
     /// Steps of a request that planning answers by this number, looked at in so many iterations.
@@ -148,6 +169,10 @@ impl Tally {
         );
         println!("{} calls on rows fired and stalled", self.stalled_late);
         println!(
+            "{} calls at the end of a row, {} refused by 11 there",
+            self.row_ends[0], self.row_ends[1]
+        );
+        println!(
             "steps of {} requests in {} iterations: {} planned, refused by 15 {}, 7 {}, 8 {}, 9 {}; {} sums above the limit",
             self.steps.iter().sum::<u64>(),
             self.iterations,
@@ -158,6 +183,7 @@ impl Tally {
             self.steps[9],
             self.above
         );
+        self.limits.print();
     }
 
     /// What should have come up and did not.
@@ -165,7 +191,7 @@ impl Tally {
         let mut missing = Vec::new();
         for ((name, numbers), counts) in FUNCTIONS.iter().zip(&self.refusals) {
             for (number, count) in counts.iter().enumerate() {
-                let due = number == 0 || numbers.contains(&number) && (ROWS || number != 16);
+                let due = number == 0 || numbers.contains(&number);
                 if due && *count == 0 {
                     missing.push(format!("{name} never answered {number}"));
                 }
@@ -176,12 +202,14 @@ impl Tally {
                 missing.push(format!("no call ended {name}"));
             }
         }
-        let grounds = if ROWS { 5 } else { 4 };
-        if self.firings[..grounds].as_flattened().contains(&0) {
+        if self.firings.as_flattened().contains(&0) {
             missing.push("a kernel never fired".to_string());
         }
-        if ROWS && self.stalled_late == 0 {
+        if self.stalled_late == 0 {
             missing.push("no call on rows fired and stalled".to_string());
+        }
+        if self.row_ends.contains(&0) {
+            missing.push("no call at the end of a row, or none refused by 11".to_string());
         }
         if self.ordered == 0 {
             missing.push("no kernel added in an order other than the chain's".to_string());
@@ -197,6 +225,7 @@ impl Tally {
                 missing.push(format!("no steps of a request answered {number}"));
             }
         }
+        missing.extend(self.limits.missing());
         missing
     }
 }

@@ -1,9 +1,9 @@
 //! Chains, states and answers of `straight` as words, in the layout of c/zohmirka.h.
-use crate::native::{Report, ROWS};
+use crate::native::Report;
 use straight::grid::MOST_ROWS;
 use straight::{Answer, Chain, Factors, Grid, Kernel, Rectangle, Row, Rows, State};
 
-pub const CHAIN_WORDS: usize = if ROWS { 212 } else { 210 };
+pub const CHAIN_WORDS: usize = 212;
 pub const STATE_WORDS: usize = 33;
 /// 0 a rectangle, else rows.
 pub const GRID_KIND: usize = 210;
@@ -17,11 +17,10 @@ pub fn chain_words(chain: &Chain) -> [u32; CHAIN_WORDS] {
     words[0] = chain.grid.dims() as u32;
     match &chain.grid {
         Grid::Rectangle(rectangle) => words[1..5].copy_from_slice(&rectangle.sizes),
-        Grid::Rows(rows) if ROWS => {
+        Grid::Rows(rows) => {
             words[GRID_KIND] = 1;
             words[ROW_COUNT] = rows.count as u32;
         }
-        Grid::Rows(_) => {}
     }
     words[5] = chain.window.count as u32;
     for (word, &entry) in words[6..134].iter_mut().zip(&chain.window.offsets) {
@@ -54,7 +53,7 @@ pub fn row_words(chain: &Chain) -> Vec<u32> {
 }
 
 fn grid_of(words: &[u32], rows: &[u32]) -> Grid {
-    if ROWS && words[GRID_KIND] != 0 {
+    if words[GRID_KIND] != 0 {
         return Grid::Rows(rows_of(words[ROW_COUNT], rows));
     }
     let mut rectangle = Rectangle {

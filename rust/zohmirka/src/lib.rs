@@ -12,20 +12,37 @@
 //! assert_eq!(outcome, zohmirka::Outcome::Done(zohmirka::Counts { cells: 5, firings: 2, clocks: 5 }));
 //! assert_eq!(out, [4, 1, 5, 2]);
 //! ```
+//!
+//! On a skewed grid each row has its own first column and length. Here all begin in column 2, the first has two cells and the others one, and each cell is taken
+//! together with the one above it:
+//!
+//! ```
+//! let sheet = zohmirka::plan(b"090003000200020002000100020001\n0200000000\n02FFFF0000\n0400\n").unwrap();
+//! let chain = zohmirka::Chain::read(&sheet).unwrap();
+//! assert_eq!(chain.skewed(), Some(vec![(2, 2), (2, 1), (2, 1)]));
+//! let mut state = zohmirka::State::fresh();
+//! let mut store = vec![0; chain.places()];
+//! let mut out = [0; 4];
+//! let outcome = chain.run(&mut state, &mut store, &[1, 2, 3, 4], &mut out, u32::MAX).unwrap();
+//! assert_eq!(outcome, zohmirka::Outcome::Done(zohmirka::Counts { cells: 4, firings: 2, clocks: 5 }));
+//! assert_eq!(out, [3, 1, 4, 3]);
+//! ```
 mod native;
 
 use std::sync::Once;
 
 /// The version of the interface that this crate is written for.
-pub const VERSION: u32 = 3;
+pub const VERSION: u32 = 4;
 /// No chain sheet has more bytes.
-pub const SHEET_BYTES: usize = 1141;
+pub const SHEET_BYTES: usize = 4919;
 /// No accepted chain needs more words of store.
 pub const STORE_WORDS: usize = 16384;
 /// No firing of an accepted chain writes more words.
 pub const FIRING_WORDS: usize = 32;
 pub const STATE_WORDS: usize = 33;
-pub const CHAIN_WORDS: usize = 210;
+pub const CHAIN_WORDS: usize = 212;
+/// No accepted chain has more numbers of rows beside its words.
+pub const ROW_NUMBERS: usize = 1024;
 
 /// The version of the library that is linked.
 pub fn version() -> u32 {
@@ -62,6 +79,7 @@ pub enum Refusal {
     BadName,
     BadOrder,
     BadBox,
+    BadRows,
     /// A number that has no name here.
     Other(u32),
 }
@@ -84,6 +102,7 @@ impl Refusal {
             Refusal::BadName => 13,
             Refusal::BadOrder => 14,
             Refusal::BadBox => 15,
+            Refusal::BadRows => 16,
             Refusal::Other(number) => number,
         }
     }
@@ -105,6 +124,7 @@ impl Refusal {
             13 => Refusal::BadName,
             14 => Refusal::BadOrder,
             15 => Refusal::BadBox,
+            16 => Refusal::BadRows,
             _ => Refusal::Other(number),
         }
     }
@@ -128,6 +148,7 @@ impl std::fmt::Display for Refusal {
             Refusal::BadName => "no name of a window, or one of other dimensions than the grid's",
             Refusal::BadOrder => "an order that does not hold each filter number once",
             Refusal::BadBox => "a box with a lowest index above its highest, or with an iteration that reads outside the grid",
+            Refusal::BadRows => "a row count, start or length outside its range",
             Refusal::Other(_) => "a number that has no name here",
         };
         write!(f, "refused by {}: {}", self.number(), text)
@@ -255,20 +276,39 @@ pub fn run(sheet: &[u8], state: &mut State, store: &mut [u32], cells: &[u32], ou
     })
 }
 
-/// A chain as words, in the layout of c/zohmirka.h. Any words are a chain, which `run` judges.
-#[derive(Clone, Copy, Debug, PartialEq, Eq)]
+/// A chain as words, in the layout of c/zohmirka.h. Beside them stand the rows of a skewed grid: the start of row i at 2 * i, its length behind it; a rectangle has
+/// none. Any words and rows are a chain, which `run` judges; rows that are missing have length 0, and those past the count play no part.
+#[derive(Clone, Debug, PartialEq, Eq)]
 pub struct Chain {
     pub words: [u32; CHAIN_WORDS],
+    pub rows: Vec<u32>,
 }
 
 impl Chain {
     /// The chain of a sheet.
     pub fn read(sheet: &[u8]) -> Result<Chain, Refusal> {
         checked();
-        let mut chain = Chain { words: [0; CHAIN_WORDS] };
-        // SAFETY: pointers and lengths are those of slices.
-        accepted(unsafe { native::zohmirka_read_chain(sheet.as_ptr(), sheet.len(), chain.words.as_mut_ptr(), CHAIN_WORDS) })?;
+        let mut chain = Chain { words: [0; CHAIN_WORDS], rows: Vec::new() };
+        let mut rows = [0; ROW_NUMBERS];
+        // SAFETY: pointers and lengths are those of slices, and what is written is lent as `&mut`.
+        accepted(unsafe { native::zohmirka_read_chain(sheet.as_ptr(), sheet.len(), chain.words.as_mut_ptr(), CHAIN_WORDS, rows.as_mut_ptr(), ROW_NUMBERS) })?;
+        if chain.is_skewed() {
+            chain.rows = rows[..2 * chain.words[211] as usize].to_vec();
+        }
         Ok(chain)
+    }
+
+    fn is_skewed(&self) -> bool {
+        self.words[210] != 0
+    }
+
+    /// Where the grid is skewed, start and length of each row, from the top: as many as the row count says, or as there are.
+    pub fn skewed(&self) -> Option<Vec<(u32, u32)>> {
+        if !self.is_skewed() {
+            return None;
+        }
+        let rows = self.rows.chunks_exact(2).take(self.words[211] as usize);
+        Some(rows.map(|row| (row[0], row[1])).collect())
     }
 
     pub fn references(&self) -> usize {
@@ -294,7 +334,7 @@ impl Chain {
         if self.words[201] == 0 {
             return None;
         }
-        let dims = self.words[0].min(4) as usize;
+        let dims = if self.is_skewed() { 2 } else { self.words[0].min(4) as usize };
         let (lowest, highest) = (&self.words[202..202 + dims], &self.words[206..206 + dims]);
         Some(lowest.iter().zip(highest).map(|(&low, &high)| (low as i32, high as i32)).collect())
     }
@@ -321,6 +361,8 @@ impl Chain {
             native::zohmirka_run_chain(
                 self.words.as_ptr(),
                 CHAIN_WORDS,
+                self.rows.as_ptr(),
+                self.rows.len(),
                 state.words.as_mut_ptr(),
                 STATE_WORDS,
                 store.as_mut_ptr(),
@@ -339,8 +381,8 @@ impl Chain {
     /// Judges the chain.
     pub fn judge(&self) -> Result<(), Refusal> {
         checked();
-        // SAFETY: pointer and length are those of a slice.
-        accepted(unsafe { native::zohmirka_judge_chain(self.words.as_ptr(), CHAIN_WORDS) })
+        // SAFETY: pointers and lengths are those of slices.
+        accepted(unsafe { native::zohmirka_judge_chain(self.words.as_ptr(), CHAIN_WORDS, self.rows.as_ptr(), self.rows.len()) })
     }
 
     /// The chain's sheet.
@@ -355,7 +397,8 @@ impl Chain {
     pub fn write_into(&self, sheet: &mut [u8]) -> Result<usize, Refusal> {
         checked();
         // SAFETY: pointers and lengths are those of slices, and what is written is lent as `&mut`.
-        let answer = unsafe { native::zohmirka_write_chain(self.words.as_ptr(), CHAIN_WORDS, sheet.as_mut_ptr(), sheet.len()) };
+        let answer =
+            unsafe { native::zohmirka_write_chain(self.words.as_ptr(), CHAIN_WORDS, self.rows.as_ptr(), self.rows.len(), sheet.as_mut_ptr(), sheet.len()) };
         accepted(answer.refusal)?;
         Ok(answer.bytes)
     }
@@ -366,16 +409,27 @@ mod tests {
     use super::*;
 
     const SHEET: &[u8] = b"010100000005\n020003\n020000\n0300000003\n060100\n0400\n";
+    /// Three rows, of two cells, one and one.
+    const SKEWED: &[u8] = b"090003000200020002000100020001\n0200000000\n02FFFF0000\n0300000002\n060001\n0400\n";
+    const ROWS: [u32; 6] = [2, 2, 2, 1, 2, 1];
 
-    /// A call on the first `chain_len` words of a chain and the first `state_len` of a state: its refusal, its outcome and the state's words.
-    fn call(chain: &[u32], chain_len: usize, state_len: usize) -> (u32, u32, [u32; 40]) {
+    /// A sheet read into slices.
+    fn read(sheet: &[u8], chain: &mut [u32], rows: &mut [u32]) -> u32 {
+        // SAFETY: pointers and lengths are those of slices.
+        unsafe { native::zohmirka_read_chain(sheet.as_ptr(), sheet.len(), chain.as_mut_ptr(), chain.len(), rows.as_mut_ptr(), rows.len()) }
+    }
+
+    /// A call on a chain and its rows, and on the first `state_len` words of a state: its refusal, its outcome and the state's words.
+    fn call(chain: &[u32], rows: &[u32], state_len: usize) -> (u32, u32, [u32; 40]) {
         let (mut state, mut store, cells, mut out) = ([0; 40], [0; 3], [1, 2, 3, 4, 5], [0; 4]);
         state[33..].fill(6);
         // SAFETY: the lengths are at most those of the slices.
         let report = unsafe {
             native::zohmirka_run_chain(
-                chain[..chain_len].as_ptr(),
-                chain_len,
+                chain.as_ptr(),
+                chain.len(),
+                rows.as_ptr(),
+                rows.len(),
                 state[..state_len].as_mut_ptr(),
                 state_len,
                 store.as_mut_ptr(),
@@ -390,16 +444,30 @@ mod tests {
         (report.refusal, report.outcome, state)
     }
 
+    /// What turns a chain and its rows back in judging and in writing, and what is written to a sheet of 100 bytes.
+    fn judged_and_written(chain: &[u32], rows: &[u32]) -> (u32, u32, Vec<u8>) {
+        let mut sheet = [0; 100];
+        // SAFETY: pointers and lengths are those of slices.
+        let (judged, wrote) = unsafe {
+            (
+                native::zohmirka_judge_chain(chain.as_ptr(), chain.len(), rows.as_ptr(), rows.len()),
+                native::zohmirka_write_chain(chain.as_ptr(), chain.len(), rows.as_ptr(), rows.len(), sheet.as_mut_ptr(), 100),
+            )
+        };
+        assert!(sheet[wrote.bytes..].iter().all(|&b| b == 0));
+        (judged, wrote.refusal, sheet[..wrote.bytes].to_vec())
+    }
+
     #[test]
     fn every_number_of_a_refusal_is_kept() {
         for number in 1..=300 {
             let refusal = Refusal::of(number);
-            assert_eq!((refusal.number(), matches!(refusal, Refusal::Other(_))), (number, number > 15));
+            assert_eq!((refusal.number(), matches!(refusal, Refusal::Other(_))), (number, number > 16));
         }
     }
 
     #[test]
-    #[should_panic(expected = "version 4 of the interface")]
+    #[should_panic(expected = "version 5 of the interface")]
     fn another_version_is_not_taken() {
         require(VERSION + 1);
     }
@@ -407,43 +475,63 @@ mod tests {
     #[test]
     fn slices_of_other_lengths() {
         let mut chain = [7; 240];
-        let mut read = |len: usize| {
-            // SAFETY: `len` is at most 240.
-            unsafe { native::zohmirka_read_chain(SHEET.as_ptr(), SHEET.len(), chain.as_mut_ptr(), len) }
-        };
-        assert_eq!((read(0), read(168), read(201), read(209)), (12, 12, 12, 12));
-        assert_eq!(read(240), 0);
-        assert!(chain[210..].iter().all(|&w| w == 7));
+        for len in [0, 168, 201, 210, 211] {
+            assert_eq!(read(SHEET, &mut chain[..len], &mut []), 12);
+        }
+        assert_eq!(chain, [7; 240]);
+        let mut rows = [5; 4];
+        assert_eq!((read(SHEET, &mut chain, &mut rows), rows), (0, [5; 4]));
+        assert!(chain[212..].iter().all(|&w| w == 7));
 
         let mut untouched = [0; 40];
         untouched[33..].fill(6);
-        assert_eq!(call(&chain, 209, 33), (3, 5, untouched));
-        assert_eq!(call(&chain, 201, 33), (3, 5, untouched));
-        assert_eq!(call(&chain, 168, 33), (3, 5, untouched));
-        assert_eq!(call(&chain, 0, 0), (3, 5, untouched));
-        assert_eq!(call(&chain, 210, 32), (11, 5, untouched));
-        assert_eq!(call(&chain, 240, 0), (11, 5, untouched));
+        for len in [0, 168, 201, 210, 211] {
+            assert_eq!(call(&chain[..len], &[], 33), (3, 5, untouched));
+        }
+        assert_eq!(call(&chain[..0], &[], 0), (3, 5, untouched));
+        assert_eq!(call(&chain[..212], &[], 32), (11, 5, untouched));
+        assert_eq!(call(&chain, &[], 0), (11, 5, untouched));
         let mut done = untouched;
         (done[0], done[1], done[32]) = (5, 2, 2);
-        assert_eq!(call(&chain, 210, 33), (0, 0, done));
-        assert_eq!(call(&chain, 240, 40), (0, 0, done));
+        assert_eq!(call(&chain[..212], &[], 33), (0, 0, done));
+        assert_eq!(call(&chain, &[0; 9], 40), (0, 0, done));
+    }
+
+    #[test]
+    fn rows_of_other_lengths() {
+        let (mut chain, mut rows) = ([7; 240], [5; 9]);
+        for len in 0..6 {
+            assert_eq!(read(SKEWED, &mut chain, &mut rows[..len]), 12);
+        }
+        assert_eq!(read(SKEWED, &mut chain[..211], &mut rows), 12);
+        assert_eq!((chain, rows), ([7; 240], [5; 9]));
+        assert_eq!(read(SKEWED, &mut chain, &mut rows[..6]), 0);
+        assert_eq!((&rows[..6], &rows[6..]), (ROWS.as_slice(), [5; 3].as_slice()));
+        assert_eq!((read(SKEWED, &mut chain, &mut rows), &rows[6..]), (0, [5; 3].as_slice()));
+
+        let mut done = [0; 40];
+        (done[0], done[1], done[32]) = (4, 3, 2);
+        done[33..].fill(6);
+        for len in 0..6 {
+            let (refusal, outcome, _) = call(&chain, &rows[..len], 33);
+            assert_eq!((refusal, outcome), (16, 5));
+            assert_eq!(judged_and_written(&chain, &rows[..len]), (16, 16, vec![]));
+        }
+        for len in 6..9 {
+            assert_eq!(call(&chain, &rows[..len], 33), (0, 0, done));
+            assert_eq!(judged_and_written(&chain, &rows[..len]), (0, 0, SKEWED.to_vec()));
+        }
     }
 
     #[test]
     fn chains_of_other_lengths() {
         let mut chain = [7; 240];
         chain[..CHAIN_WORDS].copy_from_slice(&Chain::read(SHEET).unwrap().words);
-        for (len, refusal) in [(0, 3), (168, 3), (201, 3), (209, 3), (210, 0), (240, 0)] {
-            let mut sheet = [0; 100];
-            // SAFETY: `len` is at most 240, and the sheet has 100 places.
-            let (judged, wrote) = unsafe {
-                (native::zohmirka_judge_chain(chain.as_ptr(), len), native::zohmirka_write_chain(chain.as_ptr(), len, sheet.as_mut_ptr(), 100))
-            };
-            assert_eq!((judged, wrote.refusal), (refusal, refusal));
-            let bytes = if refusal == 0 { SHEET.len() } else { 0 };
-            assert_eq!(wrote.bytes, bytes);
-            assert_eq!(sheet[..bytes], SHEET[..bytes]);
-            assert!(sheet[bytes..].iter().all(|&b| b == 0));
+        for len in [0, 168, 201, 210, 211] {
+            assert_eq!(judged_and_written(&chain[..len], &[]), (3, 3, vec![]));
+        }
+        for len in [212, 240] {
+            assert_eq!(judged_and_written(&chain[..len], &[]), (0, 0, SHEET.to_vec()));
         }
     }
 }

@@ -32,10 +32,12 @@ extern "C" {
         out_len: usize,
         allowance: u32,
     ) -> Report;
-    pub fn zohmirka_read_chain(sheet: *const u8, sheet_len: usize, chain: *mut u32, chain_len: usize) -> u32;
+    pub fn zohmirka_read_chain(sheet: *const u8, sheet_len: usize, chain: *mut u32, chain_len: usize, rows: *mut u32, rows_len: usize) -> u32;
     pub fn zohmirka_run_chain(
         chain: *const u32,
         chain_len: usize,
+        rows: *const u32,
+        rows_len: usize,
         state: *mut u32,
         state_len: usize,
         store: *mut u32,
@@ -46,6 +48,6 @@ extern "C" {
         out_len: usize,
         allowance: u32,
     ) -> Report;
-    pub fn zohmirka_judge_chain(chain: *const u32, chain_len: usize) -> u32;
-    pub fn zohmirka_write_chain(chain: *const u32, chain_len: usize, sheet: *mut u8, sheet_len: usize) -> Sheet;
+    pub fn zohmirka_judge_chain(chain: *const u32, chain_len: usize, rows: *const u32, rows_len: usize) -> u32;
+    pub fn zohmirka_write_chain(chain: *const u32, chain_len: usize, rows: *const u32, rows_len: usize, sheet: *mut u8, sheet_len: usize) -> Sheet;
 }

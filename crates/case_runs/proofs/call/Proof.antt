@@ -22,8 +22,8 @@ returns : tie.Need-returns
 returns c =
     let l = c .before .before .before .before .before in
     let h = l .before .before .before in
-    let s = h .before .before .before .before .before in
-    next-call (s .args .chain) (s .args .pieces) (s .args .width) (s .args .cells .now) (s .args .store .now) (s .args .out .now) (s .args .run) _ (l .lend .result) _ _ _
+    let s = h .before .before .before .before .before .before in
+    next-call (s .args .chain) (s .args .rows .now) (s .args .pieces) (s .args .width) (s .args .cells .now) (s .args .store .now) (s .args .out .now) (s .args .run) _ (l .lend .result) _ _ _
     (h .share-of .ensures) (l .lend .ensures) (c .after .ensures)
 
 pub call-spec : {M : Type 1} → statement M

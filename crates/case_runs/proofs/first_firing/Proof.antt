@@ -34,8 +34,8 @@ returns c =
     let n = w .before .before in
     let l = n .before .before .before .before .before in
     let f = l .before .before .before in
-    let s = f .before .before .before .before in
-    first-clocks (s .args .chain) _ (s .args .cells .now) (s .args .store .now) (s .args .out .now) (l .lend .result) _ _ (n .counts .result) _ (m .lend2 .result) _ _ (c .counts2 .result)
+    let s = f .before .before .before .before .before in
+    first-clocks (s .args .chain) (s .args .rows .now) _ (s .args .cells .now) (s .args .store .now) (s .args .out .now) (l .lend .result) _ _ (n .counts .result) _ (m .lend2 .result) _ _ (c .counts2 .result)
     (f .fresh .ensures) (l .lend .ensures) (n .counts .ensures) (w .wide-usize .ensures .0) (m .lend2 .ensures) (c .counts2 .ensures)
 
 pub first-firing-spec : {M : Type 1} → statement M

@@ -18,9 +18,6 @@ lesser-requires-2 c κs = search needs
 lesser-requires-3 : tie.Need-lesser-requires-3
 lesser-requires-3 c κs = search needs
 
-slice-aggregate-run : tie.Need-slice-aggregate-run
-slice-aggregate-run c = search needs
-
 add-run : tie.Need-add-run
 add-run c = search needs
 
@@ -39,8 +36,8 @@ part-run-end c = search needs
 slice-relend-prefix-run : tie.Need-slice-relend-prefix-run
 slice-relend-prefix-run c = search needs
 
-slice-aggregate-run-2 : tie.Need-slice-aggregate-run-2
-slice-aggregate-run-2 c = sym (length-take-le _ _ (omega (arith, c .before .before .before .before .lesser3 .ensures)))
+slice-aggregate-run : tie.Need-slice-aggregate-run
+slice-aggregate-run c = sym (length-take-le _ _ (omega (arith, c .before .before .before .lesser3 .ensures)))
 
 run-requires : tie.Need-run-requires
 run-requires c κs = search needs
@@ -54,9 +51,9 @@ same-length-2 c = search needs
 returns : tie.Need-returns
 returns c =
     let k = c .before .before .before .before in
-    let l = k .before .before .before .before .before in
-    let s = l .before .before .before .before .before .before in
-    lent-part (k .run .result) (k .run .last .1 .1 .1 .0) (k .run .last .1 .1 .1 .1 .1 .0) (s .args .chain) (s .args .state) (s .args .share) (s .args .cells .now) (s .args .store .now) (s .args .out .now)
+    let l = k .before .before .before .before in
+    let s = l .before .before .before .before .before .before .before in
+    lent-part (k .run .result) (k .run .last .1 .1 .1 .0) (k .run .last .1 .1 .1 .1 .1 .0) (s .args .chain) (s .args .rows .now) (s .args .state) (s .args .share) (s .args .cells .now) (s .args .store .now) (s .args .out .now)
     _ _ _ (l .before .before .lesser .ensures) (l .before .lesser2 .ensures) (l .lesser3 .ensures) (k .run .ensures)
 
 pub lend-spec : {M : Type 1} → statement M
@@ -67,14 +64,13 @@ lend-spec =
     sub-lesser
     lesser-requires-2
     lesser-requires-3
-    slice-aggregate-run
     add-run
     mul-run
     sub-run
     part-run-start
     part-run-end
     slice-relend-prefix-run
-    slice-aggregate-run-2
+    slice-aggregate-run
     run-requires
     same-length
     same-length-2

@@ -8,16 +8,19 @@ use Rattle.plan.proofs.receive.Statement.{statement}
 use Rattle.plan.proofs.receive.Tie as tie
 
 abbrev Inv-loop : tie.InvT-loop
-Inv-loop block₀ arriving₀ turns₀ block arriving turns = (length block ≡ length block₀) × Taking arriving
+Inv-loop block₀ rows₀ arriving₀ turns₀ block rows arriving turns =
+    (length block ≡ length block₀) × (length rows ≡ length rows₀) × Taking (record { sheet = arriving; numbers = rows })
 
 abbrev μ-loop : tie.MeasureT-loop
-μ-loop block₀ arriving₀ turns₀ block arriving turns = turns
+μ-loop block₀ rows₀ arriving₀ turns₀ block rows arriving turns = turns
 
 open-requires : tie.Need-open-requires Inv-loop μ-loop
 open-requires c κs = search needs
 
 loop-holds : tie.Need-loop-holds Inv-loop μ-loop
-loop-holds c = (refl, subst Taking (sym (c .open .ensures)) taking-start)
+loop-holds c =
+    let zeros = c .before .before .before .pre in
+    (refl, refl, subst Taking (λ i. record { sheet = sym (c .open .ensures) i; numbers = sym zeros i }) taking-start)
 
 sub-turns : tie.Need-sub-turns Inv-loop μ-loop
 sub-turns c = search needs
@@ -27,6 +30,9 @@ read-requires c κs = search needs
 
 same-length : tie.Need-same-length Inv-loop μ-loop
 same-length c = search needs
+
+same-length-2 : tie.Need-same-length-2 Inv-loop μ-loop
+same-length-2 c = search needs
 
 returns : tie.Need-returns Inv-loop μ-loop
 returns c = tt
@@ -51,33 +57,46 @@ loop-less c = search needs
 
 loop-again : tie.Need-loop-again Inv-loop μ-loop
 loop-again c =
-    let b = c .before .before in
-    let l = b .before .before .before .before .before .before .before .before .before .before .before in
-    (b .before .before .before .before .before .before .before .before .read .kept .1 .0 ∙ l .loop .inv .0, taking-more (l .loop .arriving) (l .loop .inv .1) _ (b .take-block .result) (b .take-block .ensures) (c .enum-told .given .1))
+    let b = c .before .before .before .before in
+    let r = b .before .before .before .before .before .before .before .before .before in
+    let l = r .before .before .before in (
+      r .read .kept .1 .0 ∙ l .loop .inv .0,
+      search needs,
+      taking-more _ (l .loop .inv .2) _ _ (b .take-block .ensures) (c .enum-told .given .1),
+    )
 
 enum-told-2 : tie.Need-enum-told-2 Inv-loop μ-loop
 enum-told-2 c = search needs
 
-same-length-2 : tie.Need-same-length-2 Inv-loop μ-loop
-same-length-2 c = search needs
-
-returns-2 : tie.Need-returns-2 Inv-loop μ-loop
-returns-2 c = let l = c .before in taking-ended (l .loop .arriving) (l .loop .inv .1)
-
 same-length-3 : tie.Need-same-length-3 Inv-loop μ-loop
 same-length-3 c = search needs
-
-returns-3 : tie.Need-returns-3 Inv-loop μ-loop
-returns-3 c = let l = c .before .before .before .before .before .before .before .before .before in taking-ended (l .loop .arriving) (l .loop .inv .1)
 
 same-length-4 : tie.Need-same-length-4 Inv-loop μ-loop
 same-length-4 c = search needs
 
+returns-2 : tie.Need-returns-2 Inv-loop μ-loop
+returns-2 c = taking-ended _ (c .before .loop .inv .2)
+
+same-length-5 : tie.Need-same-length-5 Inv-loop μ-loop
+same-length-5 c = search needs
+
+same-length-6 : tie.Need-same-length-6 Inv-loop μ-loop
+same-length-6 c = search needs
+
+returns-3 : tie.Need-returns-3 Inv-loop μ-loop
+returns-3 c = let l = c .before .before .before .before .before .before .before .before .before in taking-ended _ (l .loop .inv .2)
+
+same-length-7 : tie.Need-same-length-7 Inv-loop μ-loop
+same-length-7 c = search needs
+
+same-length-8 : tie.Need-same-length-8 Inv-loop μ-loop
+same-length-8 c = search needs
+
 returns-4 : tie.Need-returns-4 Inv-loop μ-loop
 returns-4 c =
-    let b = c .before .before in
-    let l = b .before .before .before .before .before .before .before .before .before .before .before in
-    taking-back (l .loop .arriving) (l .loop .inv .1) _ (b .take-block .result) _ (b .take-block .ensures) (c .enum-told2 .given .1)
+    let b = c .before .before .before .before in
+    let l = b .before .before .before .before .before .before .before .before .before .before .before .before in
+    taking-back _ (l .loop .inv .2) _ _ _ (b .take-block .ensures) (c .enum-told2 .given .1)
 
 pub receive-spec : {M : Type 1} → statement M
 receive-spec =
@@ -90,6 +109,7 @@ receive-spec =
     sub-turns
     read-requires
     same-length
+    same-length-2
     returns
     count-requires
     slice-reshare-prefix-take-block
@@ -99,9 +119,12 @@ receive-spec =
     loop-less
     loop-again
     enum-told-2
-    same-length-2
-    returns-2
     same-length-3
-    returns-3
     same-length-4
+    returns-2
+    same-length-5
+    same-length-6
+    returns-3
+    same-length-7
+    same-length-8
     returns-4)

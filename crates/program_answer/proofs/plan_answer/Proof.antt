@@ -34,14 +34,11 @@ returns c =
     let k = p .before .before in
     let o = k .before in
     let e = o .before .before in
-    lines-missing _ _ _ _ _ (e .before .before .finish .ensures) (e .enum-told .given .1) (sym (o .is-complete .ensures) ∙ not-true _ (k .if1 .taken)) (p .put-refusal2 .ensures)
+    lines-missing _ _ _ _ _ _ (e .before .before .finish .ensures) (e .enum-told .given .1) (sym (o .is-complete .ensures) ∙ not-true _ (k .if1 .taken)) (p .put-refusal2 .ensures)
     in (told, laid-within _ _ _ _ told)
 
 request-of-requires : tie.Need-request-of-requires
 request-of-requires c κs = search needs
-
-slice-aggregate-plan : tie.Need-slice-aggregate-plan
-slice-aggregate-plan c = search needs
 
 plan-requires : tie.Need-plan-requires
 plan-requires c κs = search needs
@@ -66,7 +63,7 @@ returns-2 c =
     let told =
     let p = c .before .before in
     let v = p .before .before .before in
-    lines-refused _ _ _ _ _ (v .before .before .finish .ensures) _ (v .v .given .1) (p .put-refusal .ensures)
+    lines-refused _ _ _ _ _ _ (v .before .before .finish .ensures) _ (v .v .given .1) (p .put-refusal .ensures)
     in (told, laid-within _ _ _ _ told)
 
 same-length-3 : tie.Need-same-length-3
@@ -78,10 +75,10 @@ returns-3 c =
     let p = c .before .before in
     let v = p .before .before .before in
     let q = v .before .before in
-    let k = q .before .before .before .before in
+    let k = q .before .before .before in
     let o = k .before in
     let e = o .before .before in
-    plan-refused _ _ _ _ _ (e .before .before .finish .ensures) (e .enum-told .given .1) (sym (o .is-complete .ensures) ∙ not-false _ (k .if1 .left)) _ (q .before .before .request-of .ensures) _ (q .plan .ensures) _ (v .judged .given .1)
+    plan-refused _ _ _ _ _ _ (e .before .before .finish .ensures) (e .enum-told .given .1) (sym (o .is-complete .ensures) ∙ not-false _ (k .if1 .left)) _ (q .before .request-of .ensures) _ (q .plan .ensures) _ (v .judged .given .1)
     (p .put-refusal3 .ensures)
     in (told, laid-within _ _ _ _ told)
 
@@ -94,10 +91,10 @@ returns-4 c =
     let w = c .before .before in
     let v = w .before .before .before in
     let q = v .before .before in
-    let k = q .before .before .before .before in
+    let k = q .before .before .before in
     let o = k .before in
     let e = o .before .before in
-    plan-written _ _ _ 0 _ (e .before .before .finish .ensures) (e .enum-told .given .1) (sym (o .is-complete .ensures) ∙ not-false _ (k .if1 .left)) _ (q .before .before .request-of .ensures) _ (q .plan .ensures) _
+    plan-written _ _ _ _ 0 _ (e .before .before .finish .ensures) (e .enum-told .given .1) (sym (o .is-complete .ensures) ∙ not-false _ (k .if1 .left)) _ (q .before .request-of .ensures) _ (q .plan .ensures) _
     (v .enum-told2 .given .1) (w .write-chain .ensures)
     in (told, laid-within _ _ _ _ told)
 
@@ -114,7 +111,6 @@ plan-answer-spec =
     same-length
     returns
     request-of-requires
-    slice-aggregate-plan
     plan-requires
     enum-known-judged
     put-refusal-requires-3

@@ -9,8 +9,11 @@ take-line-requires c κs = search needs
 sheet-stage-requires : tie.Need-sheet-stage-requires
 sheet-stage-requires c κs = search needs
 
+same-length : tie.Need-same-length
+same-length c = search needs
+
 returns : tie.Need-returns
-returns c = let t = c .before .before .before .before in sheet-step _ _ _ _ _ (t .take-line .ensures) (c .sheet-stage .ensures)
+returns c = let t = c .before .before .before .before .before .before .before in sheet-step _ _ _ _ _ _ _ (t .take-line .ensures) (c .sheet-stage .ensures)
 
 pub read-sheet-spec : {M : Type 1} → statement M
-read-sheet-spec = tie.close (tie.spec take-line-requires sheet-stage-requires returns)
+read-sheet-spec = tie.close (tie.spec take-line-requires sheet-stage-requires same-length returns)

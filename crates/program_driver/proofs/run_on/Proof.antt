@@ -31,7 +31,7 @@ put-firings-requires : tie.Need-put-firings-requires
 put-firings-requires c κs = search needs
 
 ran-on-requires : tie.Need-ran-on-requires
-ran-on-requires c κs = let r = c .before .before .before .before .before .before .before .before .before .before .before in let l = r .before .before .before in within _ _ _ _ _ _ _ _ _ _ _ (r .run-part .ensures .0) (omega (arith, l .lesser3 .ensures)) (omega (arith, l .before .lesser2 .ensures))
+ran-on-requires c κs = let r = c .before .before .before .before .before .before .before .before .before .before .before in let l = r .before .before .before in within _ _ _ _ _ _ _ _ _ _ _ _ (r .run-part .ensures .0) (omega (arith, l .lesser3 .ensures)) (omega (arith, l .before .lesser2 .ensures))
 
 same-length : tie.Need-same-length
 same-length c = search needs
@@ -43,7 +43,7 @@ same-length-3 : tie.Need-same-length-3
 same-length-3 c = search needs
 
 returns : tie.Need-returns
-returns c = let p = c .before .before .before in let n = p .before .before .before in let r = n .before .before .before .before .before .before in let l = r .before .before .before in run-step _ _ _ _ _ _ _ _ _ _ (l .before .before .before .before .firing-size .ensures) (l .before .before .lesser .ensures ∙ ap (min _) (l .before .before .before .room-for .ensures)) (l .before .lesser2 .ensures) (l .lesser3 .ensures) _ _ _ (r .run-part .ensures .0) (r .run-part .ensures .1) _ (n .counts-of .ensures) _ _ (p .put-firings .ensures) _ (c .ran-on .ensures)
+returns c = let p = c .before .before .before in let n = p .before .before .before in let r = n .before .before .before .before .before .before in let l = r .before .before .before in run-step _ _ _ _ _ _ _ _ _ _ _ (l .before .before .before .before .firing-size .ensures) (l .before .before .lesser .ensures ∙ ap (min _) (l .before .before .before .room-for .ensures)) (l .before .lesser2 .ensures) (l .lesser3 .ensures) _ _ _ (r .run-part .ensures .0) (r .run-part .ensures .1) _ (n .counts-of .ensures) _ _ (p .put-firings .ensures) _ (c .ran-on .ensures)
 
 pub run-on-spec : {M : Type 1} → statement M
 run-on-spec =

@@ -5,9 +5,6 @@ use borrow.Author.Needs.{needs}
 use Rattle.program_driver.proofs.run_part.Statement.{statement}
 use Rattle.program_driver.proofs.run_part.Tie as tie
 
-slice-aggregate-run : tie.Need-slice-aggregate-run
-slice-aggregate-run c = search needs
-
 mul-run : tie.Need-mul-run
 mul-run c = search needs
 
@@ -23,8 +20,8 @@ part-run-end c = search needs
 slice-relend-prefix-run : tie.Need-slice-relend-prefix-run
 slice-relend-prefix-run c = search needs
 
-slice-aggregate-run-2 : tie.Need-slice-aggregate-run-2
-slice-aggregate-run-2 c = let s = c .before .before .before .before .before .before .before in sym (length-take-le (s .args .places) (s .args .words .now) (s .pre .2))
+slice-aggregate-run : tie.Need-slice-aggregate-run
+slice-aggregate-run c = let s = c .before .before .before .before .before .before .before in sym (length-take-le (s .args .places) (s .args .words .now) (s .pre .2))
 
 run-requires : tie.Need-run-requires
 run-requires c κs = search needs
@@ -39,20 +36,19 @@ returns : tie.Need-returns
 returns c =
     let k = c .before .before .before .before in
     let s = k .before .before .before .before .before .before .before .before in
-    part-run (k .run .result) (k .run .last .1 .1 .1 .0) (k .run .last .1 .1 .1 .1 .1 .0) (s .args .words .now) _ (s .args .places) (s .args .chain) (s .args .state)
+    part-run (k .run .result) (k .run .last .1 .1 .1 .0) (k .run .last .1 .1 .1 .1 .1 .0) (s .args .words .now) _ (s .args .places) (s .args .chain) (s .args .rows .now) (s .args .state)
     (s .args .store .now) (s .args .cells .now) (s .args .from) (s .args .to) (k .run .kept .1 .1 .1 .1 .1 .0) (s .pre .2) (s .pre .0) (k .run .ensures) refl
 
 pub run-part-spec : {M : Type 1} → statement M
 run-part-spec =
     tie.close
     (tie.spec
-    slice-aggregate-run
     mul-run
     sub-run
     part-run-start
     part-run-end
     slice-relend-prefix-run
-    slice-aggregate-run-2
+    slice-aggregate-run
     run-requires
     same-length
     same-length-2

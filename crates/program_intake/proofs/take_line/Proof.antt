@@ -1,3 +1,4 @@
+use Prim.Native.Nat.{_+_, _<_}
 use mathlib.Core.Path.{ap}
 use native.Mathlib.Omega.{arith}
 use lib.ListN.{length, drop, length-drop}
@@ -13,22 +14,25 @@ line-requires c κs = search needs
 
 add-end : tie.Need-add-end
 add-end c =
-    let a = c .before .before .args in
+    let a = c .before .before .before .args in
     omega (arith, line-within (drop (a .at) (a .block .now)), length-drop (a .at) (a .block .now), ap length (c .line .ensures))
 
 enum-told : tie.Need-enum-told
 enum-told c = search needs
 
-add-t15 : tie.Need-add-t15
-add-t15 c = omega (arith, ltb-true)
+add-t18 : tie.Need-add-t18
+add-t18 c = omega (arith, ltb-true)
 
 returns : tie.Need-returns
 returns c =
     let t = c .before in
-    ended-refused _ _ _ _ _ (t .before .before .line .ensures) (ltb-true _ _ (c .if1 .taken)) _ (t .enum-told .given .1)
+    ended-refused _ _ _ _ _ _ (t .before .before .line .ensures) (ltb-true _ _ (c .if1 .taken)) _ (t .enum-told .given .1)
 
 enum-told-2 : tie.Need-enum-told-2
 enum-told-2 c = search needs
+
+take-numbers-requires : tie.Need-take-numbers-requires
+take-numbers-requires c κs = search needs
 
 more-requires : tie.Need-more-requires
 more-requires c κs = search needs
@@ -36,14 +40,24 @@ more-requires c κs = search needs
 close-requires : tie.Need-close-requires
 close-requires c κs = search needs
 
-add-t18 : tie.Need-add-t18
-add-t18 c = omega (arith, ltb-true)
+add-t26 : tie.Need-add-t26
+add-t26 c =
+    let i = c .before .before in
+    let l = i .before .before .before .before .before .before .before .before .before .before in
+    let a = l .before .before .before .args in
+    let short : a .at + length (l .line .result .now) < length (a .block .now) = ltb-true _ _ (i .if2 .taken) in
+    omega (arith, short, l)
+
+same-length : tie.Need-same-length
+same-length c = search needs
 
 returns-2 : tie.Need-returns-2
 returns-2 c =
-    let m = c .before .before in
-    let t = m .before .before in
-    ended-accepted _ _ _ _ _ (t .before .before .line .ensures) (ltb-true _ _ (c .before .if2 .taken)) (t .enum-told2 .given .1)
+    let i = c .before .before in
+    let m = i .before in
+    let n = m .before .before .before in
+    let t = n .before .before .before .before in
+    ended-accepted _ _ _ _ _ _ (t .before .before .line .ensures) (ltb-true _ _ (i .if2 .taken)) (t .enum-told2 .given .1) _ (n .take-numbers .ensures)
     (m .more .result) (m .more .ensures) (c .close .result) (c .close .ensures)
 
 lengthen-requires : tie.Need-lengthen-requires
@@ -52,13 +66,18 @@ lengthen-requires c κs = search needs
 returns-3 : tie.Need-returns-3
 returns-3 c =
     let t = c .before in
-    open-refused _ _ _ _ _ (t .before .before .line .ensures) (ltb-false _ _ (c .if1 .left)) _ (t .enum-told .given .1)
+    open-refused _ _ _ _ _ _ (t .before .before .line .ensures) (ltb-false _ _ (c .if1 .left)) _ (t .enum-told .given .1)
+
+same-length-2 : tie.Need-same-length-2
+same-length-2 c = search needs
 
 returns-4 : tie.Need-returns-4
 returns-4 c =
-    let m = c .before .before in
-    let t = m .before .before in
-    open-accepted _ _ _ _ _ (t .before .before .line .ensures) (ltb-false _ _ (c .before .if2 .left)) (t .enum-told2 .given .1)
+    let i = c .before in
+    let m = i .before in
+    let n = m .before .before .before in
+    let t = n .before .before .before .before in
+    open-accepted _ _ _ _ _ _ (t .before .before .line .ensures) (ltb-false _ _ (i .if2 .left)) (t .enum-told2 .given .1) _ (n .take-numbers .ensures)
     (m .more .result) (m .more .ensures) (c .lengthen .result) (c .lengthen .ensures)
 
 pub take-line-spec : {M : Type 1} → statement M
@@ -68,13 +87,16 @@ take-line-spec =
     line-requires
     add-end
     enum-told
-    add-t15
+    add-t18
     returns
     enum-told-2
+    take-numbers-requires
     more-requires
     close-requires
-    add-t18
+    add-t26
+    same-length
     returns-2
     lengthen-requires
     returns-3
+    same-length-2
     returns-4)

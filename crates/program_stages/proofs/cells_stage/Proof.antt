@@ -1,6 +1,5 @@
 use borrow.Author.Needs.{needs}
 use Rattle.program_stages.proofs.StageLaws.{some-cells, turned-back, no-cells}
-use Rattle.program_stages.specs.Stages.{cellsStage}
 use Rattle.program_stages.proofs.cells_stage.Statement.{statement}
 use Rattle.program_stages.proofs.cells_stage.Tie as tie
 

@@ -1,7 +1,6 @@
 use borrow.Author.Needs.{needs}
 use mathlib.Core.Path.{_∙_}
 use Rattle.program_stages.proofs.StageLaws.{open-line, missing-line, open-cell, starved, closed-clocks, closed-ending, closed-refusing, closed-over}
-use Rattle.program_stages.specs.Stages.{closedBy, closed}
 use Rattle.program_stages.proofs.close.Statement.{statement}
 use Rattle.program_stages.proofs.close.Tie as tie
 use Rattle.program_stages.proofs.staged.Reads as staged-reads

@@ -5,6 +5,12 @@ use Rattle.sheet_calls.proofs.ReaderLaws.{chain-read, end-refused, end-
 use Rattle.sheet_calls.proofs.read_chain.Statement.{statement}
 use Rattle.sheet_calls.proofs.read_chain.Tie as tie
 
+rows-of-requires : tie.Need-rows-of-requires
+rows-of-requires c κs = search needs
+
+slice-aggregate-read-lines : tie.Need-slice-aggregate-read-lines
+slice-aggregate-read-lines c = search needs
+
 read-lines-requires : tie.Need-read-lines-requires
 read-lines-requires c κs = search needs
 
@@ -29,7 +35,7 @@ returns c =
     let o = t .before in
     let k = o .before .before in
     let l = k .before .before in
-    c .refused-chain2 .ensures ∙ chain-read _ _ _ (l .read-lines .ensures) (end-missing _ _ (k .enum-told .given .1) (sym (o .is-complete .ensures) ∙ not-true _ (t .if1 .taken)))
+    c .refused-chain2 .ensures ∙ chain-read _ _ _ _ (l .before .before .rows-of .ensures) (l .read-lines .ensures) (end-missing _ _ (k .enum-told .given .1) (sym (o .is-complete .ensures) ∙ not-true _ (t .if1 .taken)))
 
 slice-aggregate-judge-chain : tie.Need-slice-aggregate-judge-chain
 slice-aggregate-judge-chain c = search needs
@@ -50,7 +56,7 @@ returns-2 : tie.Need-returns-2
 returns-2 c =
     let v = c .before .before in
     let l = v .before .before in
-    c .refused-chain .ensures ∙ chain-read _ _ _ (l .read-lines .ensures) (end-refused _ _ _ (v .v .given .1))
+    c .refused-chain .ensures ∙ chain-read _ _ _ _ (l .before .before .rows-of .ensures) (l .read-lines .ensures) (end-refused _ _ _ (v .v .given .1))
 
 returns-3 : tie.Need-returns-3
 returns-3 c =
@@ -61,7 +67,7 @@ returns-3 c =
     let k = o .before .before in
     let l = k .before .before in
     c .refused-chain3 .ensures
-    ∙ chain-read _ _ _ (l .read-lines .ensures) (end-judged _ _ (k .enum-told .given .1) (sym (o .is-complete .ensures) ∙ not-false _ (e .if1 .left)) _ (sym (j .judged .given .1) ∙ a .judge-chain .ensures))
+    ∙ chain-read _ _ _ _ (l .before .before .rows-of .ensures) (l .read-lines .ensures) (end-judged _ _ (k .enum-told .given .1) (sym (o .is-complete .ensures) ∙ not-false _ (e .if1 .left)) _ (sym (j .judged .given .1) ∙ a .judge-chain .ensures))
 
 returns-4 : tie.Need-returns-4
 returns-4 c =
@@ -70,12 +76,14 @@ returns-4 c =
     let o = e .before in
     let k = o .before .before in
     let l = k .before .before in
-    chain-read _ _ _ (l .read-lines .ensures) (end-judged _ _ (k .enum-told .given .1) (sym (o .is-complete .ensures) ∙ not-false _ (e .if1 .left)) _ (sym (c .enum-told2 .given .1) ∙ a .judge-chain .ensures))
+    chain-read _ _ _ _ (l .before .before .rows-of .ensures) (l .read-lines .ensures) (end-judged _ _ (k .enum-told .given .1) (sym (o .is-complete .ensures) ∙ not-false _ (e .if1 .left)) _ (sym (c .enum-told2 .given .1) ∙ a .judge-chain .ensures))
 
 pub read-chain-spec : {M : Type 1} → statement M
 read-chain-spec =
     tie.close
     (tie.spec
+    rows-of-requires
+    slice-aggregate-read-lines
     read-lines-requires
     enum-known-v
     refused-chain-requires

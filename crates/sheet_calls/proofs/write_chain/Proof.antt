@@ -5,9 +5,6 @@ use Rattle.sheet_writer.proofs.Written.{laid-written}
 use Rattle.sheet_calls.proofs.write_chain.Statement.{statement}
 use Rattle.sheet_calls.proofs.write_chain.Tie as tie
 
-slice-aggregate-judge-chain : tie.Need-slice-aggregate-judge-chain
-slice-aggregate-judge-chain c = search needs
-
 judge-chain-requires : tie.Need-judge-chain-requires
 judge-chain-requires c κs = search needs
 
@@ -23,7 +20,7 @@ write-sheet-requires c κs = search needs
 returns : tie.Need-returns
 returns c =
     let j = c .before in
-    write-refused _ _ _ (sym (j .before .before .judge-chain .ensures) ∙ j .judged .given .1)
+    write-refused _ _ _ _ (sym (j .before .before .judge-chain .ensures) ∙ j .judged .given .1)
 
 same-length : tie.Need-same-length
 same-length c = search needs
@@ -32,13 +29,12 @@ returns-2 : tie.Need-returns-2
 returns-2 c =
     let w = c .before .before in
     let k = w .before .before in
-    w .write-sheet .ensures ∙ laid-written _ _ (sym (k .before .before .judge-chain .ensures) ∙ k .enum-told .given .1)
+    w .write-sheet .ensures ∙ laid-written _ _ _ (sym (k .before .before .judge-chain .ensures) ∙ k .enum-told .given .1)
 
 pub write-chain-spec : {M : Type 1} → statement M
 write-chain-spec =
     tie.close
     (tie.spec
-    slice-aggregate-judge-chain
     judge-chain-requires
     enum-known-judged
     enum-told

@@ -3,7 +3,7 @@ use mathlib.Core.Path.{_≡_, sym, _∙_}
 use borrow.Author.Needs.{needs}
 use borrow.Author.Tests.{not-true, not-false}
 use Rattle.model.specs.Frames.{isDigit}
-use Rattle.sheet_frames.proofs.FeedLaws.{fed-other, fed-high, fed-kept, fed-past}
+use Rattle.sheet_frames.proofs.FeedLaws.{fed-other, fed-high, fed-kept, fed-counted, fed-past}
 use Rattle.sheet_frames.proofs.feed.Statement.{statement}
 use Rattle.sheet_frames.proofs.feed.Tie as tie
 
@@ -42,10 +42,18 @@ returns-3 c =
     let v = t .before .before .before in
     fed-kept _ _ (digit (v .before)) _ (v .value-of .ensures .0) (not-false _ (t .before .if2 .left)) (t .if3 .taken)
 
+add-t18 : tie.Need-add-t18
+add-t18 c = search needs
+
 returns-4 : tie.Need-returns-4
 returns-4 c =
-    let v = c .before .before .before in
-    fed-past _ _ (digit (v .before)) _ (v .value-of .ensures .0) (not-false _ (c .before .if2 .left)) (c .if3 .left)
+    let v = c .before .before .before .before in
+    fed-counted _ _ (digit (v .before)) _ (v .value-of .ensures .0) (not-false _ (c .before .before .if2 .left)) (c .before .if3 .left) (c .if4 .taken)
+
+returns-5 : tie.Need-returns-5
+returns-5 c =
+    let v = c .before .before .before .before in
+    fed-past _ _ (digit (v .before)) _ (v .value-of .ensures .0) (not-false _ (c .before .before .if2 .left)) (c .if4 .left)
 
 pub feed-spec : {M : Type 1} → statement M
 feed-spec =
@@ -60,4 +68,6 @@ feed-spec =
     array-write-first
     add-t16
     returns-3
-    returns-4)
+    add-t18
+    returns-4
+    returns-5)

@@ -8,7 +8,7 @@ use borrow.Author.Needs.{needs}
 use borrow.Author.Tests.{not-true, not-false}
 use Rattle.model.specs.declared.Frame.{Frame}
 use Rattle.model.specs.Frames.{isDigit, fed, feeds}
-use Rattle.sheet_frames.proofs.FeedLaws.{fed-other, fed-high, fed-kept, fed-past, feeds-on, feeds-end}
+use Rattle.sheet_frames.proofs.FeedLaws.{fed-other, fed-high, fed-kept, fed-counted, fed-past, feeds-on, feeds-end}
 use Rattle.sheet_frames.proofs.more.Statement.{statement}
 use Rattle.sheet_frames.proofs.more.Tie as tie
 
@@ -90,14 +90,28 @@ loop-again-3 c =
           (fed-kept _ _ (digit (v .before)) _ (v .value-of .ensures .0) (not-false _ (c .before .if2 .left)) (c .if3 .taken)),
     )
 
+add-len-2 : tie.Need-add-len-2 Inv-loop μ-loop
+add-len-2 c = search needs
+
 loop-less-4 : tie.Need-loop-less-4 Inv-loop μ-loop
 loop-less-4 c = search needs
 
 loop-again-4 : tie.Need-loop-again-4 Inv-loop μ-loop
 loop-again-4 c =
-    let v = c .before .before in (
+    let v = c .before .before .before in (
       search needs,
-      goes-on (v .before .before) _ (fed-past _ _ (digit (v .before)) _ (v .value-of .ensures .0) (not-false _ (c .before .if2 .left)) (c .if3 .left)),
+      goes-on (v .before .before) _
+          (fed-counted _ _ (digit (v .before)) _ (v .value-of .ensures .0) (not-false _ (c .before .before .if2 .left)) (c .before .if3 .left) (c .if4 .taken)),
+    )
+
+loop-less-5 : tie.Need-loop-less-5 Inv-loop μ-loop
+loop-less-5 c = search needs
+
+loop-again-5 : tie.Need-loop-again-5 Inv-loop μ-loop
+loop-again-5 c =
+    let v = c .before .before .before in (
+      search needs,
+      goes-on (v .before .before) _ (fed-past _ _ (digit (v .before)) _ (v .value-of .ensures .0) (not-false _ (c .before .before .if2 .left)) (c .if4 .left)),
     )
 
 returns : tie.Need-returns Inv-loop μ-loop
@@ -122,8 +136,11 @@ more-spec =
     add-first
     array-write-first
     add-len
+    add-len-2
     loop-less-3
     loop-again-3
     loop-less-4
     loop-again-4
+    loop-less-5
+    loop-again-5
     returns)

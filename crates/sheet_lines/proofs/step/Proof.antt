@@ -13,7 +13,7 @@ enum-told c = search needs
 take-line-requires : tie.Need-take-line-requires
 take-line-requires c κs =
     let v = c .before .before .before in
-    accepted-room _ _ _ (sym (v .line-verdict .ensures) ∙ c .before .enum-told .given .1)
+    accepted-room _ _ _ _ (sym (v .line-verdict .ensures) ∙ c .before .enum-told .given .1)
 
 enum-known-v : tie.Need-enum-known-v
 enum-known-v c = search needs
@@ -21,12 +21,12 @@ enum-known-v c = search needs
 returns : tie.Need-returns
 returns c =
     let t = c .before .before in
-    step-accepted _ _ _ _ (sym (t .before .before .line-verdict .ensures) ∙ t .enum-told .given .1) (c .take-line .ensures)
+    step-accepted _ _ _ _ _ (sym (t .before .before .line-verdict .ensures) ∙ t .enum-told .given .1) (c .take-line .ensures)
 
 returns-2 : tie.Need-returns-2
 returns-2 c =
     let k = c .before in
-    step-refused _ _ _ _ (sym (k .before .before .line-verdict .ensures) ∙ k .v .given .1)
+    step-refused _ _ _ _ _ (sym (k .before .before .line-verdict .ensures) ∙ k .v .given .1)
 
 pub step-spec : {M : Type 1} → statement M
 step-spec =

@@ -2,7 +2,7 @@ use mathlib.Core.Path.{sym, _∙_}
 use borrow.Author.Needs.{needs}
 use borrow.Author.Tests.{ne-eqb}
 use Rattle.model.specs.Reading.{taken}
-use Rattle.sheet_laws.proofs.AcceptedLines.{taken-grid, taken-offset, taken-name, taken-box, taken-capacity, taken-order}
+use Rattle.sheet_laws.proofs.AcceptedLines.{taken-grid, taken-offset, taken-name, taken-box, taken-capacity, taken-order, taken-rows}
 use Rattle.sheet_lines.proofs.take_line.Statement.{statement}
 use Rattle.sheet_lines.proofs.take_line.Tie as tie
 
@@ -45,13 +45,20 @@ with-box-requires c κs = search needs
 returns-6 : tie.Need-returns-6
 returns-6 c = c .with-box .ensures ∙ sym (taken-box _ _ (c .before .if6 .taken))
 
+with-rows-requires : tie.Need-with-rows-requires
+with-rows-requires c κs = search needs
+
+returns-7 : tie.Need-returns-7
+returns-7 c = c .with-rows .ensures ∙ sym (taken-rows _ _ (c .before .if7 .taken))
+
 with-kernel-requires : tie.Need-with-kernel-requires
 with-kernel-requires c κs = search needs
 
-returns-7 : tie.Need-returns-7
+returns-8 : tie.Need-returns-8
 unfolding taken
-returns-7 c =
-    let e6 = c .before in
+returns-8 c =
+    let e7 = c .before in
+    let e6 = e7 .before in
     let e5 = e6 .before in
     let e4 = e5 .before in
     let e3 = e4 .before in
@@ -63,6 +70,7 @@ returns-7 c =
       ne-eqb _ _ (e4 .if4 .left),
       ne-eqb _ _ (e5 .if5 .left),
       ne-eqb _ _ (e6 .if6 .left),
+      ne-eqb _ _ (e7 .if7 .left),
     ) (c .with-kernel .ensures)
 
 pub take-line-spec : {M : Type 1} → statement M
@@ -82,5 +90,7 @@ take-line-spec =
     returns-5
     with-box-requires
     returns-6
+    with-rows-requires
+    returns-7
     with-kernel-requires
-    returns-7)
+    returns-8)

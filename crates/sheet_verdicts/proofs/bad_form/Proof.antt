@@ -83,17 +83,33 @@ returns-9 : tie.Need-returns-9
 unfolding badForm
 returns-9 c =
     simp (
-      ne-eqb _ _ (c .before .before .before .before .before .before .before .if1 .left),
-      ne-eqb _ _ (c .before .before .before .before .before .before .if2 .left),
-      ne-eqb _ _ (c .before .before .before .before .before .if3 .left),
-      ne-eqb _ _ (c .before .before .before .before .if4 .left),
-      ne-eqb _ _ (c .before .before .before .if5 .left),
-      ne-eqb _ _ (c .before .before .if6 .left),
-      ne-eqb _ _ (c .before .if7 .left),
-      ne-eqb _ _ (c .if8 .left),
+      ne-eqb _ _ (c .before .before .before .before .before .before .before .before .if1 .left),
+      ne-eqb _ _ (c .before .before .before .before .before .before .before .if2 .left),
+      ne-eqb _ _ (c .before .before .before .before .before .before .if3 .left),
+      ne-eqb _ _ (c .before .before .before .before .before .if4 .left),
+      ne-eqb _ _ (c .before .before .before .before .if5 .left),
+      ne-eqb _ _ (c .before .before .before .if6 .left),
+      ne-eqb _ _ (c .before .before .if7 .left),
+      ne-eqb _ _ (c .before .if8 .left),
+      eq-eqb _ _ (c .if9 .taken),
+    )
+
+returns-10 : tie.Need-returns-10
+unfolding badForm
+returns-10 c =
+    simp (
+      ne-eqb _ _ (c .before .before .before .before .before .before .before .before .if1 .left),
+      ne-eqb _ _ (c .before .before .before .before .before .before .before .if2 .left),
+      ne-eqb _ _ (c .before .before .before .before .before .before .if3 .left),
+      ne-eqb _ _ (c .before .before .before .before .before .if4 .left),
+      ne-eqb _ _ (c .before .before .before .before .if5 .left),
+      ne-eqb _ _ (c .before .before .before .if6 .left),
+      ne-eqb _ _ (c .before .before .if7 .left),
+      ne-eqb _ _ (c .before .if8 .left),
+      ne-eqb _ _ (c .if9 .left),
     )
 
 pub bad-form-spec : {M : Type 1} → statement M
 bad-form-spec =
     tie.close
-    (tie.spec returns returns-2 returns-3 bad-kernel-requires returns-4 returns-5 returns-6 returns-7 returns-8 returns-9)
+    (tie.spec returns returns-2 returns-3 bad-kernel-requires returns-4 returns-5 returns-6 returns-7 returns-8 returns-9 returns-10)

@@ -8,6 +8,9 @@ use Rattle.sheet_verdicts.proofs.comes_in_chain.Tie as tie
 enum-told : tie.Need-enum-told
 enum-told c = search needs
 
+of-two-requires : tie.Need-of-two-requires
+of-two-requires c κs = search needs
+
 enum-told-2 : tie.Need-enum-told-2
 enum-told-2 c = search needs
 
@@ -48,7 +51,7 @@ enum-told-8 c = search needs
 
 returns-3 : tie.Need-returns-3
 unfolding nextInChain
-returns-3 c = rw (c .enum-told .given .1) (one-left _ 1)
+returns-3 c = rw (c .before .enum-told .given .1) (c .of-two .ensures)
 
 returns-4 : tie.Need-returns-4
 unfolding nextInChain
@@ -86,6 +89,7 @@ comes-in-chain-spec =
     tie.close
     (tie.spec
     enum-told
+    of-two-requires
     enum-told-2
     enum-told-3
     returns

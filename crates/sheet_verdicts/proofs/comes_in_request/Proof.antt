@@ -8,11 +8,14 @@ use Rattle.sheet_verdicts.proofs.comes_in_request.Tie as tie
 enum-told : tie.Need-enum-told
 enum-told c = search needs
 
+of-two-requires : tie.Need-of-two-requires
+of-two-requires c κs = search needs
+
 enum-told-2 : tie.Need-enum-told-2
 enum-told-2 c = search needs
 
-of-two-requires : tie.Need-of-two-requires
-of-two-requires c κs = search needs
+of-two-requires-2 : tie.Need-of-two-requires-2
+of-two-requires-2 c κs = search needs
 
 enum-told-3 : tie.Need-enum-told-3
 enum-told-3 c = search needs
@@ -23,8 +26,8 @@ of-three-requires c κs = search needs
 enum-told-4 : tie.Need-enum-told-4
 enum-told-4 c = search needs
 
-of-two-requires-2 : tie.Need-of-two-requires-2
-of-two-requires-2 c κs = search needs
+of-two-requires-3 : tie.Need-of-two-requires-3
+of-two-requires-3 c κs = search needs
 
 enum-told-5 : tie.Need-enum-told-5
 enum-told-5 c = search needs
@@ -40,11 +43,11 @@ enum-told-8 c = search needs
 
 returns : tie.Need-returns
 unfolding nextInRequest
-returns c = rw (c .enum-told .given .1) (one-left _ 1)
+returns c = rw (c .before .enum-told .given .1) (c .of-two .ensures)
 
 returns-2 : tie.Need-returns-2
 unfolding nextInRequest
-returns-2 c = rw (c .before .enum-told2 .given .1) (c .of-two .ensures)
+returns-2 c = rw (c .before .enum-told2 .given .1) (c .of-two2 .ensures)
 
 returns-3 : tie.Need-returns-3
 unfolding nextInRequest
@@ -52,7 +55,7 @@ returns-3 c = rw (c .before .enum-told3 .given .1) (c .of-three .ensures)
 
 returns-4 : tie.Need-returns-4
 unfolding nextInRequest
-returns-4 c = rw (c .before .enum-told4 .given .1) (c .of-two2 .ensures)
+returns-4 c = rw (c .before .enum-told4 .given .1) (c .of-two3 .ensures)
 
 returns-5 : tie.Need-returns-5
 unfolding nextInRequest
@@ -75,12 +78,13 @@ comes-in-request-spec =
     tie.close
     (tie.spec
     enum-told
-    enum-told-2
     of-two-requires
+    enum-told-2
+    of-two-requires-2
     enum-told-3
     of-three-requires
     enum-told-4
-    of-two-requires-2
+    of-two-requires-3
     enum-told-5
     enum-told-6
     enum-told-7

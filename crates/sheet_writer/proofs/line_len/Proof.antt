@@ -6,6 +6,9 @@ use Rattle.sheet_writer.proofs.line_len.Tie as tie
 enum-told : tie.Need-enum-told
 enum-told c = search needs
 
+dims-of-requires : tie.Need-dims-of-requires
+dims-of-requires c κs = search needs
+
 cast-result : tie.Need-cast-result
 cast-result c = search needs
 
@@ -17,6 +20,9 @@ add-result c = search needs
 
 enum-told-2 : tie.Need-enum-told-2
 enum-told-2 c = search needs
+
+dims-of-requires-2 : tie.Need-dims-of-requires-2
+dims-of-requires-2 c κs = search needs
 
 cast-result-2 : tie.Need-cast-result-2
 cast-result-2 c = search needs
@@ -47,11 +53,11 @@ kernel-len-requires c κs = search needs
 
 returns : tie.Need-returns
 unfolding lenOf
-returns c = rw (c .before .enum-told .given .1)
+returns c = rw (c .before .enum-told .given .1, c .dims-of .ensures)
 
 returns-2 : tie.Need-returns-2
 unfolding lenOf
-returns-2 c = rw (c .before .enum-told2 .given .1)
+returns-2 c = rw (c .before .enum-told2 .given .1, c .dims-of2 .ensures)
 
 returns-3 : tie.Need-returns-3
 unfolding lenOf
@@ -70,10 +76,12 @@ line-len-spec =
     tie.close
     (tie.spec
     enum-told
+    dims-of-requires
     cast-result
     mul-result
     add-result
     enum-told-2
+    dims-of-requires-2
     cast-result-2
     mul-result-2
     add-result-2

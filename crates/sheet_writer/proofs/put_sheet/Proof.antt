@@ -16,18 +16,18 @@ use Rattle.sheet_writer.proofs.put_sheet.Statement.{statement}
 use Rattle.sheet_writer.proofs.put_sheet.Tie as tie
 
 abbrev Inv-loop : tie.InvT-loop
-Inv-loop out₀ c boxed ordered n lines at₀ m₀ out at m =
-    (m ≤ lines) × (length out ≡ length out₀) × (at + length (linesFrom c (1 + m) (lines - m)) ≡ at₀ + length (linesFrom c 1 lines))
-    × (sets out at (linesFrom c (1 + m) (lines - m)) ≡ sets out₀ at₀ (linesFrom c 1 lines))
+Inv-loop out₀ c rows boxed ordered n lines at₀ m₀ out at m =
+    (m ≤ lines) × (length out ≡ length out₀) × (at + length (linesFrom c rows (1 + m) (lines - m)) ≡ at₀ + length (linesFrom c rows 1 lines))
+    × (sets out at (linesFrom c rows (1 + m) (lines - m)) ≡ sets out₀ at₀ (linesFrom c rows 1 lines))
 
 abbrev μ-loop : tie.MeasureT-loop
-μ-loop out₀ c boxed ordered n lines at₀ m₀ out at m = lines - m
+μ-loop out₀ c rows boxed ordered n lines at₀ m₀ out at m = lines - m
 
 abbrev grid-put : tie.At-loop Inv-loop μ-loop → tie.After-put-grid Inv-loop μ-loop
 grid-put l = l .before .before .before
 
 abbrev start : tie.At-loop Inv-loop μ-loop → tie.Start Inv-loop μ-loop
-start l = grid-put l .before .before .before .before .before .before .before .before .before
+start l = grid-put l .before .before .before .before .before .before .before .before .before .before
 
 abbrev lines-told : tie.At-loop Inv-loop μ-loop → tie.After-lines-behind Inv-loop μ-loop
 lines-told l = grid-put l .before .before
@@ -46,7 +46,7 @@ len c =
 
 -- The output keeps its length.
 long : (l : tie.At-loop Inv-loop μ-loop) → length (l .loop .out) ≡ length (start l .args .out .now)
-long l = l .loop .inv .1 ∙ ap length (grid-put l .put-grid .ensures .1) ∙ length-sets {A = ℕ} (start l .args .out .now) 0 (framed (gridLine (start l .args .c .grid)))
+long l = l .loop .inv .1 ∙ ap length (grid-put l .put-grid .ensures .1) ∙ length-sets {A = ℕ} (start l .args .out .now) 0 (framed (gridLine (start l .args .c .grid) (start l .args .rows .now)))
 
 cast-n : tie.Need-cast-n Inv-loop μ-loop
 cast-n c = search needs
@@ -56,9 +56,9 @@ lines-behind-requires c κs = search needs
 
 put-grid-requires : tie.Need-put-grid-requires Inv-loop μ-loop
 put-grid-requires c κs =
-    let s = c .before .before .before .before .before .before .before .before in
+    let s = c .before .before .before .before .before .before .before .before .before in
     let told = c .before .lines-behind in
-    (s .pre .0 .dims, omega (arith, s .pre .1, all-length (s .args .c) (s .pre .0 .flat) (s .pre .0 .dims) (s .pre .0 .some) (s .pre .0 .most) (told .result) (told .ensures)), s .pre .0 .flat)
+    (s .pre .0 .dims, s .pre .1, omega (arith, s .pre .2, all-length (s .args .c) (s .args .rows .now) (s .pre .0 .dims) (s .pre .0 .some) (s .pre .0 .most) (told .result) (told .ensures)))
 
 loop-holds : tie.Need-loop-holds Inv-loop μ-loop
 loop-holds c = (search needs, search needs, rw sub-zero, rw sub-zero)
@@ -93,9 +93,9 @@ put-frame-requires c κs =
         long l,
         l .loop .inv .2,
         grid-put l .put-grid .ensures .0,
-        s .pre .1,
-        all-length a (s .pre .0 .flat) (s .pre .0 .dims) (s .pre .0 .some) (s .pre .0 .most) (told .result) (told .ensures),
-        more-length a (l .loop .m) (told .result) (s .pre .0 .dims) (s .pre .0 .most) (t .loop-test .taken),
+        s .pre .2,
+        all-length a (s .args .rows .now) (s .pre .0 .dims) (s .pre .0 .some) (s .pre .0 .most) (told .result) (told .ensures),
+        more-length a (s .args .rows .now) (l .loop .m) (told .result) (s .pre .0 .dims) (s .pre .0 .most) (t .loop-test .taken),
       ),
     )
 
@@ -118,9 +118,9 @@ loop-again c =
     let lines = lines-told l .lines-behind .result in (
       search needs,
       ap length (e .1) ∙ simp length-sets (l .loop .inv .1),
-      omega (arith, e .0, len k, l .loop .inv .2, more-length (s .args .c) (l .loop .m) lines (s .pre .0 .dims) (s .pre .0 .most) (t .loop-test .taken)),
+      omega (arith, e .0, len k, l .loop .inv .2, more-length (s .args .c) (s .args .rows .now) (l .loop .m) lines (s .pre .0 .dims) (s .pre .0 .most) (t .loop-test .taken)),
       rw (e .0, e .1, r .row .ensures, k .line-len .ensures, q .part-at .ensures)
-          (line-on (s .args .c) (l .loop .m) lines (s .pre .0 .dims) (s .pre .0 .most) (t .loop-test .taken) (l .loop .out) (l .loop .at))
+          (line-on (s .args .c) (s .args .rows .now) (l .loop .m) lines (s .pre .0 .dims) (s .pre .0 .most) (t .loop-test .taken) (l .loop .out) (l .loop .at))
           ∙ l .loop .inv .3,
     )
 
@@ -133,11 +133,11 @@ returns c =
     let s = start l in
     let g = grid-put l .put-grid .ensures in
     let told = lines-told l .lines-behind in
-    let none = no-more (s .args .c) (l .loop .m) (told .result) (c .loop-test .left) in (
-      omega (arith, l .loop .inv .2, ap length none, g .0, all-length (s .args .c) (s .pre .0 .flat) (s .pre .0 .dims) (s .pre .0 .some) (s .pre .0 .most) (told .result) (told .ensures)),
+    let none = no-more (s .args .c) (s .args .rows .now) (l .loop .m) (told .result) (c .loop-test .left) in (
+      omega (arith, l .loop .inv .2, ap length none, g .0, all-length (s .args .c) (s .args .rows .now) (s .pre .0 .dims) (s .pre .0 .some) (s .pre .0 .most) (told .result) (told .ensures)),
       ap (λ t. sets (l .loop .out) (l .loop .at) t) (sym none)
           ∙ l .loop .inv .3
-          ∙ all-laid (s .args .c) (s .pre .0 .flat) (s .pre .0 .dims) (s .pre .0 .some) (s .pre .0 .most) (told .result) (told .ensures) _ _ _ (g .0) (g .1),
+          ∙ all-laid (s .args .c) (s .args .rows .now) (s .pre .0 .dims) (s .pre .0 .some) (s .pre .0 .most) (told .result) (told .ensures) _ _ _ (g .0) (g .1),
     )
 
 pub put-sheet-spec : {M : Type 1} → statement M

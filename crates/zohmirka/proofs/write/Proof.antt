@@ -15,7 +15,7 @@ same-length c = search needs
 returns : tie.Need-returns
 returns c =
     let w = c .before .before .before in
-    sheet-written _ _ _ _ _ (w .write-chain .ensures) (c .number .ensures)
+    sheet-written _ _ _ _ _ _ (w .write-chain .ensures) (c .number .ensures)
 
 pub write-spec : {M : Type 1} → statement M
 write-spec = tie.close (tie.spec write-chain-requires number-requires same-length returns)

@@ -1,4 +1,3 @@
-use mathlib.Core.List.{[]}
 use mathlib.Core.Path.{_∙_, ap}
 use borrow.Author.Needs.{needs}
 use Rattle.model.specs.Answers.{verdictNumber}
@@ -10,9 +9,6 @@ use Rattle.zohmirka.proofs.zohmirka_judge_chain.Tie as tie
 chain-in-requires : tie.Need-chain-in-requires
 chain-in-requires c κs = search needs
 
-slice-aggregate-judge-chain : tie.Need-slice-aggregate-judge-chain
-slice-aggregate-judge-chain c = search needs
-
 judge-chain-requires : tie.Need-judge-chain-requires
 judge-chain-requires c κs = search needs
 
@@ -22,7 +18,9 @@ number-requires c κs = search needs
 returns : tie.Need-returns
 returns c =
     let j = c .before in
-    c .number .ensures ∙ ap verdictNumber (j .judge-chain .ensures ∙ ap (λ (x : Chain). judgeChain x []) (j .before .before .chain-in .ensures))
+    let i = j .before in
+    let rows = i .before .before .before .args .rows .now in
+    c .number .ensures ∙ ap verdictNumber (j .judge-chain .ensures ∙ ap (λ (x : Chain). judgeChain x rows) (i .chain-in .ensures))
 
 pub zohmirka-judge-chain-spec : {M : Type 1} → statement M
-zohmirka-judge-chain-spec = tie.close (tie.spec chain-in-requires slice-aggregate-judge-chain judge-chain-requires number-requires returns)
+zohmirka-judge-chain-spec = tie.close (tie.spec chain-in-requires judge-chain-requires number-requires returns)

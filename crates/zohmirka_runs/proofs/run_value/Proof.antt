@@ -6,9 +6,6 @@ use Rattle.zohmirka_runs.proofs.run_value.Tie as tie
 state-in-requires : tie.Need-state-in-requires
 state-in-requires c κs = search needs
 
-slice-aggregate-run : tie.Need-slice-aggregate-run
-slice-aggregate-run c = search needs
-
 run-requires : tie.Need-run-requires
 run-requires c κs = search needs
 
@@ -40,8 +37,8 @@ returns : tie.Need-returns
 returns c =
     let v = c .before .before in
     let r = v .before .before .before .before .before .before in
-    let s = r .before .before .before .before in
-    run-refused _ _ _ _ _ _ _ _ _ _ (s .state-in .ensures) (r .run .ensures) _ _ (v .answer .given .1) (c .refused .ensures)
+    let s = r .before .before .before in
+    run-refused _ _ _ _ _ _ _ _ _ _ _ (s .state-in .ensures) (r .run .ensures) _ _ (v .answer .given .1) (c .refused .ensures)
 
 same-length-4 : tie.Need-same-length-4
 same-length-4 c = search needs
@@ -57,15 +54,14 @@ returns-2 c =
     let o = c .before .before .before in
     let v = o .before .before .before .before in
     let r = v .before .before .before .before .before .before in
-    let s = r .before .before .before .before in
-    run-ended _ _ _ _ _ _ _ _ _ _ (s .state-in .ensures) (r .run .ensures) _ _ _ (v .answer2 .given .1) (o .state-out .ensures) (c .ended .ensures)
+    let s = r .before .before .before in
+    run-ended _ _ _ _ _ _ _ _ _ _ _ (s .state-in .ensures) (r .run .ensures) _ _ _ (v .answer2 .given .1) (o .state-out .ensures) (c .ended .ensures)
 
 pub run-value-spec : {M : Type 1} → statement M
 run-value-spec =
     tie.close
     (tie.spec
     state-in-requires
-    slice-aggregate-run
     run-requires
     enum-known-answer
     refused-requires

@@ -10,20 +10,26 @@ blank-chain-requires c κs = search needs
 returns : tie.Need-returns
 returns c = c .blank-chain .ensures ∙ few-chain _ (c .before .if1 .taken)
 
+shared-slice-read-t7 : tie.Need-shared-slice-read-t7
+shared-slice-read-t7 c = search needs
+
+shared-slice-read-kernel-in : tie.Need-shared-slice-read-kernel-in
+shared-slice-read-kernel-in c = search needs
+
 shared-slice-read-count-in : tie.Need-shared-slice-read-count-in
 shared-slice-read-count-in c = search needs
 
 count-in-requires : tie.Need-count-in-requires
 count-in-requires c κs = search needs
 
-shared-slice-read-kernel-in : tie.Need-shared-slice-read-kernel-in
-shared-slice-read-kernel-in c = search needs
-
-shared-slice-read-t12 : tie.Need-shared-slice-read-t12
-shared-slice-read-t12 c = search needs
-
 shared-slice-read-t14 : tie.Need-shared-slice-read-t14
 shared-slice-read-t14 c = search needs
+
+shared-slice-read-t16 : tie.Need-shared-slice-read-t16
+shared-slice-read-t16 c = search needs
+
+shared-slice-read-t18 : tie.Need-shared-slice-read-t18
+shared-slice-read-t18 c = search needs
 
 shared-slice-read-kernel-in-2 : tie.Need-shared-slice-read-kernel-in-2
 shared-slice-read-kernel-in-2 c = search needs
@@ -66,8 +72,8 @@ returns-2 c =
     let off = box .before in
     let cnt = off .before in
     let dim = cnt .before .before .before .before .before .before in
-    let i = dim .before .before in
-    chain-of-words _ _ _ _ _ _ _ _ _ (i .if1 .left) (dim .count-in .ensures) refl (cnt .count-in2 .ensures) (off .offsets-in .ensures) (cap .capacities-in .ensures) (box .bounds-in .ensures)
+    let i = dim .before .before .before .before in
+    chain-of-words _ _ _ _ _ _ _ _ _ _ _ (i .if1 .left) refl refl (dim .count-in .ensures) refl (cnt .count-in2 .ensures) (off .offsets-in .ensures) (cap .capacities-in .ensures) (box .bounds-in .ensures)
     (ord .order-in .ensures) (c .kernel-in .ensures)
 
 pub chain-in-spec : {M : Type 1} → statement M
@@ -76,11 +82,13 @@ chain-in-spec =
     (tie.spec
     blank-chain-requires
     returns
+    shared-slice-read-t7
+    shared-slice-read-kernel-in
     shared-slice-read-count-in
     count-in-requires
-    shared-slice-read-kernel-in
-    shared-slice-read-t12
     shared-slice-read-t14
+    shared-slice-read-t16
+    shared-slice-read-t18
     shared-slice-read-kernel-in-2
     shared-slice-read-count-in-2
     count-in-requires-2

@@ -11,7 +11,7 @@ use Rattle.zohmirka_words.proofs.chain_out.Statement.{statement}
 use Rattle.zohmirka_words.proofs.chain_out.Tie as tie
 
 abbrev Inv-loop : tie.InvT-loop
-Inv-loop c words₀ i₀ words i = (i ≤ 168) × (210 ≤ length words₀) × (words ≡ front (chainWord c) i words₀)
+Inv-loop c words₀ i₀ words i = (i ≤ 168) × (212 ≤ length words₀) × (words ≡ front (chainWord c) i words₀)
 
 abbrev μ-loop : tie.MeasureT-loop
 μ-loop c words₀ i₀ words i = 168 - i
@@ -19,8 +19,8 @@ abbrev μ-loop : tie.MeasureT-loop
 -- the words before the order stand, of any chain whose order has these filters
 abbrev Inv-loop2 : tie.InvT-loop2
 Inv-loop2 c words₀ i filters t₀ words t =
-    (t ≤ 32) × (210 ≤ length words₀) × (length words ≡ length words₀)
-    × ((d : Chain) (ws : List ℕ) → 210 ≤ length ws → filters ≡ d .order .filters → words₀ ≡ front (chainWord d) 169 ws → words ≡ front (chainWord d) (169 + t) ws)
+    (t ≤ 32) × (212 ≤ length words₀) × (length words ≡ length words₀)
+    × ((d : Chain) (ws : List ℕ) → 212 ≤ length ws → filters ≡ d .order .filters → words₀ ≡ front (chainWord d) 169 ws → words ≡ front (chainWord d) (169 + t) ws)
 
 abbrev μ-loop2 : tie.MeasureT-loop2
 μ-loop2 c words₀ i filters t₀ words t = 32 - t
@@ -28,8 +28,8 @@ abbrev μ-loop2 : tie.MeasureT-loop2
 -- and those before the box
 abbrev Inv-loop3 : tie.InvT-loop3
 Inv-loop3 c words₀ i t d₀ words d =
-    (d ≤ 9) × (210 ≤ length words₀) × (length words ≡ length words₀)
-    × ((ws : List ℕ) → 210 ≤ length ws → words₀ ≡ front (chainWord c) 201 ws → words ≡ front (chainWord c) (201 + d) ws)
+    (d ≤ 9) × (212 ≤ length words₀) × (length words ≡ length words₀)
+    × ((ws : List ℕ) → 212 ≤ length ws → words₀ ≡ front (chainWord c) 201 ws → words ≡ front (chainWord c) (201 + d) ws)
 
 abbrev μ-loop3 : tie.MeasureT-loop3
 μ-loop3 c words₀ i t d₀ words d = 9 - d
@@ -156,16 +156,34 @@ loop3-again c =
           ∙ box-more ws (a .c) (l .loop3 .d) (l .loop3 .words) (omega arith) m (l .loop3 .inv .3 ws m r),
     )
 
+cast-words-3 : tie.Need-cast-words-3 Inv-loop μ-loop Inv-loop2 μ-loop2 Inv-loop3 μ-loop3
+cast-words-3 c = search needs
+
+slice-write-words-5 : tie.Need-slice-write-words-5 Inv-loop μ-loop Inv-loop2 μ-loop2 Inv-loop3 μ-loop3
+slice-write-words-5 c =
+    let l = c .before .before .before in
+    let long = l .loop3 .inv .1 in
+    let same = l .loop3 .inv .2 in
+    omega arith
+
+slice-write-words-6 : tie.Need-slice-write-words-6 Inv-loop μ-loop Inv-loop2 μ-loop2 Inv-loop3 μ-loop3
+slice-write-words-6 c =
+    let l = c .before .before .before in
+    let long = l .loop3 .inv .1 in
+    let same = l .loop3 .inv .2 in
+    rw length-set (omega arith)
+
 same-length : tie.Need-same-length Inv-loop μ-loop Inv-loop2 μ-loop2 Inv-loop3 μ-loop3
 same-length c =
-    let l = c .before in
+    let l = c .before .before .before in
     let o = l .before .before in
     let f = o .before .before .before .before .before in
-    l .loop3 .inv .2 ∙ o .loop2 .inv .2 ∙ length-set (f .loop .words) 168 _ ∙ front-long _ (f .loop .i) _ (f .loop .words) (omega arith) (f .loop .inv .2)
+    let long = front-long _ (f .loop .i) _ (f .loop .words) (omega arith) (f .loop .inv .2) in
+    length-set (set (l .loop3 .words) 210 _) 211 _ ∙ length-set (l .loop3 .words) 210 _ ∙ l .loop3 .inv .2 ∙ o .loop2 .inv .2 ∙ length-set (f .loop .words) 168 _ ∙ long
 
 returns-2 : tie.Need-returns-2 Inv-loop μ-loop Inv-loop2 μ-loop2 Inv-loop3 μ-loop3
 returns-2 c =
-    let l = c .before in
+    let l = c .before .before .before in
     let o = l .before .before in
     let f = o .before .before .before .before .before in
     let a = f .before .before .before .args in
@@ -211,5 +229,8 @@ chain-out-spec =
     add-d
     loop3-less
     loop3-again
+    cast-words-3
+    slice-write-words-5
+    slice-write-words-6
     same-length
     returns-2)

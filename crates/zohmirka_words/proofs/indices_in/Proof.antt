@@ -1,6 +1,5 @@
-use mathlib.Core.Path.{ap, _∙_}
+use mathlib.Core.Path.{_∙_}
 use mir.Facts.{toZ-ofZ}
-use Rattle.model.specs.Numbers.{signedWord}
 use borrow.Author.Needs.{needs}
 use Rattle.zohmirka_words.proofs.WordLaws.{indices-of-words}
 use Rattle.zohmirka_words.proofs.indices_in.Statement.{statement}

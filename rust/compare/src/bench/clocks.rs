@@ -2,7 +2,8 @@
 use super::cases::{other_chains, planned_chains, row, skewed_chains};
 use super::table::{ratio, Table};
 use super::timing::least;
-use crate::words::chain_words;
+use crate::words::{chain_words, row_words};
+use std::cell::RefCell;
 use std::hint::black_box;
 use straight::judge::capacity_sum;
 use straight::kernel::words;
@@ -27,14 +28,50 @@ struct Sums {
     clocks: usize,
 }
 
+/// How many cells are lent in a short call.
+const PIECE: usize = 64;
+
+/// How a run is made.
+#[derive(Clone, Copy)]
+enum Way {
+    /// By the library, all cells lent in one call.
+    Whole,
+    /// By the library, `PIECE` cells a call.
+    Pieces,
+    /// (a): by `straight`, all cells lent in one call.
+    RuleWhole,
+    /// (a), `PIECE` cells a call.
+    RulePieces,
+    /// (b)
+    Nested,
+}
+
+impl Way {
+    fn named(name: &str) -> Way {
+        match name {
+            "whole" => Way::Whole,
+            "64" => Way::Pieces,
+            "a" => Way::RuleWhole,
+            "a64" => Way::RulePieces,
+            "b" => Way::Nested,
+            _ => panic!("ways: whole, 64, a, a64, b"),
+        }
+    }
+}
+
+fn words_of(chain: &Chain) -> zohmirka::Chain {
+    zohmirka::Chain {
+        words: chain_words(chain),
+        rows: row_words(chain),
+    }
+}
+
 impl Lent {
     fn new(chain: Chain) -> Lent {
         let total = chain.grid.cells() as u32;
         let width = words(&chain.kernel, chain.window.count as usize);
         Lent {
-            words: zohmirka::Chain {
-                words: chain_words(&chain),
-            },
+            words: words_of(&chain),
             // Differences whose squares are rounded, so that the order of the terms shows.
             cells: (0..total)
                 .map(|i| ((i % 1000) as f32 * 0.37).to_bits())
@@ -102,35 +139,57 @@ impl Lent {
         }
     }
 
+    /// By a nested loop over the grid; hands back the firings.
     fn nested(&mut self) -> usize {
         let written = straight::nested(black_box(&self.chain), &self.cells, &mut self.out);
         black_box(&self.out);
         written / self.width
     }
 
+    /// Makes a run; of a nested loop the firings alone are counted.
+    fn go(&mut self, way: Way) -> Sums {
+        let all = self.cells.len();
+        match way {
+            Way::Whole => self.library(all),
+            Way::Pieces => self.library(PIECE),
+            Way::RuleWhole => self.straight(all),
+            Way::RulePieces => self.straight(PIECE),
+            Way::Nested => Sums {
+                firings: self.nested(),
+                ..Sums::default()
+            },
+        }
+    }
+
+    /// Makes a run on outputs of 0.
+    fn go_afresh(&mut self, way: Way) -> (Sums, Vec<u32>) {
+        self.out.fill(0);
+        (self.go(way), self.out.clone())
+    }
+
     /// Every way makes the same words and counts.
     fn check(&mut self) -> Sums {
-        let all = self.cells.len();
-        let mut outputs = Vec::new();
-        let mut reports = Vec::new();
-        for way in 0..4 {
-            self.out.fill(0);
-            reports.push(match way {
-                0 => self.library(all),
-                1 => self.library(64),
-                2 => self.straight(all),
-                _ => self.straight(64),
-            });
-            outputs.push(self.out.clone());
+        let (sums, out) = self.go_afresh(Way::Whole);
+        for way in [Way::Pieces, Way::RuleWhole, Way::RulePieces] {
+            assert!(self.go_afresh(way) == (sums, out.clone()));
         }
-        if reports[0].outcome == 0 {
-            self.out.fill(0);
-            assert_eq!(self.nested(), reports[0].firings);
-            outputs.push(self.out.clone());
+        if sums.outcome == 0 {
+            let (nested, words) = self.go_afresh(Way::Nested);
+            assert!(nested.firings == sums.firings && words == out);
         }
-        assert!(reports.iter().all(|report| *report == reports[0]));
-        assert!(outputs.iter().all(|output| *output == outputs[0]));
-        reports[0]
+        sums
+    }
+
+    /// The nanoseconds that each way takes.
+    fn time<const N: usize>(&mut self, ways: [Way; N]) -> [f64; N] {
+        let lent = RefCell::new(self);
+        let mut goes = ways.map(|way| {
+            let lent = &lent;
+            move || {
+                lent.borrow_mut().go(way);
+            }
+        });
+        least(goes.each_mut().map(|go| go as &mut dyn FnMut()))
     }
 }
 
@@ -138,26 +197,31 @@ impl Lent {
 pub fn alone(name: &str, way: &str, goes: usize) -> usize {
     let mut chains = planned_chains();
     chains.extend(other_chains());
+    chains.extend(skewed_chains());
     let chain = chains.into_iter().find(|(other, _)| other == name);
-    let mut lent = Lent::new(chain.expect("a name of the first two tables").1);
-    let all = lent.cells.len();
-    let mut clocks = 0;
+    let mut lent = Lent::new(chain.expect("a name of these tables").1);
+    let way = Way::named(way);
+    let mut sums = Sums::default();
     for _ in 0..goes {
-        clocks = match way {
-            "whole" => lent.library(all).clocks,
-            "64" => lent.library(64).clocks,
-            "a" => lent.straight(all).clocks,
-            "a64" => lent.straight(64).clocks,
-            "b" => lent.nested(),
-            _ => panic!("ways: whole, 64, a, a64, b"),
-        };
+        sums = lent.go(way);
     }
-    clocks
+    match way {
+        Way::Nested => sums.firings,
+        _ => sums.clocks,
+    }
 }
 
 fn per(nanos: f64, clocks: usize) -> String {
     format!("{:.2}", nanos / clocks as f64)
 }
+
+const ALL: [Way; 5] = [
+    Way::Whole,
+    Way::Pieces,
+    Way::RuleWhole,
+    Way::RulePieces,
+    Way::Nested,
+];
 
 /// Planned chains: cases 1, 3, 4 and 5, raw and difference, and differences in other orders.
 pub fn planned() {
@@ -176,87 +240,62 @@ pub fn planned() {
     for (name, chain) in planned_chains() {
         let mut lent = Lent::new(chain);
         let clocks = lent.check().clocks;
-        let all = lent.cells.len();
-        let lent = std::cell::RefCell::new(lent);
-        let [whole, pieces, a, a_pieces, b] = least([
-            &mut || {
-                lent.borrow_mut().library(all);
-            },
-            &mut || {
-                lent.borrow_mut().library(64);
-            },
-            &mut || {
-                lent.borrow_mut().straight(all);
-            },
-            &mut || {
-                lent.borrow_mut().straight(64);
-            },
-            &mut || {
-                lent.borrow_mut().nested();
-            },
-        ]);
-        table.row(vec![
-            name,
-            lent.borrow().chain.window.count.to_string(),
-            per(whole, clocks),
-            per(pieces, clocks),
-            per(a, clocks),
-            per(a_pieces, clocks),
-            per(b, clocks),
+        let times = lent.time(ALL);
+        let [whole, pieces, a, _, b] = times;
+        let mut cells = vec![name, chain.window.count.to_string()];
+        cells.extend(times.map(|nanos| per(nanos, clocks)));
+        cells.extend([
             ratio(a / whole, a >= 2.0 * whole),
             ratio(whole / b, whole <= 5.0 * b),
             ratio(pieces / whole, pieces <= 1.5 * whole),
         ]);
+        table.row(cells);
     }
     table.print("Run call on planned chains, ns per clock: all cells lent in one call, and 64 cells a call; beside (a) the clock rule and (b) a nested loop. Goals: (a) / whole at least 2, whole / (b) at most 5, 64 cells / whole at most 1.5.");
 }
 
-/// Planned chains on rows, by `straight` alone: the library's columns come with `native::ROWS`, and `check` in place of what is looked at here.
+/// Planned chains on rows.
 pub fn skewed() {
     let mut table = Table::new(&[
         "map and kernel",
-        "n",
         "places",
         "cells",
         "firings",
         "clocks",
+        "whole",
+        "64 cells",
         "(a) whole",
         "(a) 64 cells",
         "(b)",
+        "(a) / whole",
+        "(a) / library, 64 cells",
+        "whole / (b)",
+        "64 cells / whole",
     ]);
     for (name, chain) in skewed_chains() {
         let mut lent = Lent::new(chain);
-        let all = lent.cells.len();
-        let sums = lent.straight(all);
-        let out = lent.out.clone();
-        assert!(sums.outcome == 0 && sums == lent.straight(64) && out == lent.out);
-        assert!(lent.nested() == sums.firings && out == lent.out);
-        let places = lent.store.len();
-        let lent = std::cell::RefCell::new(lent);
-        let [a, a_pieces, b] = least([
-            &mut || {
-                lent.borrow_mut().straight(all);
-            },
-            &mut || {
-                lent.borrow_mut().straight(64);
-            },
-            &mut || {
-                lent.borrow_mut().nested();
-            },
+        let sums = lent.check();
+        assert_eq!(sums.outcome, 0);
+        let times = lent.time(ALL);
+        let [whole, pieces, a, a_pieces, b] = times;
+        let mut cells = vec![name];
+        let counts = [
+            lent.store.len(),
+            lent.cells.len(),
+            sums.firings,
+            sums.clocks,
+        ];
+        cells.extend(counts.map(|count| count.to_string()));
+        cells.extend(times.map(|nanos| per(nanos, sums.clocks)));
+        cells.extend([
+            ratio(a / whole, a >= whole),
+            ratio(a_pieces / pieces, a_pieces >= pieces),
+            ratio(whole / b, true),
+            ratio(pieces / whole, true),
         ]);
-        table.row(vec![
-            name,
-            lent.borrow().chain.window.count.to_string(),
-            places.to_string(),
-            all.to_string(),
-            sums.firings.to_string(),
-            sums.clocks.to_string(),
-            per(a, sums.clocks),
-            per(a_pieces, sums.clocks),
-            per(b, sums.clocks),
-        ]);
+        table.row(cells);
     }
-    table.print("Run call on rows, the five-point cross, ns per clock: (a) the clock rule, all cells lent in one call, and 64 cells a call; (b) a nested loop.");
+    table.print("Run call on rows, the five-point cross, ns per clock: all cells lent in one call, and 64 cells a call; beside (a) the clock rule and (b) a nested loop. Goal: at least as fast as (a).");
 }
 
 /// Accepted chains that were not planned so.
@@ -276,34 +315,20 @@ pub fn others() {
     for (name, chain) in other_chains() {
         let mut lent = Lent::new(chain);
         let sums = lent.check();
-        let all = lent.cells.len();
-        let lent = std::cell::RefCell::new(lent);
-        let [whole, pieces, a, a_pieces] = least([
-            &mut || {
-                lent.borrow_mut().library(all);
-            },
-            &mut || {
-                lent.borrow_mut().library(64);
-            },
-            &mut || {
-                lent.borrow_mut().straight(all);
-            },
-            &mut || {
-                lent.borrow_mut().straight(64);
-            },
-        ]);
-        table.row(vec![
+        let times = lent.time([Way::Whole, Way::Pieces, Way::RuleWhole, Way::RulePieces]);
+        let [whole, pieces, a, a_pieces] = times;
+        let mut cells = vec![
             name,
-            lent.borrow().chain.window.count.to_string(),
+            chain.window.count.to_string(),
             ["Done", "Spent", "Starved", "Stalled", "Full"][sums.outcome as usize].to_string(),
             sums.clocks.to_string(),
-            per(whole, sums.clocks),
-            per(pieces, sums.clocks),
-            per(a, sums.clocks),
-            per(a_pieces, sums.clocks),
+        ];
+        cells.extend(times.map(|nanos| per(nanos, sums.clocks)));
+        cells.extend([
             ratio(a / whole, a >= whole),
             ratio(a_pieces / pieces, a_pieces >= pieces),
         ]);
+        table.row(cells);
     }
     table.print("Run call on other accepted chains and long fillings, ns per clock. Goal: at least as fast as (a).");
 }
@@ -325,16 +350,7 @@ pub fn references() {
         for kernel in [Kernel::Raw, Kernel::Difference] {
             let mut lent = Lent::new(row(count, 7, kernel));
             let clocks = lent.check().clocks;
-            let all = lent.cells.len();
-            let lent = std::cell::RefCell::new(lent);
-            let [whole, a] = least([
-                &mut || {
-                    lent.borrow_mut().library(all);
-                },
-                &mut || {
-                    lent.borrow_mut().straight(all);
-                },
-            ]);
+            let [whole, a] = lent.time([Way::Whole, Way::RuleWhole]);
             cells.push(per(whole, clocks));
             cells.push(per(whole / count as f64, clocks));
             peers.push(per(a, clocks));
@@ -353,11 +369,10 @@ pub fn empty_calls() {
         "32 references in a row".to_string(),
         row(32, 7, Kernel::Raw),
     ));
+    chains.extend(skewed_chains());
     const CALLS: usize = 2000;
     for (name, chain) in chains {
-        let words = zohmirka::Chain {
-            words: chain_words(&chain),
-        };
+        let words = words_of(&chain);
         let text = straight::sheet::chain_text(&chain);
         let mut state = zohmirka::State {
             words: [0; STATE_WORDS],

@@ -3,10 +3,13 @@ use super::table::{ratio, Table};
 use super::timing::least;
 use crate::dice::Dice;
 use crate::draft::Draft;
+use crate::ground::Ground;
 use std::hint::black_box;
+use straight::sheet::push_line;
 use zohmirka::SHEET_BYTES;
 
 const WINDOWS: usize = 100_000;
+const MAPS: usize = 20_000;
 
 fn bytes(sheets: &[Vec<u8>]) -> usize {
     sheets.iter().map(Vec::len).sum()
@@ -82,6 +85,16 @@ fn rows(table: &mut Table, name: &str, requests: &[Vec<u8>]) {
     row("chain sheets read into words", bytes(&chains), read, a_read);
 }
 
+/// 512 rows with the five-point cross by name.
+fn most_rows() -> Vec<u8> {
+    let row = |number: u16| [number, 1024 - number];
+    let mut text = Vec::new();
+    push_line(&mut text, &Ground::Rows((0..512).map(row).collect()).line());
+    push_line(&mut text, &[7, 1]);
+    push_line(&mut text, &[4, 0]);
+    text
+}
+
 pub fn sheets() {
     let mut table = Table::new(&[
         "sheets",
@@ -101,6 +114,13 @@ pub fn sheets() {
     let copies = vec![longest.clone(); 10_000];
     let name = format!("10,000 times {} bytes", longest.len());
     rows(&mut table, &name, &copies);
+
+    let requests: Vec<Vec<u8>> = (0..MAPS)
+        .map(|_| Draft::accepted_skewed(&mut dice).request_text())
+        .collect();
+    rows(&mut table, "20,000 windows on rows", &requests);
+    let copies = vec![most_rows(); 1000];
+    rows(&mut table, "1,000 times 512 rows", &copies);
 
     // A long line that is refused by 2 after its last character.
     let mut long = b"0123456789ABCDEF".repeat(1 << 16);

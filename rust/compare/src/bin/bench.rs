@@ -1,5 +1,5 @@
 //! Times the library beside `straight`. ZOHMIRKA_RUN names the program `run`; target/bin/run where it is not set. Words pick tables: planned, others, references,
-//! skewed, empty, sheets, program. `alone NAME WAY GOES` makes one way on a chain of the first two tables and times nothing.
+//! skewed, empty, sheets, program. `alone NAME WAY GOES` makes one way on a chain of planned, others or skewed and times nothing.
 use compare::bench::{clocks, program, sheets};
 use std::path::{Path, PathBuf};
 

@@ -1,7 +1,8 @@
 use super::call::{call, Given, Lengths, Lent, BEHIND};
+use super::sheets::number;
 use crate::dice::Dice;
 use crate::draft::Draft;
-use crate::native::{self, ROWS};
+use crate::native;
 use crate::round::{Differs, Round};
 use crate::tally::Function;
 use crate::words::{
@@ -18,6 +19,8 @@ pub fn calls(round: &mut Round) -> Result<(), Differs> {
     let chain = judge_chain(&value).map(|_| value);
     round.note_words("chain words", &words);
     round.note_words("rows", &rows);
+    let limits = &mut round.tally.limits;
+    limits.count_words(&words, &rows, number(&chain));
 
     let dice = &mut round.dice;
     let places = match &chain {
@@ -67,8 +70,9 @@ pub fn written(round: &mut Round) -> Result<(), Differs> {
     let value = chain_of(&words, &rows);
     round.note_words("chain words", &words);
     round.note_words("rows", &rows);
-    let judged = judge_chain(&value).map_or_else(|r| r.number() as u32, |_| 0);
+    let judged = number(&judge_chain(&value));
     round.tally.count(Function::JudgeChain, judged);
+    round.tally.limits.count_words(&words, &rows, judged);
     round.same("judge_chain", &native::judge_chain(&words, &rows), &judged)?;
 
     let needed = match judged {
@@ -87,7 +91,21 @@ pub fn written(round: &mut Round) -> Result<(), Differs> {
     let got = native::write_chain(&words, &rows, &mut sheet[..room]);
     round.tally.count(Function::WriteChain, refusal);
     round.same("write_chain", &got, &native::Sheet { refusal, bytes })?;
-    round.same_at("write_chain: sheet", &sheet, &wanted)
+    round.same_at("write_chain: sheet", &sheet, &wanted)?;
+
+    let Ok(words) = <[u32; CHAIN_WORDS]>::try_from(words) else {
+        return Ok(());
+    };
+    let chain = zohmirka::Chain { words, rows };
+    let safe = chain.judge().map_or_else(|r| r.number(), |()| 0);
+    round.same("safe judge", &safe, &judged)?;
+    let mut sheet = [FILL; SHEET_BYTES + BEHIND];
+    let safe = match chain.write_into(&mut sheet[..room]) {
+        Ok(bytes) => (0, bytes),
+        Err(refusal) => (refusal.number(), 0),
+    };
+    round.same("write_into", &safe, &(refusal, bytes))?;
+    round.same_at("write_into: sheet", &sheet, &wanted)
 }
 
 /// A chain's words and the rows beside them, with some of them changed, and words past the counts filled at random.
@@ -101,7 +119,7 @@ fn any_words(dice: &mut Dice) -> (Vec<u32>, Vec<u32>) {
     for _ in 0..dice.below(3) {
         change(dice, &mut words);
     }
-    if ROWS && dice.one_in(4) {
+    if dice.one_in(4) {
         change_rows(dice, &mut words, &mut rows);
     }
     if dice.one_in(30) {
@@ -135,16 +153,19 @@ fn change_rows(dice: &mut Dice, words: &mut [u32], rows: &mut Vec<u32>) {
     }
 }
 
-/// Fills the words that play no part.
+/// Fills the words that play no part; the kind of a grid that is skewed becomes any other number than 0.
 fn past_counts(dice: &mut Dice, words: &mut [u32]) {
     let n = (words[5] as usize).min(32);
-    let skewed = ROWS && words[GRID_KIND] != 0;
+    let skewed = words[GRID_KIND] != 0;
     let (dims, sizes) = match words[0] as usize {
         _ if skewed => (2, 0),
         dims => (dims.min(4), dims.min(4)),
     };
     words[1 + sizes..5].fill_with(|| dice.word());
-    if ROWS && !skewed {
+    if skewed {
+        words[0] = dice.word();
+        words[GRID_KIND] |= dice.word();
+    } else {
         words[ROW_COUNT] = dice.word();
     }
     for k in 0..32 {
@@ -200,7 +221,11 @@ fn change(dice: &mut Dice, words: &mut [u32]) {
         10 => words[201] = dice.pick(&[0, 1, 2, 256, 1 << 31, u32::MAX]),
         11 => {
             // An index of the box, a step up or down or any other.
-            let k = dice.pick(&[202, 206]) + dice.below((words[0] as usize).clamp(1, 4));
+            let dims = match words[GRID_KIND] {
+                0 => (words[0] as usize).clamp(1, 4),
+                _ => 2,
+            };
+            let k = dice.pick(&[202, 206]) + dice.below(dims);
             words[k] = match dice.below(4) {
                 0 => words[k].wrapping_add(1),
                 1 => words[k].wrapping_sub(1),

@@ -69,8 +69,12 @@ pub fn call(
         ),
     };
     round.tally.count(function, want.refusal);
-    if let (Ok(chain), 0) = (chain, want.refusal) {
-        round.tally.count_run(chain, &want);
+    if let Ok(chain) = chain {
+        let fired = state_of(&before.state[..lengths.state]).fired;
+        round.tally.count_row_end(chain, fired, want.refusal);
+        if want.refusal == 0 {
+            round.tally.count_run(chain, &want);
+        }
     }
     round.note("  library", || format!("{got:?}"));
     round.same("report", &got, &want)?;
@@ -139,9 +143,10 @@ fn safe_call(
     let out = &mut lent.out[..lengths.out];
     let answer = match given {
         Given::Sheet(text) => zohmirka::run(text, &mut state, store, cells, out, allowance),
-        Given::Words(words, _rows) => {
+        Given::Words(words, rows) => {
             let chain = zohmirka::Chain {
                 words: <[u32; CHAIN_WORDS]>::try_from(words).ok()?,
+                rows: rows.to_vec(),
             };
             chain.run(&mut state, store, cells, out, allowance)
         }

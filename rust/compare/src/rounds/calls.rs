@@ -1,11 +1,11 @@
 use super::call::{call, Given, Lengths, Lent, BEHIND};
-use crate::damage::{damage, hide_rows};
+use crate::damage::damage;
 use crate::dice::Dice;
 use crate::draft::Draft;
 use crate::round::{Differs, Round};
 use crate::words::{chain_words, row_words, STATE_WORDS};
 use straight::judge::capacity_sum;
-use straight::{judge_chain, Chain, Shape};
+use straight::{judge_chain, Chain, Grid, Shape};
 
 const DONE: u32 = 0;
 const MOST_CELLS: usize = 4096;
@@ -17,7 +17,6 @@ pub fn calls(round: &mut Round) -> Result<(), Differs> {
     let mut text = draft.chain_text();
     if dice.one_in(20) {
         damage(dice, &mut text);
-        hide_rows(&mut text);
     }
     let chain = straight::read_chain(&text);
     let value = chain.unwrap_or(draft.chain().unwrap_or(Chain::blank()));
@@ -140,11 +139,15 @@ fn out_places(dice: &mut Dice, chain: &Chain, many: usize) -> usize {
     }
 }
 
-/// A state that no call left: an earlier one, one with a word changed, any words, or one that 11 lets pass.
+/// A state that no call left: an earlier one, one with a word changed, any words, or one that 11 lets pass; on rows mostly the last.
 fn strange_state(dice: &mut Dice, chain: &Chain, state: &mut [u32], earlier: &[u32]) {
     let n = chain.window.count as usize;
     let at = if dice.one_in(4) { 32 } else { dice.below(n) };
-    match dice.below(8) {
+    let kinds = match chain.grid {
+        Grid::Rectangle(_) => 8,
+        Grid::Rows(_) => 20,
+    };
+    match dice.below(kinds) {
         0 => state.copy_from_slice(earlier),
         1 => state[at] = state[at].wrapping_add(1),
         2 => state[at] = state[at].wrapping_sub(1),
@@ -160,12 +163,15 @@ fn made_up(dice: &mut Dice, chain: &Chain, state: &mut [u32]) {
     let shape = Shape::of_run(chain);
     let n = shape.count;
     let any = dice.below(shape.iterations as usize + 1) as i64;
-    let fired = match dice.below(5) {
-        0 => shape.iterations,
-        1 => dice.below(3) as i64,
+    let (fired, rare) = match dice.below(5) {
+        0 => (shape.iterations, 100),
+        1 => (dice.below(3) as i64, 100),
         // At the end of a row, or a firing before it or behind.
-        2 => (shape.row_end(any) + dice.between(-1, 1)).min(shape.iterations),
-        _ => any,
+        2 | 3 => {
+            let near = shape.row_end(any) + dice.between(-1, 1);
+            (near.min(shape.iterations), 20)
+        }
+        _ => (any, 100),
     };
     state[32] = fired as u32;
     for k in (0..n).rev() {
@@ -181,10 +187,10 @@ fn made_up(dice: &mut Dice, chain: &Chain, state: &mut [u32]) {
             low = low.max(state[k + 1] as i64);
             high = high.min(state[k + 1] as i64 + chain.capacities[k] as i64);
         }
-        if dice.one_in(100) {
+        if dice.one_in(rare) {
             low -= 1;
         }
-        if dice.one_in(100) {
+        if dice.one_in(rare) {
             high += 1;
         }
         state[k] = match dice.below(3) {

@@ -1,4 +1,4 @@
-use crate::damage::{damage, hide_rows};
+use crate::damage::damage;
 use crate::dice::Dice;
 use crate::draft::Draft;
 use crate::native;
@@ -41,6 +41,7 @@ pub fn plan(round: &mut Round) -> Result<(), Differs> {
     let got = native::plan(&text, &mut sheet[..room]);
     let refusal = number(&want);
     round.tally.count(Function::Plan, refusal);
+    round.tally.limits.count_sheet(&text, refusal);
     let bytes = *want.as_ref().unwrap_or(&0);
     round.same(
         "plan: refusal and bytes",
@@ -84,22 +85,20 @@ pub fn chain(round: &mut Round) -> Result<(), Differs> {
         _ => draft.chain_text(),
     };
     spoil(dice, &mut text);
-    let room = dice.pick(&[
-        CHAIN_WORDS,
-        CHAIN_WORDS,
-        CHAIN_WORDS - 1,
-        0,
-        240,
-        168,
-        201,
-        210,
-    ]);
-    round.note_text("chain", &text);
-    round.note("words lent", || format!("{room}"));
-
+    let room = if dice.one_in(3) {
+        dice.pick(&[0, 168, 201, 210, CHAIN_WORDS - 1, 240])
+    } else {
+        CHAIN_WORDS
+    };
     let want = straight::read_chain(&text);
+    let needed = want.as_ref().map_or(Vec::new(), row_words);
+    let row_room = dice.room(ROW_WORDS, needed.len());
+    round.note_text("chain", &text);
+    round.note("words and rows lent", || format!("{room}, {row_room}"));
+
     let judged = native::judge(&text);
     round.tally.count(Function::Judge, number(&want));
+    round.tally.limits.count_sheet(&text, number(&want));
     round.same("judge", &judged, &number(&want))?;
     let safe = zohmirka::judge(&text).map_err(|r| r.number());
     round.same(
@@ -111,24 +110,27 @@ pub fn chain(round: &mut Round) -> Result<(), Differs> {
     let (mut wanted, mut wanted_rows) = ([FILL_WORD; 248], [FILL_WORD; ROW_WORDS + 8]);
     let refusal = match &want {
         Err(refusal) => refusal.number() as u32,
-        Ok(_) if room < CHAIN_WORDS => Refusal::ShortOutput.number() as u32,
+        Ok(_) if room < CHAIN_WORDS || row_room < needed.len() => {
+            Refusal::ShortOutput.number() as u32
+        }
         Ok(chain) => {
             wanted[..CHAIN_WORDS].copy_from_slice(&chain_words(chain));
-            let rows = row_words(chain);
-            wanted_rows[..rows.len()].copy_from_slice(&rows);
+            wanted_rows[..needed.len()].copy_from_slice(&needed);
             0
         }
     };
     let (mut words, mut rows) = ([FILL_WORD; 248], [FILL_WORD; ROW_WORDS + 8]);
-    let got = native::read_chain(&text, &mut words[..room], &mut rows[..ROW_WORDS]);
+    let got = native::read_chain(&text, &mut words[..room], &mut rows[..row_room]);
     round.tally.count(Function::ReadChain, refusal);
     round.same("read_chain", &got, &refusal)?;
     round.same_at("read_chain: words", &words, &wanted)?;
     round.same_at("read_chain: rows", &rows, &wanted_rows)?;
     let safe = zohmirka::Chain::read(&text)
-        .map(|c| c.words)
+        .map(|c| (c.words, c.rows))
         .map_err(|r| r.number());
-    let want = want.map(|c| chain_words(&c)).map_err(|r| r.number() as u32);
+    let want = want
+        .map(|c| (chain_words(&c), needed))
+        .map_err(|r| r.number() as u32);
     round.same("safe read", &safe, &want)?;
     Ok(())
 }
@@ -159,5 +161,4 @@ fn spoil(dice: &mut Dice, text: &mut Vec<u8>) {
         2..=50 => damage(dice, text),
         _ => {}
     }
-    hide_rows(text);
 }

@@ -10,41 +10,41 @@ use Rattle.case_runs.proofs.compare.compare.Statement.{statement}
 use Rattle.case_runs.proofs.compare.compare.Tie as tie
 
 abbrev Inv-loop3 : tie.InvT-loop3
-Inv-loop3 l kernel chain pieces window cells store₀ out₀ width run₀ at₀ seen₀ z-end y-end x-end z y x₀ store out run at seen x =
+Inv-loop3 l kernel chain rows pieces window cells field inside store₀ out₀ width run₀ at₀ seen₀ z-end y-end x-end z y x₀ store out run at seen x =
     (length store ≡ length store₀) × (length out ≡ length out₀)
 
 abbrev μ-loop3 : tie.MeasureT-loop3
-μ-loop3 l kernel chain pieces window cells store₀ out₀ width run₀ at₀ seen₀ z-end y-end x-end z y x₀ store out run at seen x =
+μ-loop3 l kernel chain rows pieces window cells field inside store₀ out₀ width run₀ at₀ seen₀ z-end y-end x-end z y x₀ store out run at seen x =
     x-end - x
 
 abbrev Inv-loop2 : tie.InvT-loop2
-Inv-loop2 l kernel chain pieces window cells store₀ out₀ width run₀ at₀ seen₀ z-end y-end x-end z y₀ store out run at seen y =
+Inv-loop2 l kernel chain rows pieces window cells field inside store₀ out₀ width run₀ at₀ seen₀ z-end y-end x-end z y₀ store out run at seen y =
     (length store ≡ length store₀) × (length out ≡ length out₀)
 
 abbrev μ-loop2 : tie.MeasureT-loop2
-μ-loop2 l kernel chain pieces window cells store₀ out₀ width run₀ at₀ seen₀ z-end y-end x-end z y₀ store out run at seen y =
+μ-loop2 l kernel chain rows pieces window cells field inside store₀ out₀ width run₀ at₀ seen₀ z-end y-end x-end z y₀ store out run at seen y =
     y-end - y
 
 abbrev Inv-loop : tie.InvT-loop
-Inv-loop l kernel chain pieces window cells store₀ out₀ width run₀ at₀ seen₀ z-end y-end x-end z₀ store out run at seen z =
+Inv-loop l kernel chain rows pieces window cells field inside store₀ out₀ width run₀ at₀ seen₀ z-end y-end x-end z₀ store out run at seen z =
     (length store ≡ length store₀) × (length out ≡ length out₀)
 
 abbrev μ-loop : tie.MeasureT-loop
-μ-loop l kernel chain pieces window cells store₀ out₀ width run₀ at₀ seen₀ z-end y-end x-end z₀ store out run at seen z =
+μ-loop l kernel chain rows pieces window cells field inside store₀ out₀ width run₀ at₀ seen₀ z-end y-end x-end z₀ store out run at seen z =
     z-end - z
 
 abbrev start : tie.At-loop Inv-loop3 μ-loop3 Inv-loop2 μ-loop2 Inv-loop μ-loop → tie.Start Inv-loop3 μ-loop3 Inv-loop2 μ-loop2 Inv-loop μ-loop
-start c = c .before .before .before .before .before .before .before .before
+start c = c .before .before .before .before .before .before .before .before .before .before .before
 
 -- whether or not a call was made, both slices keep their lengths
 kept :
-    (c : tie.Joined1 Inv-loop3 μ-loop3 Inv-loop2 μ-loop2 Inv-loop μ-loop) →
-    (length (c .if1 .store) ≡ length (c .before .before .before .loop3 .store)) × (length (c .if1 .out) ≡ length (c .before .before .before .loop3 .out))
+    (c : tie.Joined2 Inv-loop3 μ-loop3 Inv-loop2 μ-loop2 Inv-loop μ-loop) →
+    (length (c .if2 .store) ≡ length (c .before .before .before .before .before .loop3 .store)) × (length (c .if2 .out) ≡ length (c .before .before .before .before .before .loop3 .out))
 kept c =
     ⊎-elim
-    (λ w. (ap length (w .8) ∙ w .3 .kept .1 .1 .1 .1 .1 .0, ap length (w .9) ∙ w .3 .kept .1 .1 .1 .1 .1 .1 .0))
+    (λ w. (ap length (w .8) ∙ w .3 .kept .1 .1 .1 .1 .1 .1 .0, ap length (w .9) ∙ w .3 .kept .1 .1 .1 .1 .1 .1 .1 .0))
     (λ w. (ap length (w .1), ap length (w .2)))
-    (c .if1 .came)
+    (c .if2 .came)
 
 references-requires :
     tie.Need-references-requires Inv-loop3 μ-loop3 Inv-loop2 μ-loop2 Inv-loop μ-loop
@@ -65,6 +65,18 @@ loop2-holds c = search needs
 loop3-holds : tie.Need-loop3-holds Inv-loop3 μ-loop3 Inv-loop2 μ-loop2 Inv-loop μ-loop
 loop3-holds c = search needs
 
+is-iteration-requires : tie.Need-is-iteration-requires Inv-loop3 μ-loop3 Inv-loop2 μ-loop2 Inv-loop μ-loop
+is-iteration-requires c κs = search needs
+
+add-x : tie.Need-add-x Inv-loop3 μ-loop3 Inv-loop2 μ-loop2 Inv-loop μ-loop
+add-x c = omega (arith, start (c .before .before .before .before .before .before .before) .good .0 .1 .1 .1 .1 .1 .1 .1 .1 .1 .1 .1 .0)
+
+loop3-less : tie.Need-loop3-less Inv-loop3 μ-loop3 Inv-loop2 μ-loop2 Inv-loop μ-loop
+loop3-less c = search needs
+
+loop3-again : tie.Need-loop3-again Inv-loop3 μ-loop3 Inv-loop2 μ-loop2 Inv-loop μ-loop
+loop3-again c = search needs
+
 more-requires : tie.Need-more-requires Inv-loop3 μ-loop3 Inv-loop2 μ-loop2 Inv-loop μ-loop
 more-requires c κs = search needs
 
@@ -78,13 +90,13 @@ wrapping-add-usize-requires c κs = search needs
 same-length : tie.Need-same-length Inv-loop3 μ-loop3 Inv-loop2 μ-loop2 Inv-loop μ-loop
 same-length c =
     let j = c .before .before .before .before in
-    let l = j .before .before .before in
+    let l = j .before .before .before .before .before in
     kept j .0 ∙ l .loop3 .inv .0 ∙ l .before .before .loop2 .inv .0 ∙ l .before .before .before .before .loop .inv .0
 
 same-length-2 : tie.Need-same-length-2 Inv-loop3 μ-loop3 Inv-loop2 μ-loop2 Inv-loop μ-loop
 same-length-2 c =
     let j = c .before .before .before .before in
-    let l = j .before .before .before in
+    let l = j .before .before .before .before .before in
     kept j .1 ∙ l .loop3 .inv .1 ∙ l .before .before .loop2 .inv .1 ∙ l .before .before .before .before .loop .inv .1
 
 returns : tie.Need-returns Inv-loop3 μ-loop3 Inv-loop2 μ-loop2 Inv-loop μ-loop
@@ -93,16 +105,16 @@ returns c = λ e. absurd e
 wrapping-add-usize-requires-2 : tie.Need-wrapping-add-usize-requires-2 Inv-loop3 μ-loop3 Inv-loop2 μ-loop2 Inv-loop μ-loop
 wrapping-add-usize-requires-2 c κs = search needs
 
-add-x : tie.Need-add-x Inv-loop3 μ-loop3 Inv-loop2 μ-loop2 Inv-loop μ-loop
-add-x c = omega (arith, start (c .before .before .before .before .before .before .before .before .before .before .before .before) .good .0 .1 .1 .1 .1 .1 .1 .1 .1 .1 .1 .1 .0)
+add-x-2 : tie.Need-add-x-2 Inv-loop3 μ-loop3 Inv-loop2 μ-loop2 Inv-loop μ-loop
+add-x-2 c = omega (arith, start (c .before .before .before .before .before .before .before .before .before .before .before .before .before .before) .good .0 .1 .1 .1 .1 .1 .1 .1 .1 .1 .1 .1 .0)
 
-loop3-less : tie.Need-loop3-less Inv-loop3 μ-loop3 Inv-loop2 μ-loop2 Inv-loop μ-loop
-loop3-less c = search needs
+loop3-less-2 : tie.Need-loop3-less-2 Inv-loop3 μ-loop3 Inv-loop2 μ-loop2 Inv-loop μ-loop
+loop3-less-2 c = search needs
 
-loop3-again : tie.Need-loop3-again Inv-loop3 μ-loop3 Inv-loop2 μ-loop2 Inv-loop μ-loop
-loop3-again c =
+loop3-again-2 : tie.Need-loop3-again-2 Inv-loop3 μ-loop3 Inv-loop2 μ-loop2 Inv-loop μ-loop
+loop3-again-2 c =
     let j = c .before .before .before .before .before in
-    let l = j .before .before .before in (kept j .0 ∙ l .loop3 .inv .0, kept j .1 ∙ l .loop3 .inv .1)
+    let l = j .before .before .before .before .before in (kept j .0 ∙ l .loop3 .inv .0, kept j .1 ∙ l .loop3 .inv .1)
 
 add-y : tie.Need-add-y Inv-loop3 μ-loop3 Inv-loop2 μ-loop2 Inv-loop μ-loop
 add-y c = omega (arith, start (c .before .before .before .before .before) .good .0 .1 .1 .1 .1 .1 .1 .1 .1 .1 .0)
@@ -147,6 +159,10 @@ compare-spec =
     loop-holds
     loop2-holds
     loop3-holds
+    is-iteration-requires
+    add-x
+    loop3-less
+    loop3-again
     more-requires
     agreeing-at-requires
     wrapping-add-usize-requires
@@ -154,9 +170,9 @@ compare-spec =
     same-length-2
     returns
     wrapping-add-usize-requires-2
-    add-x
-    loop3-less
-    loop3-again
+    add-x-2
+    loop3-less-2
+    loop3-again-2
     add-y
     loop2-less
     loop2-again

@@ -9,6 +9,9 @@ use Rattle.cases.proofs.listings.sheet.Tie as tie
 slice-aggregate-write-chain : tie.Need-slice-aggregate-write-chain
 slice-aggregate-write-chain c = search needs
 
+slice-aggregate-write-chain-2 : tie.Need-slice-aggregate-write-chain-2
+slice-aggregate-write-chain-2 c = search needs
+
 write-chain-requires : tie.Need-write-chain-requires
 write-chain-requires c κs = search needs
 
@@ -16,7 +19,7 @@ array-share-prefix-text : tie.Need-array-share-prefix-text
 array-share-prefix-text c = search needs
 
 slice-aggregate-write-all : tie.Need-slice-aggregate-write-all
-slice-aggregate-write-all c = sym (length-take-le _ _ (omega (arith, c .before .before .before .write-chain .kept .1 .0)))
+slice-aggregate-write-all c = sym (length-take-le _ _ (omega (arith, c .before .before .before .write-chain .kept .1 .1 .0)))
 
 write-all-requires : tie.Need-write-all-requires
 write-all-requires c κs = search needs
@@ -32,6 +35,7 @@ sheet-spec =
     tie.close
     (tie.spec
     slice-aggregate-write-chain
+    slice-aggregate-write-chain-2
     write-chain-requires
     array-share-prefix-text
     slice-aggregate-write-all

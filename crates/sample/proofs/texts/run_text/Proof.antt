@@ -10,11 +10,11 @@ use Rattle.sample.proofs.texts.run_text.Statement.{statement}
 use Rattle.sample.proofs.texts.run_text.Tie as tie
 
 abbrev Inv-loop : tie.InvT-loop
-Inv-loop input piece text₀ store₀ cells₀ words₀ part₀ job₀ at₀ done₀ turns₀ text store cells words part job at done turns =
-    (length text ≡ length text₀) × (length store ≡ 16384) × (length cells ≡ 5) × (length words ≡ 40) × (length part ≡ 300) × (at ≤ length input) × Within done text
+Inv-loop input piece text₀ rows₀ store₀ cells₀ words₀ part₀ job₀ at₀ done₀ turns₀ text rows store cells words part job at done turns =
+    (length text ≡ length text₀) × (length rows ≡ 1024) × (length store ≡ 16384) × (length cells ≡ 5) × (length words ≡ 40) × (length part ≡ 300) × (at ≤ length input) × Within done text
 
 abbrev μ-loop : tie.MeasureT-loop
-μ-loop input piece text₀ store₀ cells₀ words₀ part₀ job₀ at₀ done₀ turns₀ text store cells words part job at done turns =
+μ-loop input piece text₀ rows₀ store₀ cells₀ words₀ part₀ job₀ at₀ done₀ turns₀ text rows store cells words part job at done turns =
     turns
 
 begin-requires : tie.Need-begin-requires Inv-loop μ-loop
@@ -56,6 +56,9 @@ slice-aggregate-advance-4 c = search needs
 slice-aggregate-advance-5 : tie.Need-slice-aggregate-advance-5 Inv-loop μ-loop
 slice-aggregate-advance-5 c = search needs
 
+slice-aggregate-advance-6 : tie.Need-slice-aggregate-advance-6 Inv-loop μ-loop
+slice-aggregate-advance-6 c = search needs
+
 advance-requires : tie.Need-advance-requires Inv-loop μ-loop
 advance-requires c κs = search needs
 
@@ -69,13 +72,13 @@ slice-aggregate-append : tie.Need-slice-aggregate-append Inv-loop μ-loop
 slice-aggregate-append c = search needs
 
 append-requires : tie.Need-append-requires Inv-loop μ-loop
-append-requires c κs = c .before .before .before .before .before .before .before .before .before .before .before .before .before .before .before .before .before .before .loop .inv .6 .0
+append-requires c κs = c .before .before .before .before .before .before .before .before .before .before .before .before .before .before .before .before .before .before .before .before .loop .inv .7 .0
 
 loop-less : tie.Need-loop-less Inv-loop μ-loop
-loop-less c = omega (arith, c .before .before .before .before .before .before .before .before .before .before .before .before .before .before .before .before .before .before .before .before .before .loop-test .taken)
+loop-less c = omega (arith, c .before .before .before .before .before .before .before .before .before .before .before .before .before .before .before .before .before .before .before .before .before .before .before .loop-test .taken)
 
 loop-again : tie.Need-loop-again Inv-loop μ-loop
-loop-again c = (c .before .before .before .append .kept .1 .0 ∙ c .before .before .before .before .before .before .before .before .before .before .before .before .before .before .before .before .before .before .before .before .before .before .loop .inv .0, search needs, search needs, search needs, search needs, search needs, search needs)
+loop-again c = (c .before .before .before .append .kept .1 .0 ∙ c .before .before .before .before .before .before .before .before .before .before .before .before .before .before .before .before .before .before .before .before .before .before .before .before .loop .inv .0, search needs, search needs, search needs, search needs, search needs, search needs, search needs)
 
 same-length-2 : tie.Need-same-length-2 Inv-loop μ-loop
 same-length-2 c = search needs
@@ -102,6 +105,7 @@ run-text-spec =
     slice-aggregate-advance-3
     slice-aggregate-advance-4
     slice-aggregate-advance-5
+    slice-aggregate-advance-6
     advance-requires
     lesser-requires
     array-share-prefix-part

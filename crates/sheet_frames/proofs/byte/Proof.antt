@@ -1,0 +1,61 @@
+use mathlib.Core.Path.{sym}
+use native.Mathlib.Omega.{arith}
+use borrow.Author.Needs.{needs}
+use Rattle.sheet_frames.proofs.NumberLaws.{byte-none, byte-some}
+use Rattle.sheet_frames.proofs.byte.Statement.{statement}
+use Rattle.sheet_frames.proofs.byte.Tie as tie
+
+mul-at : tie.Need-mul-at
+mul-at c = search needs
+
+add-if1 : tie.Need-add-if1
+add-if1 c = search needs
+
+returns : tie.Need-returns
+returns c =
+    let a = c .before .before .args in
+    (sym (byte-none (a .line .now) (a .i) (c .if1 .taken)), omega arith)
+
+shared-slice-read-counts : tie.Need-shared-slice-read-counts
+shared-slice-read-counts c = search needs
+
+counts-requires : tie.Need-counts-requires
+counts-requires c κs = search needs
+
+mul-result : tie.Need-mul-result
+mul-result c = search needs
+
+add-counts : tie.Need-add-counts
+add-counts c = search needs
+
+shared-slice-read-counts-2 : tie.Need-shared-slice-read-counts-2
+shared-slice-read-counts-2 c = search needs
+
+counts-requires-2 : tie.Need-counts-requires-2
+counts-requires-2 c κs = search needs
+
+add-result : tie.Need-add-result
+add-result c = search needs
+
+returns-2 : tie.Need-returns-2
+returns-2 c =
+    let h = c .before .before in
+    let e = h .before .before in
+    let a = e .before .before .args in
+    (rw (h .counts .ensures .0, c .counts2 .ensures .0) (sym (byte-some (a .line .now) (a .i) (e .if1 .left))), omega (arith, h .counts .ensures .1, c .counts2 .ensures .1))
+
+pub byte-spec : {M : Type 1} → statement M
+byte-spec =
+    tie.close
+    (tie.spec
+    mul-at
+    add-if1
+    returns
+    shared-slice-read-counts
+    counts-requires
+    mul-result
+    add-counts
+    shared-slice-read-counts-2
+    counts-requires-2
+    add-result
+    returns-2)
