@@ -232,11 +232,9 @@ fn with_kernel(
     }
 }
 
-// Kernels add in the author's order; raw keeps chain order, in which offsets fall.
-fn with_kernels(
+fn with_factors(
     l: Loops,
     author: &[u8],
-    falling: &[u8],
     count: u32,
     rows: &[u32],
     cells: &[u32],
@@ -245,30 +243,6 @@ fn with_kernels(
     out: &mut [u32],
 ) {
     let f = Factors { a: 0.6, b: 0.1 };
-    with_kernel(
-        l,
-        Kernel::Raw,
-        author,
-        falling,
-        count,
-        rows,
-        cells,
-        field,
-        inside,
-        out,
-    );
-    with_kernel(
-        l,
-        Kernel::Difference,
-        author,
-        author,
-        count,
-        rows,
-        cells,
-        field,
-        inside,
-        out,
-    );
     with_kernel(
         l,
         Kernel::Scaled(0.2),
@@ -293,6 +267,58 @@ fn with_kernels(
         inside,
         out,
     );
+}
+
+fn with_sums(
+    l: Loops,
+    author: &[u8],
+    count: u32,
+    rows: &[u32],
+    cells: &[u32],
+    field: &[u32],
+    inside: &[u32],
+    out: &mut [u32],
+) {
+    with_kernel(
+        l,
+        Kernel::Difference,
+        author,
+        author,
+        count,
+        rows,
+        cells,
+        field,
+        inside,
+        out,
+    );
+    with_factors(l, author, count, rows, cells, field, inside, out);
+}
+
+// Kernels add in the author's order; raw keeps chain order, in which offsets fall.
+fn with_kernels(
+    l: Loops,
+    author: &[u8],
+    falling: &[u8],
+    count: u32,
+    rows: &[u32],
+    cells: &[u32],
+    field: &[u32],
+    inside: &[u32],
+    out: &mut [u32],
+) {
+    with_kernel(
+        l,
+        Kernel::Raw,
+        author,
+        falling,
+        count,
+        rows,
+        cells,
+        field,
+        inside,
+        out,
+    );
+    with_sums(l, author, count, rows, cells, field, inside, out);
 }
 
 fn case_on(
@@ -417,7 +443,7 @@ fn small_boxes(cells: &[u32], out: &mut [u32]) {
     );
 }
 
-// Five points on rows that slant, all of them and in a box.
+// Five points on rows that slant,
 fn on_slanted(
     rows: &[u32; 400],
     cells: &[u32],
@@ -425,10 +451,9 @@ fn on_slanted(
     inside: &[u32; 60000],
     out: &mut [u32],
 ) {
-    let l = around(200, COLUMNS, 0);
     case_on(
         b"200 rows of 100, each a column further on\n",
-        l,
+        around(200, COLUMNS, 0),
         b"000 00- 00+ 0-0 0+0",
         b"0+0 00+ 000 00- 0-0",
         200,
@@ -438,10 +463,19 @@ fn on_slanted(
         inside,
         out,
     );
-    let l = over_box(l, 0, 1, 100, 103, 103, 199);
+}
+
+// and in a box of them.
+fn in_slanted(
+    rows: &[u32; 400],
+    cells: &[u32],
+    field: &[u32; 60000],
+    inside: &[u32; 60000],
+    out: &mut [u32],
+) {
     case_on(
         b"200 rows of 100, each a column further on, in a box: rows 100 to 102, columns 103 to 198\n",
-        l,
+        over_box(around(200, COLUMNS, 0), 0, 1, 100, 103, 103, 199),
         b"000 00- 00+ 0-0 0+0",
         b"0+0 00+ 000 00- 0-0",
         200,
@@ -482,6 +516,7 @@ fn slanted_cases(cells: &[u32], out: &mut [u32]) {
     slanted(&mut rows);
     lay(&rows, cells, &mut field, &mut inside);
     on_slanted(&rows, cells, &field, &inside, out);
+    in_slanted(&rows, cells, &field, &inside, out);
 }
 
 fn torn_case(cells: &[u32], out: &mut [u32]) {

@@ -30,4 +30,5 @@ pub mod CheckLaws
 pub mod StepLaws
 pub mod KernelLaws
 pub mod NameLaws
+pub mod NumberLaws
 pub mod FirstChecks

@@ -13,6 +13,12 @@ byteAt x i = getD x i 0
 unfoldable pub halfAt : List ℕ → ℕ → ℕ
 halfAt x i = byteAt x i * 256 + byteAt x (i + 1)
 
+-- The numbers of 2 bytes each in bytes, 0 past their end.
+unfoldable pub halvesOf : List ℕ → List ℕ
+halvesOf [] = []
+halvesOf (a ∷ []) = (a * 256) ∷ []
+halvesOf (a ∷ b ∷ bs) = (a * 256 + b) ∷ halvesOf bs
+
 unfoldable pub wordAt : List ℕ → ℕ → ℕ
 wordAt x i = byteAt x i * 16777216 + byteAt x (i + 1) * 65536 + byteAt x (i + 2) * 256 + byteAt x (i + 3)
 

@@ -25,7 +25,7 @@ use Rattle.model.specs.Store.{firstPlace, placeIn, presented, stored}
 use Rattle.model.specs.Running.{layout, words, clocked, look, call, filtersOf, termsOf, writesOf, writtenBy, widthOf}
 use Rattle.model.specs.Lines.{linesOf}
 use Rattle.model.specs.Frames.{isDigit, valueOf, digitOf, whole, bytesOf, digitsOf, framed, padded}
-use Rattle.model.specs.Numbers.{halfAt, wordAt, halfBytes, wordBytes, signed, pattern, signedWord, wordPattern}
+use Rattle.model.specs.Numbers.{halfAt, halvesOf, wordAt, halfBytes, wordBytes, signed, pattern, signedWord, wordPattern}
 use Rattle.model.specs.Reading.{badKernel, badForm, malformed, nextInRequest, nextInChain, miscounted, among, misplaced, badLength, sizesIn, lineChecks, lineVerdict, numbersOn, numbersIn, withRows}
 use Rattle.model.specs.NamedWindows.{windows, isName, namedOf, badName, withReferences, windowNamed}
 use Rattle.model.specs.Reading.{withGrid, entriesIn, withOffset, withName, lowestIn, highestIn, withBox, withCapacity, filtersIn, withOrder, kernelIn, withKernel, taken, stepOf, closes, complete, readLines, endVerdict}
@@ -159,7 +159,7 @@ unfolding bytesIn plans runs sameBytes planRight runRight flatMap ofBits toBits 
     sumFrom sumOf centreOf wordsAt terms squared difference scaled blend written width
     fresh ready fires turn limit turns next moves firstPlace placeIn presented stored
     layout words clocked look call filtersOf termsOf writesOf writtenBy widthOf
-    linesOf isDigit valueOf digitOf whole bytesOf digitsOf framed padded halfAt wordAt halfBytes wordBytes signed pattern signedWord wordPattern
+    linesOf isDigit valueOf digitOf whole bytesOf digitsOf framed padded halfAt halvesOf wordAt halfBytes wordBytes signed pattern signedWord wordPattern
     badKernel badForm malformed nextInRequest nextInChain miscounted among misplaced badLength sizesIn numbersOn numbersIn lineChecks lineVerdict
     windows isName namedOf badName withReferences windowNamed withGrid withRows entriesIn withOffset withName lowestIn highestIn withBox withCapacity filtersIn withOrder kernelIn withKernel taken stepOf closes complete readLines endVerdict readRequest cellVerdict
     groundLine offsetLine indexPair boxLines capacityLine orderLines kernelLine chainLines sheetOf

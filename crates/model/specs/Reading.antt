@@ -1,10 +1,10 @@
 -- Reading a sheet line by line (document 01, "Lines of the sheet", "Turned back on account of the input"; document 02, requests 1, 2, 4 and 5).
 use Prim.Native.Nat.{ℕ, _+_, _*_}
 use mathlib.Core.Bool.{Bool, true, false, cond, not, _&&_}
-use mathlib.Core.List.{List, [], _∷_}
+use mathlib.Core.List.{List, [], _∷_, _++_}
 use lib.Dec.{eqb, leb, ltb}
 use lib.IntN.{ℤ}
-use lib.ListN.{take, set, replicate}
+use lib.ListN.{take, drop, set, replicate}
 use lib.Ieee.{ofBits, binary32}
 use Rattle.model.specs.declared.Kernel.{Kernel}
 use Rattle.model.specs.declared.Kernel.the-variants as kernel
@@ -24,7 +24,7 @@ use Rattle.model.specs.Judging.{badDims, badSizes, badRowCount, badRow, 
 use Rattle.model.specs.Planning.{judgeRequest}
 use Rattle.model.specs.Lines.{Line, linesOf}
 use Rattle.model.specs.Frames.{Seen, bytesOf, seenOf, rowNumbers}
-use Rattle.model.specs.Numbers.{byteAt, halfAt, wordAt, signed, signedWord}
+use Rattle.model.specs.Numbers.{byteAt, halfAt, halvesOf, wordAt, signed, signedWord}
 use Rattle.model.specs.NamedWindows.{badName, windowNamed}
 
 -- The first byte, which says what kind of line it is; and the second: the dimension count of an `01` line, the kernel byte of an `04` line, the name of an `07` line.
@@ -120,7 +120,7 @@ abbrev pub rowCountOf : Seen → ℕ
 rowCountOf l = halfAt (l .first) 1
 
 unfoldable pub numbersOn : List ℕ → List ℕ
-numbersOn x = tabulate rowNumbers (λ i. halfAt x (3 + 2 * i))
+numbersOn x = take rowNumbers (halvesOf (drop 3 x) ++ replicate rowNumbers 0)
 
 -- "On one line 1 comes before 2, but a length that another line sets, as in `02`, is checked after 2; on an `01` line a fault of the frame or a missing count
 -- is 1, then its order 2, then a bad count 3, then a wrong length 1, then sizes 3. 4 comes at the 33rd line, after 1 and 2." 13 is "looked at on its line, after
@@ -271,14 +271,16 @@ numbersIn sheet = firstNumbers (linesOf sheet)
 
 unfoldable pub readChain : List ℕ → ReadChain
 readChain sheet =
-    let s = readLines true (numbersIn sheet) start (linesOf sheet) in
-    let v = endVerdict s (judgeChain (s .reading .chain) (numbersIn sheet)) in
+    let numbers = numbersIn sheet in
+    let s = readLines true numbers start (linesOf sheet) in
+    let v = endVerdict s (judgeChain (s .reading .chain) numbers) in
     record { verdict = v; chain = byVerdict v (s .reading .chain) (λ x. blankChain) }
 
 unfoldable pub readRequest : List ℕ → ReadRequest
 readRequest sheet =
-    let s = readLines false (numbersIn sheet) start (linesOf sheet) in
-    let v = endVerdict s (judgeRequest (requestOf (s .reading .chain)) (numbersIn sheet)) in
+    let numbers = numbersIn sheet in
+    let s = readLines false numbers start (linesOf sheet) in
+    let v = endVerdict s (judgeRequest (requestOf (s .reading .chain)) numbers) in
     record { verdict = v; request = requestOf (byVerdict v (s .reading .chain) (λ x. blankChain)) }
 
 -- Where a cell is wanted: 1 as on any line, then 2 for a line other than `05`; and the cell of an `05` line.

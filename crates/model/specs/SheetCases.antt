@@ -26,7 +26,7 @@ use Rattle.model.specs.Steps.{insert, falling, whichOf, authorsOrder, so
 use Rattle.model.specs.Planning.{trimmedRequest, judgeRequest}
 use Rattle.model.specs.Lines.{linesOf}
 use Rattle.model.specs.Frames.{isDigit, valueOf, digitOf, whole, bytesOf, digitsOf, framed, padded, seenOf}
-use Rattle.model.specs.Numbers.{halfAt, wordAt, halfBytes, wordBytes, signed, pattern, signedWord, wordPattern}
+use Rattle.model.specs.Numbers.{halfAt, halvesOf, wordAt, halfBytes, wordBytes, signed, pattern, signedWord, wordPattern}
 use Rattle.model.specs.Reading.{badKernel, badForm, malformed, nextInRequest, nextInChain, miscounted, among, misplaced, badLength, sizesIn, lineChecks, lineVerdict, numbersOn, numbersIn, withRows}
 use Rattle.model.specs.NamedWindows.{windows, isName, namedOf, badName, withReferences, windowNamed}
 use Rattle.model.specs.Reading.{withGrid, entriesIn, withOffset, withName, lowestIn, highestIn, withBox, withCapacity, filtersIn, withOrder, kernelIn, withKernel, taken, stepOf, closes, complete, readLines, endVerdict}
@@ -385,7 +385,7 @@ unfolding bytesIn times requests chains cells sameBytes requestRight writesBack 
     sizesOf rowsOf groundOf dimsOf offsetOf offsetsOf partOf capacitiesOf orderOf numberOf verdictNumber firstOf
     badDims badSizes badGrid badRow badRowCount badRows badCount repeats noIteration needsCentre lacksCentre notFinite badFactor tooLarge twice badOrder windowChecks kernelChecks chainChecks valueChecks judged judgeChain
     insert falling whichOf authorsOrder sorted distances trimmedRequest judgeRequest trimmed
-    linesOf isDigit valueOf digitOf whole bytesOf digitsOf framed padded halfAt wordAt halfBytes wordBytes signed pattern signedWord wordPattern
+    linesOf isDigit valueOf digitOf whole bytesOf digitsOf framed padded halfAt halvesOf wordAt halfBytes wordBytes signed pattern signedWord wordPattern
     badKernel badForm malformed nextInRequest nextInChain miscounted among misplaced badLength sizesIn numbersOn numbersIn lineChecks lineVerdict
     windows isName namedOf badName withReferences windowNamed withGrid withRows entriesIn withOffset withName lowestIn highestIn withBox withCapacity filtersIn withOrder kernelIn withKernel taken stepOf closes complete readLines endVerdict readChain readRequest cellVerdict
     groundLine offsetLine indexPair boxLines capacityLine orderLines kernelLine chainLines sheetOf writeVerdict writeOf

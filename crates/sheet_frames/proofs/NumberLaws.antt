@@ -14,6 +14,7 @@ use Rattle.model.specs.Lists.{tabulate}
 use Rattle.model.specs.Frames.{isDigit, valueOf, bytesOf, counted, pushed, fed, rowNumbers, withHalf, numbersFed, numbersFeeds}
 use Rattle.model.specs.Numbers.{byteAt, halfAt}
 use Rattle.model.specs.Reading.{numbersOn}
+use Rattle.model.proofs.NumberLaws.{numbers-table}
 use Rattle.sheet_laws.proofs.Cases.{by-bool, by-eq, by-lt}
 use Rattle.sheet_laws.proofs.NumbersLaws.{set-table, same-table, zero-table}
 
@@ -146,14 +147,15 @@ first-more x k high low h l =
         (λ l. let m : k + 1 ≤ j = omega arith in rw (le-ltb _ _ l, le-ltb _ _ m))
 
 pub first-all : (x : List ℕ) (k : ℕ) → rowNumbers ≤ k → firstOn k x ≡ numbersOn x
-unfolding firstOn numbersOn
-first-all x k h = same-table rowNumbers _ _ (λ j m. let l : j < k = omega arith in rw (lt-ltb j k l))
+unfolding firstOn
+first-all x k h = same-table rowNumbers _ _ (λ j m. let l : j < k = omega arith in rw (lt-ltb j k l)) ∙ sym (numbers-table x)
 
 -- No byte stands from the upper half of number k on.
 pub first-short : (ds : List ℕ) (k : ℕ) → length ds ≤ 2 * (3 + 2 * k) + 1 → firstOn k (bytesOf ds) ≡ numbersOn (bytesOf ds)
-unfolding firstOn numbersOn halfAt
+unfolding firstOn halfAt
 first-short ds k h =
-    same-table rowNumbers _ _
+    same-table rowNumbers _ (λ i. halfAt (bytesOf ds) (3 + 2 * i))
     (λ j m. by-lt j k
     (λ l. rw (lt-ltb _ _ l))
     (λ l. rw (le-ltb _ _ l, byte-none ds (3 + 2 * j) (omega arith), byte-none ds (3 + 2 * j + 1) (omega arith))))
+    ∙ sym (numbers-table (bytesOf ds))

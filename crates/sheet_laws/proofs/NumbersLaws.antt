@@ -16,6 +16,7 @@ use Rattle.model.specs.Lists.{tabulate}
 use Rattle.model.specs.Frames.{isDigit, valueOf, whole, bytesOf, counted, Seen, seenOf, emptyFrame, fed, feeds, shown, rowNumbers, withHalf, numbersFed, numbersFeeds}
 use Rattle.model.specs.Numbers.{byteAt, halfAt}
 use Rattle.model.specs.Reading.{numbersOn, lineVerdict, stepOf}
+use Rattle.model.proofs.NumberLaws.{numbers-table}
 use Rattle.model.proofs.ListLaws.{length-tabulate, getD-tabulate, tabulate-back}
 use Rattle.sheet_laws.proofs.Cases.{by-bool, by-eq, by-lt, never, and-true}
 use Rattle.sheet_laws.proofs.FrameLaws.{capped, capped-few, capped-many, standing, none-taken, value-small, two-digits, unwhole-frame}
@@ -37,6 +38,10 @@ same-table m f g there =
 pub zero-table : (m : ℕ) (f : ℕ → ℕ) → ((k : ℕ) → k < m → f k ≡ 0) → replicate m 0 ≡ tabulate m f
 zero-table m f zeros =
     sym (tabulate-back 0 (replicate m 0) m f (length-replicate {A = ℕ} m 0) (λ k h. zeros k h ∙ sym (getD-replicate {A = ℕ} m k 0 0 h)))
+
+-- The numbers on a line, one by one.
+abbrev tableOn : List ℕ → List ℕ
+tableOn bs = tabulate rowNumbers (λ i. halfAt bs (3 + 2 * i))
 
 -- A byte behind others.
 module _ (bs : List ℕ) (b : ℕ) where
@@ -68,8 +73,8 @@ module _ (bs : List ℕ) (b : ℕ) where
   half-lower i e = rw (byte-other i (λ f. omega arith), byte-here (i + 1) e, byte-past (i + 1) (omega arith)) (omega arith)
 
   -- One byte more, of a line that has its row count.
-  numbers-byte : 3 ≤ length bs → withHalf (numbersOn bs) (length bs - 3) b ≡ numbersOn longer
-  unfolding withHalf numbersOn
+  numbers-byte : 3 ≤ length bs → withHalf (tableOn bs) (length bs - 3) b ≡ tableOn longer
+  unfolding withHalf
   numbers-byte h =
       let n = length bs in
       let at = (n - 3) / 2 in
@@ -79,21 +84,20 @@ module _ (bs : List ℕ) (b : ℕ) where
       (λ l. half-upper (3 + 2 * at) (omega arith))
       (λ k l d. half-other (3 + 2 * k) (λ f. omega arith) (λ f. omega arith))))
       (λ e. rw (ne-eqb _ _ e)
-      (set-table rowNumbers at (getD (numbersOn bs) at 0 / 256 * 256 + b) (λ i. halfAt bs (3 + 2 * i)) (λ i. halfAt longer (3 + 2 * i))
+      (set-table rowNumbers at (getD (tableOn bs) at 0 / 256 * 256 + b) (λ i. halfAt bs (3 + 2 * i)) (λ i. halfAt longer (3 + 2 * i))
       (λ l. half-lower (3 + 2 * at) (omega arith) ∙ ap (λ x. x / 256 * 256 + b) (sym (getD-tabulate rowNumbers (λ i. halfAt bs (3 + 2 * i)) at 0 l)))
       (λ k l d. half-other (3 + 2 * k) (λ f. omega arith) (λ f. omega arith))))
 
   -- A byte of the kind or of the row count, and one behind all numbers.
-  numbers-outside : ((k : ℕ) → k < rowNumbers → (3 + 2 * k ≡ length bs → ⊥) × (3 + 2 * k + 1 ≡ length bs → ⊥)) → numbersOn bs ≡ numbersOn longer
-  unfolding numbersOn
+  numbers-outside : ((k : ℕ) → k < rowNumbers → (3 + 2 * k ≡ length bs → ⊥) × (3 + 2 * k + 1 ≡ length bs → ⊥)) → tableOn bs ≡ tableOn longer
   numbers-outside h = same-table rowNumbers _ _ (λ k l. half-other (3 + 2 * k) (h k l .0) (h k l .1))
 
-  past-numbers : withHalf (numbersOn bs) (counted - 3) b ≡ numbersOn bs
-  unfolding withHalf numbersOn
-  past-numbers = set-out (numbersOn bs) rowNumbers _ (omega (arith, length-tabulate rowNumbers (λ i. halfAt bs (3 + 2 * i))))
+  past-numbers : withHalf (tableOn bs) (counted - 3) b ≡ tableOn bs
+  unfolding withHalf
+  past-numbers = set-out (tableOn bs) rowNumbers _ (omega (arith, length-tabulate rowNumbers (λ i. halfAt bs (3 + 2 * i))))
 
   -- One byte more, counted as a frame counts.
-  numbers-push : cond (leb 3 (capped (length bs))) (withHalf (numbersOn bs) (capped (length bs) - 3) b) (numbersOn bs) ≡ numbersOn longer
+  numbers-push : cond (leb 3 (capped (length bs))) (withHalf (tableOn bs) (capped (length bs) - 3) b) (tableOn bs) ≡ tableOn longer
   numbers-push =
       by-lt (length bs) counted
       (λ c. by-lt (length bs) 3
@@ -103,30 +107,34 @@ module _ (bs : List ℕ) (b : ℕ) where
 
 -- Two digits are a byte.
 numbers-digits : (bs : List ℕ) (a b : ℕ) → isDigit a ≡ true → isDigit b ≡ true
-    → numbersFed (numbersFed (numbersOn bs) (standing bs) a) (fed (standing bs) a) b ≡ numbersOn (bs ++ ((valueOf a * 16 + valueOf b) ∷ []))
+    → numbersFed (numbersFed (tableOn bs) (standing bs) a) (fed (standing bs) a) b ≡ tableOn (bs ++ ((valueOf a * 16 + valueOf b) ∷ []))
 unfolding numbersFed fed
 numbers-digits bs a b p q = rw (p, q, mod-eq-of-lt (value-small a p)) (numbers-push bs (valueOf a * 16 + valueOf b))
 
-numbers-from : (bs ds : List ℕ) → whole ds ≡ true → numbersFeeds (numbersOn bs) (standing bs) ds ≡ numbersOn (bs ++ bytesOf ds)
+numbers-from : (bs ds : List ℕ) → whole ds ≡ true → numbersFeeds (tableOn bs) (standing bs) ds ≡ tableOn (bs ++ bytesOf ds)
 unfolding whole bytesOf numbersFeeds
-numbers-from bs [] h = ap numbersOn (sym (append-nil bs))
+numbers-from bs [] h = ap tableOn (sym (append-nil bs))
 numbers-from bs (a ∷ []) h = absurd (never (sym h))
 numbers-from bs (a ∷ b ∷ ds) h =
     let p = and-true (isDigit a) _ h in
     let q = and-true (isDigit b) _ (p .1) in
     let byte = valueOf a * 16 + valueOf b in
     ap (λ ns. numbersFeeds ns (fed (fed (standing bs) a) b) ds) (numbers-digits bs a b (p .0) (q .0))
-    ∙ ap (λ f. numbersFeeds (numbersOn (bs ++ (byte ∷ []))) f ds) (two-digits bs a b (p .0) (q .0))
+    ∙ ap (λ f. numbersFeeds (tableOn (bs ++ (byte ∷ []))) f ds) (two-digits bs a b (p .0) (q .0))
     ∙ numbers-from (bs ++ (byte ∷ [])) ds (q .1)
-    ∙ ap numbersOn (append-assoc bs (byte ∷ []) (bytesOf ds))
+    ∙ ap tableOn (append-assoc bs (byte ∷ []) (bytesOf ds))
 
-no-numbers : replicate rowNumbers 0 ≡ numbersOn []
-unfolding numbersOn halfAt
+no-numbers : replicate rowNumbers 0 ≡ tableOn []
+unfolding halfAt
 no-numbers = zero-table rowNumbers (λ i. halfAt [] (3 + 2 * i)) (λ k h. refl)
 
 -- A whole line.
 pub numbers-whole : (ds : List ℕ) → whole ds ≡ true → numbersFeeds (replicate rowNumbers 0) emptyFrame ds ≡ numbersOn (bytesOf ds)
-numbers-whole ds h = ap (λ ns. numbersFeeds ns emptyFrame ds) no-numbers ∙ ap (λ f. numbersFeeds (numbersOn []) f ds) (sym none-taken) ∙ numbers-from [] ds h
+numbers-whole ds h =
+    ap (λ ns. numbersFeeds ns emptyFrame ds) no-numbers
+    ∙ ap (λ f. numbersFeeds (tableOn []) f ds) (sym none-taken)
+    ∙ numbers-from [] ds h
+    ∙ sym (numbers-table (bytesOf ds))
 
 -- A line that arrives in pieces.
 pub numbers-pieces : (ns : List ℕ) (f : Frame) (a b : List ℕ) → numbersFeeds ns f (a ++ b) ≡ numbersFeeds (numbersFeeds ns f a) (feeds f a) b

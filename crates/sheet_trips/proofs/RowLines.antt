@@ -11,6 +11,7 @@ use Rattle.model.specs.Frames.{padded, bytesOf, digitsOf, framed}
 use Rattle.model.specs.Numbers.{byteAt, halfAt, halfBytes}
 use Rattle.model.specs.Reading.{numbersOn, firstNumbers, numbersIn}
 use Rattle.model.proofs.ListLaws.{length-tabulate, getD-tabulate, tabulate-back}
+use Rattle.model.proofs.NumberLaws.{numbers-table}
 use Rattle.sheet_laws.specs.Rows.{rowsLine}
 use Rattle.sheet_laws.proofs.SheetRows.{tabulate-same}
 use Rattle.sheet_trips.proofs.Bytes.{Small, small-append, small-half, frame-back, frame-line}
@@ -25,8 +26,7 @@ pub written-numbers : (first rest : List ℕ) → Small first → numbersIn (fra
 written-numbers first rest s = first-numbers first rest ∙ ap numbersOn (frame-back s .1)
 
 pub number-at : (x : List ℕ) (i : ℕ) → i < 1024 → getD (numbersOn x) i 0 ≡ halfAt x (3 + 2 * i)
-unfolding numbersOn
-number-at x i h = getD-tabulate 1024 (λ i. halfAt x (3 + 2 * i)) i 0 h
+number-at x i h = ap (λ l. getD l i 0) (numbers-table x) ∙ getD-tabulate 1024 (λ i. halfAt x (3 + 2 * i)) i 0 h
 
 -- Numbers of two bytes each.
 halves-at : (ws : List ℕ) (i : ℕ) → halfAt (flatMap halfBytes ws) (2 * i) ≡ getD ws i 0
