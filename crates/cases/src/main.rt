@@ -1,7 +1,6 @@
-// Cases 1 to 5 of document 01, the totals of the paper's Table 4, runs of a box, runs on skewed grids and the two printed listings: the library's plans and runs,
-// and every word of the runs compared with a plain nested loop.
+// Cases 1 to 5 of document 01, the totals of the paper's Table 4, runs of a box and runs on skewed grids: the library's plans and runs, and every word of the runs
+// compared with a plain nested loop.
 mod cells;
-mod listings;
 mod maps;
 mod report;
 
@@ -10,5 +9,4 @@ fn main() {
     let mut out = [0u32; 786432];
     cells::fill(&mut cells);
     report::cases(&cells, &mut out);
-    listings::listings();
 }

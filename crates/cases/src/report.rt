@@ -201,97 +201,35 @@ fn with_kernel(
     let verdict = p.verdict;
     let chain = p.chain;
     name(kernel);
-    match verdict {
-        Verdict::Accepted => {
-            compared(
-                l,
-                kernel,
-                chain,
-                rows,
-                false,
-                window,
-                cells,
-                field,
-                inside,
-                out,
-            );
-            compared(
-                l,
-                kernel,
-                chain,
-                rows,
-                true,
-                window,
-                cells,
-                field,
-                inside,
-                out,
-            );
-        }
-        Verdict::Refused(r) => refused(r),
+    if let Verdict::Refused(r) = verdict {
+        refused(r);
+        return;
+    }
+    for i in 0u32..2 {
+        compared(
+            l,
+            kernel,
+            chain,
+            rows,
+            i == 1,
+            window,
+            cells,
+            field,
+            inside,
+            out,
+        );
     }
 }
 
-fn with_factors(
-    l: Loops,
-    author: &[u8],
-    count: u32,
-    rows: &[u32],
-    cells: &[u32],
-    field: &[u32],
-    inside: &[u32],
-    out: &mut [u32],
-) {
-    let f = Factors { a: 0.6, b: 0.1 };
-    with_kernel(
-        l,
-        Kernel::Scaled(0.2),
-        author,
-        author,
-        count,
-        rows,
-        cells,
-        field,
-        inside,
-        out,
-    );
-    with_kernel(
-        l,
-        Kernel::Blend(f),
-        author,
-        author,
-        count,
-        rows,
-        cells,
-        field,
-        inside,
-        out,
-    );
-}
-
-fn with_sums(
-    l: Loops,
-    author: &[u8],
-    count: u32,
-    rows: &[u32],
-    cells: &[u32],
-    field: &[u32],
-    inside: &[u32],
-    out: &mut [u32],
-) {
-    with_kernel(
-        l,
-        Kernel::Difference,
-        author,
-        author,
-        count,
-        rows,
-        cells,
-        field,
-        inside,
-        out,
-    );
-    with_factors(l, author, count, rows, cells, field, inside, out);
+// The kernels that add, by number.
+fn sum_of(i: u32) -> Kernel {
+    if i == 0 {
+        return Kernel::Difference;
+    }
+    if i == 1 {
+        return Kernel::Scaled(0.2);
+    }
+    Kernel::Blend(Factors { a: 0.6, b: 0.1 })
 }
 
 // Kernels add in the author's order; raw keeps chain order, in which offsets fall.
@@ -318,7 +256,20 @@ fn with_kernels(
         inside,
         out,
     );
-    with_sums(l, author, count, rows, cells, field, inside, out);
+    for i in 0u32..3 {
+        with_kernel(
+            l,
+            sum_of(i),
+            author,
+            author,
+            count,
+            rows,
+            cells,
+            field,
+            inside,
+            out,
+        );
+    }
 }
 
 fn case_on(

@@ -31,18 +31,13 @@ use Rattle.model.specs.declared.Chain.{Chain}
 use Rattle.model.specs.declared.Planned.{Planned}
 use Rattle.model.specs.declared.Refusal.the-variants as refusal
 use Rattle.model.specs.declared.Verdict.the-variants as verdict
-use Rattle.model.proofs.ListLaws.{getD-tabulate}
+use Rattle.model.proofs.ListLaws.{getD-tabulate, tabulate-same}
 use Rattle.demands.specs.PastCounts.{GridsAgree, WindowsAgree, BoundsAgree, OrdersAgree, ChainsAgree, RequestsAgree, SameRequest, PastCounts}
 
 -- Lists of equally many entries, the same at each place.
 module _ {A : Type 0} where
-  entries-alike : (n : ℕ) (f g : ℕ → A) → ((k : ℕ) → k < n → f k ≡ g k) → tabulate n f ≡ tabulate n g
-  unfolding tabulate
-  entries-alike zero f g h = refl
-  entries-alike (suc n) f g h = ap₂ _∷_ (h 0 (omega arith)) (entries-alike n (λ i. f (suc i)) (λ i. g (suc i)) (λ k b. h (suc k) (omega arith)))
-
   alike : (n m : ℕ) (f g : ℕ → A) → n ≡ m → ((k : ℕ) → k < n → f k ≡ g k) → tabulate n f ≡ tabulate m g
-  alike n m f g e h = entries-alike n f g h ∙ ap (λ (l : ℕ). tabulate l g) e
+  alike n m f g e h = tabulate-same n f g h ∙ ap (λ (l : ℕ). tabulate l g) e
 
 flat-alike : (n : ℕ) (h : ℕ → ℕ) (f g : ℕ → List ℕ) → ((k : ℕ) → k < n → f (h k) ≡ g (h k)) → flatMap f (tabulate n h) ≡ flatMap g (tabulate n h)
 unfolding tabulate flatMap

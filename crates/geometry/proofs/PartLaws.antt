@@ -1,24 +1,15 @@
 -- Laws of lists that are given entry by entry.
 use Prim.Native.Nat.{ℕ, zero, suc, _+_, _-_, _≤_, _<_}
-use mathlib.Core.List.{List, [], _∷_, _++_, map}
+use mathlib.Core.List.{List, [], _∷_, _++_}
 use mathlib.Core.Path.{_≡_, refl, sym, _∙_, ap, ap₂}
 use native.Mathlib.Nat.{suc-inj}
 use native.Mathlib.Omega.{arith}
 use Rattle.model.specs.Lists.{tabulate}
+use Rattle.model.proofs.ListLaws.{tabulate-same}
 use Rattle.geometry.specs.Parts.{part}
 
 module _ {A : Type 0} where
   -- Lists with the same entries are the same.
-  pub tabulate-same : (n : ℕ) (f g : ℕ → A) → ((i : ℕ) → i < n → f i ≡ g i) → tabulate n f ≡ tabulate n g
-  unfolding tabulate
-  tabulate-same zero f g e = refl
-  tabulate-same (suc n) f g e = ap₂ _∷_ (e 0 (omega arith)) (tabulate-same n (λ i. f (suc i)) (λ i. g (suc i)) (λ i h. e (suc i) (omega arith)))
-
-  pub map-tabulate : {B : Type 0} (h : A → B) (n : ℕ) (f : ℕ → A) → map h (tabulate n f) ≡ tabulate n (λ i. h (f i))
-  unfolding tabulate
-  map-tabulate h zero f = refl
-  map-tabulate h (suc n) f = ap (_∷_ (h (f 0))) (map-tabulate h n (λ i. f (suc i)))
-
   pub part-none : (f : ℕ → A) (from to : ℕ) → to ≤ from → part f from to ≡ []
   unfolding part tabulate
   part-none f from to h = go (to - from) (omega arith)

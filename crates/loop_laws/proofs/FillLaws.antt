@@ -1,6 +1,6 @@
 -- The clocks of a call before its filters are aligned: the loop's invariant, and one law for each way that a turn goes.
 use Prim.Native.Nat.{ℕ, zero, suc, _+_, _-_, _≤_, _<_}
-use mathlib.Core.Bool.{Bool, true, false, not, false≢true}
+use mathlib.Core.Bool.{Bool, true, false, false≢true}
 use mathlib.Core.List.{List, [], _∷_}
 use mathlib.Core.Path.{_≡_, refl, sym, _∙_, ap}
 use native.Mathlib.Nat.{sub-zero, zero-add}
@@ -13,18 +13,19 @@ use borrow.Author.Tests.{lt-ltb, le-ltb}
 use Rattle.model.specs.Lists.{sum}
 use Rattle.model.specs.Clock.{Layout, first, turns, fires, next, moves}
 use Rattle.model.specs.Running.{Spent, Starved, Stalled, call}
-use Rattle.flow.specs.Machine.{Invariant}
+use Rattle.flow.specs.Machine.{Invariant, Ready}
 use Rattle.flow.proofs.Tests.{fires-yes}
 use Rattle.flow.proofs.Invariant.{next-invariant}
 use Rattle.run_laws.proofs.Held.{Steps, next-steps}
 use Rattle.run_laws.proofs.Lengths.{length-turns}
 use Rattle.loop_laws.specs.Passes.{of, Aligned}
-use Rattle.loop_laws.specs.Sweeps.{swept, Lined, Ringed, Turns, Turned}
+use Rattle.loop_laws.specs.Sweeps.{before, swept, Lined, Ringed, Turns, Turned, InPlace, Goes, Gone}
 use Rattle.loop_laws.specs.Standings.{counting, stand, endedAt}
 use Rattle.loop_laws.specs.Tables.{Fills}
 use Rattle.loop_laws.proofs.AlignedLaws.{ready-aligned}
 use Rattle.loop_laws.proofs.SweepLaws.{turns-same}
-use Rattle.loop_laws.proofs.StoredLaws.{length-stored, holds-below, holds-apart}
+use Rattle.loop_laws.proofs.AgainLaws.{goes-unwanted}
+use Rattle.loop_laws.proofs.StoredLaws.{length-stored, holds-below, holds-wanted, holds-apart}
 use Rattle.loop_laws.proofs.CallLaws.{call-spent, call-starved, call-stalled, call-shifts}
 
 -- ---- the test for alignment
@@ -44,14 +45,6 @@ not-false e = absurd (false≢true e)
 
 pub not-true : {A : Type 0} → true ≡ false → A
 not-true e = absurd (false≢true (sym e))
-
-pub none-moved : (b : Bool) → not b ≡ true → b ≡ false
-none-moved true e = absurd (false≢true e)
-none-moved false e = refl
-
-pub some-moved : (b : Bool) → not b ≡ false → b ≡ true
-some-moved true e = refl
-some-moved false e = absurd (false≢true (sym e))
 
 -- ---- lists
 
@@ -74,6 +67,11 @@ aligned-at w cap k zero (p ∷ q ∷ qs) h a = let z : k + 0 ≡ k = omega arith
 aligned-at w cap k (suc i) (p ∷ q ∷ qs) h a =
     let z : k + suc i ≡ suc k + i = omega arith in
     rw z (aligned-at w cap (suc k) i (q ∷ qs) (omega arith) (a .3))
+
+ready-at : (L : Layout) (f k source i : ℕ) (ps : List ℕ) → i < length ps → Ready L f k source ps → getD ps i 0 ≡ L .wants f (k + i)
+ready-at L f k source i [] h r = absurd (omega arith)
+ready-at L f k source zero (p ∷ ps) h r = let z : k + 0 ≡ k = omega arith in rw z (r .1)
+ready-at L f k source (suc i) (p ∷ ps) h r = let z : k + suc i ≡ suc k + i = omega arith in rw z (ready-at L f (suc k) p i ps (omega arith) (r .2))
 
 -- ---- the loop
 
@@ -126,8 +124,8 @@ module _ (L : Layout) (walk : ℕ → ℕ) (n cells iterations fired : ℕ) (at 
       small k h =
           omega (arith, getD-take n passed k 0 h, holds-below L fired 0 (L .cells) k (take n passed) (s .holds .all), F .tables .most, F .tables .cells-are)
 
-      -- Filters that are not aligned do not fire.
-      idle : (Lined n at passed → ⊥) → fires L (counting fired (take n passed)) ≡ false
+      -- Filters that are not aligned do not fire,
+      pub idle : (Lined n at passed → ⊥) → fires L (counting fired (take n passed)) ≡ false
       idle f = go (fires L (counting fired (take n passed))) refl
         where
           lines : Aligned (L .wants fired) (L .capacity) 0 (take n passed) → Lined n at passed
@@ -141,6 +139,16 @@ module _ (L : Layout) (walk : ℕ → ℕ) (n cells iterations fired : ℕ) (at 
 
           go : (b : Bool) → fires L (counting fired (take n passed)) ≡ b → b ≡ false
           go true e = absurd (f (lines (ready-aligned L fired 0 (L .cells) (take n passed) (s .holds .all) (fires-yes L (counting fired (take n passed)) e))))
+          go false e = refl
+
+      -- nor does a chain of which a filter is not where it is wanted.
+      pub waiting : (k : ℕ) → k < n → (getD passed k 0 ≡ getD wants k 0 → ⊥) → fires L (counting fired (take n passed)) ≡ false
+      waiting k h ne = go (fires L (counting fired (take n passed))) refl
+        where
+          go : (b : Bool) → fires L (counting fired (take n passed)) ≡ b → b ≡ false
+          go true e =
+              let r = ready-at L fired 0 (L .cells) k (take n passed) (omega (arith, long)) (fires-yes L (counting fired (take n passed)) e) in
+              absurd (ne (omega (arith, r, getD-take n passed k 0 h, F .wants-are k h, ap (L .wants fired) (zero-add k))))
           go false e = refl
 
       pub may-turn : Turns (L .capacity) n bases tops caps passed puts gets store
@@ -160,6 +168,19 @@ module _ (L : Layout) (walk : ℕ → ℕ) (n cells iterations fired : ℕ) (at 
             (y .0, omega (arith, y .1, F .tables .places .caps-are k h));
         rings = s .rings;
       }
+
+      pub in-place : InPlace n cells (of wants) (of caps) (of passed)
+      in-place = record {
+        wanted = λ k h.
+            let x = holds-wanted L fired 0 (L .cells) k (take n passed) (omega (arith, long)) (s .holds .all) in
+            omega (arith, x, getD-take n passed k 0 h, F .wants-are k h, ap (L .wants fired) (zero-add k));
+        sourced = sourced;
+        fits = λ k h. may-turn .fits k h .1;
+      }
+        where
+          sourced : (k : ℕ) → k < n → getD passed k 0 ≤ before cells (of passed) k
+          sourced zero h = omega (arith, getD-take n passed 0 0 h, holds-below L fired 0 (L .cells) 0 (take n passed) (s .holds .all), F .tables .cells-are)
+          sourced (suc k) h = may-turn .fits k h .0
 
       -- The counters after the turns.
       module _ (passed′ : List ℕ) (e : passed′ ≡ swept wants caps passed n cells) where
@@ -189,11 +210,11 @@ module _ (L : Layout) (walk : ℕ → ℕ) (n cells iterations fired : ℕ) (at 
             ∙ length-append (turns (of wants) (of caps) 0 cells (take n passed)) (drop n passed)
             ∙ omega (arith, length-turns (of wants) (of caps) 0 cells (take n passed), long, length-drop n passed, s .there, F .tables .few)
 
-        module _ (nl : Lined n at passed → ⊥) where
+        module _ (quiet : fires L (counting fired (take n passed)) ≡ false) where
           -- The clock is the next of the definition.
           next-is : next L (counting fired (take n passed)) ≡ counting fired (take n passed′)
           unfolding next
-          next-is = rw (idle nl, taken-turns)
+          next-is = rw (quiet, taken-turns)
 
           holds-now : Invariant L (counting fired (take n passed′))
           holds-now = rw next-is at (next-invariant L (F .tables .lawful) (counting fired (take n passed)) left (s .holds))
@@ -207,7 +228,7 @@ module _ (L : Layout) (walk : ℕ → ℕ) (n cells iterations fired : ℕ) (at 
           first-after : first (take n passed′) ≡ getD passed′ 0 0
           first-after = first-take n passed′ (F .tables .some) (omega (arith, there-now, F .tables .few))
 
-          pub first-on : (getD passed 0 0 ≤ getD passed′ 0 0) × (getD passed′ 0 0 ≤ getD passed 0 0 + 1)
+          first-on : (getD passed 0 0 ≤ getD passed′ 0 0) × (getD passed′ 0 0 ≤ getD passed 0 0 + 1)
           first-on =
               let x = first-steps (L .cells) (take n passed) (take n passed′) steps-now in
               let a = first-before in
@@ -222,11 +243,13 @@ module _ (L : Layout) (walk : ℕ → ℕ) (n cells iterations fired : ℕ) (at 
             more-left : allowance - clocks ≡ suc (allowance - suc clocks)
             more-left = omega arith
 
-            pub filling-again : (puts′ gets′ store′ : List ℕ) (x : ℕ) (m : Bool) → x ≡ getD lent taken 0 → m ≡ true
-                → Turned (L .capacity) n cells x wants bases caps passed passed′ puts′ gets′ store store′ m
-                → Filling passed′ puts′ gets′ store′ (taken + (getD passed′ 0 0 - getD passed 0 0)) (clocks + 1)
-            filling-again puts′ gets′ store′ x m ex em t =
+            filling-on : (goes puts′ gets′ store′ : List ℕ) (x who : ℕ) → x ≡ getD lent taken 0 → who < n → 0 < getD goes who 0
+                → Gone (L .capacity) n cells x wants bases caps goes passed passed′ puts′ gets′ store store′ → Filling passed′ puts′ gets′ store′ (taken + getD goes 0 0) (clocks + 1)
+            filling-on goes puts′ gets′ store′ x who ex h some r =
+                let t = r .turned in
+                let em : r .moved ≡ true = moved (r .moved) t in
                 let mo = moves-is true (lt-ltb (sum (take n passed)) (sum (take n passed′)) (t .up em)) in
+                let first-goes : getD passed′ 0 0 - getD passed 0 0 ≡ getD goes 0 0 = omega (arith, r .on 0 (F .tables .some)) in
                 rw add-one record {
                   holds = holds-now;
                   rest = rest-same ∙ s .rest;
@@ -240,39 +263,29 @@ module _ (L : Layout) (walk : ℕ → ℕ) (n cells iterations fired : ℕ) (at 
                   fewer = omega (arith, first-on, s .fewer);
                   goes = λ write size out.
                       let g = rw more-left at (s .goes write size out) in
-                      let l = call-shifts L write size lent fired (take n passed) store out taken clocks 0 left tl (idle nl) (allowance - suc clocks) mo in
-                      sym (rw (next-is, ← ex, ← (t .words), first-before, first-after) at l) ∙ g;
+                      let l = call-shifts L write size lent fired (take n passed) store out taken clocks 0 left tl quiet (allowance - suc clocks) mo in
+                      sym (rw (next-is, ← ex, ← (t .words), first-before, first-after, first-goes) at l) ∙ g;
                 }
+              where
+                moved : (m : Bool) → Turned (L .capacity) n cells x wants bases caps passed passed′ puts′ gets′ store store′ m → m ≡ true
+                moved true t = refl
+                moved false t = absurd (let y : ⊥ = omega (arith, r .on who h, ap (λ (l : List ℕ). getD l who 0) (t .still refl .0)) in y)
 
-            -- No filter moved.
-            module _ (puts′ gets′ store′ : List ℕ) (x : ℕ) (m : Bool) (em : m ≡ false)
-                (t : Turned (L .capacity) n cells x wants bases caps passed passed′ puts′ gets′ store store′ m) where
-              pub filling-still : Filling passed′ puts′ gets′ store′ taken clocks
-              filling-still =
-                  let a = t .still em in
-                  record {
-                    holds = rw (a .0) (s .holds);
-                    rest = rw (a .0) (s .rest);
-                    there = rw (a .0) (s .there);
-                    puts-there = t .puts-there;
-                    gets-there = t .gets-there;
-                    rings = t .rings;
-                    store-length = rw (a .1) (s .store-length);
-                    had = s .had;
-                    allowed = s .allowed;
-                    fewer = s .fewer;
-                    goes = rw (a .0, a .1) (s .goes);
-                  }
+            -- No filter moves.
+            pub stops-stalled : passed′ ≡ passed → (write : List ℕ → List ℕ) (size : ℕ) (out : List ℕ)
+                → endedAt Stalled (stand fired (take n passed) store out taken clocks 0) ≡ call L write size lent allowance (stand fired (take n passed₀) store₀ out 0 0 0)
+            stops-stalled same write size out =
+                let le : sum (take n passed′) ≤ sum (take n passed) = omega (arith, ap (λ (l : List ℕ). sum (take n l)) same) in
+                let mo = moves-is false (le-ltb (sum (take n passed)) (sum (take n passed′)) le) in
+                sym (call-stalled L write size lent (allowance - suc clocks) (stand fired (take n passed) store out taken clocks 0) left tl mo)
+                ∙ (rw more-left at (s .goes write size out))
 
-              pub stops-stalled : (write : List ℕ → List ℕ) (size : ℕ) (out : List ℕ)
-                  → endedAt Stalled (stand fired (take n passed′) store′ out taken clocks 0) ≡ call L write size lent allowance (stand fired (take n passed₀) store₀ out 0 0 0)
-              stops-stalled write size out =
-                  let a = t .still em in
-                  let le : sum (take n passed′) ≤ sum (take n passed) = omega (arith, ap (λ (l : List ℕ). sum (take n l)) (a .0)) in
-                  let mo = moves-is false (le-ltb (sum (take n passed)) (sum (take n passed′)) le) in
-                  rw (a .0, a .1)
-                  (sym (call-stalled L write size lent (allowance - suc clocks) (stand fired (take n passed) store out taken clocks 0) left tl mo)
-                  ∙ (rw more-left at (s .goes write size out)))
+      -- The filters of `goes` moved.
+      pub filling-again : (goes passed′ puts′ gets′ store′ : List ℕ) (x who : ℕ) → Goes n cells (of wants) (of caps) (of goes) (of passed) → clocks < allowance → taken < length lent → x ≡ getD lent taken 0
+          → who < n → 0 < getD goes who 0 → Gone (L .capacity) n cells x wants bases caps goes passed passed′ puts′ gets′ store store′
+          → Filling passed′ puts′ gets′ store′ (taken + getD goes 0 0) (clocks + 1)
+      filling-again goes passed′ puts′ gets′ store′ x who G al tl ex h some r =
+          filling-on passed′ (r .turned .counters) (waiting who h (goes-unwanted n cells (of wants) (of caps) (of goes) (of passed) G who h some)) al tl goes puts′ gets′ store′ x who ex h some r
 
       -- ---- the other ways out
 

@@ -4,6 +4,10 @@ pub mod CallLaws
 pub mod SweepLaws
 pub mod StoredLaws
 pub mod TurnLaws
+pub mod AgainLaws
+pub mod LookLaws
+pub mod SpanLaws
+pub mod GoingLaws
 pub mod PassLaws
 pub mod FillLaws
 pub mod GlideLaws

@@ -18,6 +18,11 @@ holds-below L f k source i [] h = omega arith
 holds-below L f k source zero (p ∷ ps) h = h .0 .sourced
 holds-below L f k source (suc i) (p ∷ ps) h = omega (arith, h .0 .sourced, holds-below L f (suc k) p i ps (h .1))
 
+pub holds-wanted : (L : Layout) (f k source i : ℕ) (ps : List ℕ) → i < length ps → Holds L f k source ps → getD ps i 0 ≤ L .wants f (k + i)
+holds-wanted L f k source i [] l h = absurd (omega arith)
+holds-wanted L f k source zero (p ∷ ps) l h = let z : k + 0 ≡ k = omega arith in rw z (h .0 .wanted)
+holds-wanted L f k source (suc i) (p ∷ ps) l h = let z : k + suc i ≡ suc k + i = omega arith in rw z (holds-wanted L f (suc k) p i ps (omega arith) (h .1))
+
 -- Neighbouring filters are in order, and their FIFO is within its capacity.
 pub holds-apart : (L : Layout) (f k source i : ℕ) (ps : List ℕ) → suc i < length ps → Holds L f k source ps
     → (getD ps (suc i) 0 ≤ getD ps i 0) × (getD ps i 0 ≤ getD ps (suc i) 0 + L .capacity (k + i))

@@ -11,7 +11,8 @@ use lib.ListN.{length, getD, take, drop, set, length-set, take-append-drop}
 use lib.Seq.{slice, slice-cons, slice-empty, getD-set-same, getD-set-other, take-set-lt, drop-set-lt}
 use borrow.Author.Tests.{lt-ltb, le-ltb, ltb-true, eq-eqb, ne-eqb}
 use Rattle.model.specs.Clock.{turn, limit, turns}
-use Rattle.loop_laws.specs.Sweeps.{source, swept}
+use Rattle.loop_laws.specs.Passes.{of}
+use Rattle.loop_laws.specs.Sweeps.{before, source, swept}
 
 pub turn-absent : (src w b p : ℕ) → src ≤ p → p ≡ turn src w b p
 unfolding turn
@@ -46,6 +47,14 @@ turn-most src w b p = go (ltb p src && (not (eqb p w) && ltb p b))
     go true = omega arith
     go false = omega arith
 
+pub turn-least : (src w b p : ℕ) → p ≤ turn src w b p
+unfolding turn
+turn-least src w b p = go (ltb p src && (not (eqb p w) && ltb p b))
+  where
+    go : (x : Bool) → p ≤ cond x (suc p) p
+    go true = omega arith
+    go false = omega arith
+
 -- A filter that goes on has a cell before it and a place behind it.
 pub turn-went : (src w b p : ℕ) → p < turn src w b p → (turn src w b p ≡ suc p) × (p < src) × (p < b)
 unfolding turn
@@ -57,13 +66,9 @@ turn-went src w b p h = go (ltb p src) (eqb p w) (ltb p b) refl refl h
     go true true z e f h = absurd (omega arith)
     go false y z e f h = absurd (omega arith)
 
-pub turn-stayed : (src w b p : ℕ) → turn src w b p ≤ p → turn src w b p ≡ p
-unfolding turn
-turn-stayed src w b p h = go (ltb p src && (not (eqb p w) && ltb p b)) h
-  where
-    go : (x : Bool) → cond x (suc p) p ≤ p → cond x (suc p) p ≡ p
-    go true h = absurd (omega arith)
-    go false h = refl
+pub source-before : (cells : ℕ) (ps : List ℕ) (k : ℕ) → source cells ps k ≡ before cells (of ps) k
+unfolding source
+source-before cells ps k = refl
 
 pub source-first : (cells : ℕ) (ps : List ℕ) (k : ℕ) → k ≡ 0 → cells ≡ source cells ps k
 unfolding source

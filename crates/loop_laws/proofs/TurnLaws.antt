@@ -8,7 +8,7 @@ use native.Mathlib.Numerals.{add-one}
 use native.Mathlib.Decide.{ℕ-discrete}
 use native.Mathlib.Omega.{arith}
 use lib.Dec.{ltb}
-use lib.ListN.{length, getD, take, drop, set, length-set}
+use lib.ListN.{length, getD, take, set, length-set}
 use lib.Seq.{slice, getD-set-same, getD-set-other, take-set-lt, drop-set-lt, set-getD, length-take-le, getD-take}
 use borrow.Author.Tests.{lt-ltb, le-ltb}
 use Rattle.model.specs.Lists.{sum}
@@ -18,7 +18,7 @@ use Rattle.run_laws.proofs.Held.{first-place-suc, place-before, stored-before}
 use Rattle.loop_laws.specs.Passes.{of, step}
 use Rattle.loop_laws.specs.Sweeps.{source, Ringed, wordAt, getsOn, PutOn, Turns, Turned}
 use Rattle.loop_laws.proofs.FlowLaws.{step-is, place-is}
-use Rattle.loop_laws.proofs.SweepLaws.{turn-wanted, turn-went, turn-stayed, limit-inner, Sweeping, sweeping-start, sweeping-step, sweeping-end}
+use Rattle.loop_laws.proofs.SweepLaws.{turn-went, limit-inner, Sweeping, sweeping-start, sweeping-step, sweeping-end}
 use Rattle.loop_laws.proofs.StoredLaws.{stored-past, stored-at, stored-last}
 
 -- ---- the word of a filter
@@ -323,34 +323,28 @@ module _ (c : ℕ → ℕ) (n cells word : ℕ) (wants bases tops caps ps₀ put
       up = s .up;
     }
 
-    -- The same, as the loop's body meets it: filter k - 1 has its turn. It is presented its wanted cell,
-    pub turning-rests : (ps puts gets store : List ℕ) (moved : Bool) (k : ℕ) → 0 < k → Turning ps puts gets store moved k → getD ps (k - 1) 0 ≡ getD wants (k - 1) 0
-        → Turning ps puts gets store moved (k - 1)
-    turning-rests ps puts gets store moved k some s e =
-        let one : k ≡ suc (k - 1) = omega arith in
-        turning-stays ps puts gets store moved (k - 1) (rw one at s)
-        (sym (turn-wanted (source cells ps (k - 1)) (getD wants (k - 1) 0) (limit (of caps) (k - 1) (getD ps (k - 1) 0) (slice (suc (k - 1)) n ps)) (getD ps (k - 1) 0) e))
-
-    -- or not.
-    module _ (ps puts gets store : List ℕ) (moved : Bool) (k src b next : ℕ) (some : 0 < k) (s : Turning ps puts gets store moved k) (es : src ≡ source cells ps (k - 1))
-        (eb : b ≡ limit (of caps) (k - 1) (getD ps (k - 1) 0) (slice (suc (k - 1)) n ps)) (en : next ≡ turn src (getD wants (k - 1) 0) b (getD ps (k - 1) 0)) where
+    -- The same, as the loop's body meets it: filter k - 1 goes g cells on.
+    module _ (ps puts gets store : List ℕ) (moved : Bool) (k g : ℕ) (some : 0 < k) (s : Turning ps puts gets store moved k)
+        (own : turn (source cells ps (k - 1)) (getD wants (k - 1) 0) (limit (of caps) (k - 1) (getD ps (k - 1) 0) (slice (suc (k - 1)) n ps)) (getD ps (k - 1) 0) ≡ getD ps (k - 1) 0 + g) where
       one : k ≡ suc (k - 1)
       one = omega arith
 
       s′ : Turning ps puts gets store moved (suc (k - 1))
       s′ = rw one at s
 
-      turn-is : next ≡ turn (source cells ps (k - 1)) (getD wants (k - 1) 0) (limit (of caps) (k - 1) (getD ps (k - 1) 0) (slice (suc (k - 1)) n ps)) (getD ps (k - 1) 0)
-      turn-is = rw (es, eb) at en
+      pub turning-rests : g ≡ 0 → Turning ps puts gets store moved (k - 1)
+      turning-rests z = turning-stays ps puts gets store moved (k - 1) s′ (own ∙ omega arith)
 
-      pub turning-skips : next ≤ getD ps (k - 1) 0 → Turning ps puts gets store moved (k - 1)
-      turning-skips h =
-          turning-stays ps puts gets store moved (k - 1) s′
-          (turn-stayed (source cells ps (k - 1)) (getD wants (k - 1) 0) (limit (of caps) (k - 1) (getD ps (k - 1) 0) (slice (suc (k - 1)) n ps)) (getD ps (k - 1) 0) (rw turn-is at h))
-
-      module _ (up : getD ps (k - 1) 0 < next) where
-        went : (turn src (getD wants (k - 1) 0) b (getD ps (k - 1) 0) ≡ suc (getD ps (k - 1) 0)) × (getD ps (k - 1) 0 < src) × (getD ps (k - 1) 0 < b)
-        went = turn-went src (getD wants (k - 1) 0) b (getD ps (k - 1) 0) (rw en at up)
+      module _ (up : g ≡ 0 → ⊥) where
+        went : (turn (source cells ps (k - 1)) (getD wants (k - 1) 0) (limit (of caps) (k - 1) (getD ps (k - 1) 0) (slice (suc (k - 1)) n ps)) (getD ps (k - 1) 0) ≡ suc (getD ps (k - 1) 0))
+            × (getD ps (k - 1) 0 < source cells ps (k - 1)) × (getD ps (k - 1) 0 < limit (of caps) (k - 1) (getD ps (k - 1) 0) (slice (suc (k - 1)) n ps))
+        went =
+            let more : 0 < g = positive g up in
+            turn-went (source cells ps (k - 1)) (getD wants (k - 1) 0) (limit (of caps) (k - 1) (getD ps (k - 1) 0) (slice (suc (k - 1)) n ps)) (getD ps (k - 1) 0) (omega (arith, own))
+          where
+            positive : (x : ℕ) → (x ≡ 0 → ⊥) → 0 < x
+            positive zero h = absurd (h refl)
+            positive (suc x) h = omega arith
 
         -- Where its word is read, and where it goes, are places of the store.
         pub reads-within : (k - 1 ≡ 0 → ⊥) → getD gets (k - 1 - 1) 0 < length store
@@ -360,7 +354,7 @@ module _ (c : ℕ → ℕ) (n cells word : ℕ) (wants bases tops caps ps₀ put
             let y = source-suc cells ps (k - 1 - 1) (k - 1) i in
             let x = went in
             let q : getD ps (suc (k - 1 - 1)) 0 ≡ getD ps (k - 1) 0 = ap (λ (m : ℕ). getD ps m 0) i in
-            let cp : 0 < getD caps (k - 1 - 1) 0 = omega (arith, x .1, es, s .fits (k - 1 - 1) h .1) in
+            let cp : 0 < getD caps (k - 1 - 1) 0 = omega (arith, x .1, s .fits (k - 1 - 1) h .1) in
             omega (arith, s .rings (k - 1 - 1) h cp .1, mod-lt (getD ps (suc (k - 1 - 1)) 0) cp, T .within (k - 1 - 1) h, s .store-length)
 
         pub goes-within : k - 1 + 1 < n → getD puts (k - 1) 0 < length store
@@ -368,12 +362,11 @@ module _ (c : ℕ → ℕ) (n cells word : ℕ) (wants bases tops caps ps₀ put
             let h : suc (k - 1) < n = omega arith in
             let x = went in
             let lim = inner-limit ps puts gets store moved (k - 1) s′ h in
-            let cp : 0 < getD caps (k - 1) 0 = omega (arith, x .2, eb, s .fits (k - 1) h .0) in
+            let cp : 0 < getD caps (k - 1) 0 = omega (arith, x .2, s .fits (k - 1) h .0) in
             omega (arith, s .rings (k - 1) h cp .0, mod-lt (getD ps (k - 1) 0) cp, T .within (k - 1) h, s .store-length)
 
         pub turning-goes : (puts′ gets′ store′ : List ℕ) (x : ℕ) → x ≡ wordAt (k - 1) word gets store → gets′ ≡ getsOn (k - 1) bases tops gets
-            → PutOn n (k - 1) x bases tops puts puts′ store store′ → Turning (set ps (k - 1) next) puts′ gets′ store′ true (k - 1)
+            → PutOn n (k - 1) x bases tops puts puts′ store store′ → Turning (set ps (k - 1) (getD ps (k - 1) 0 + 1)) puts′ gets′ store′ true (k - 1)
         turning-goes puts′ gets′ store′ x ex eg po =
             let w = went in
-            let e : next ≡ suc (getD ps (k - 1) 0) = en ∙ w .0 in
-            rw e (turning-moves ps puts gets store moved (k - 1) s′ puts′ gets′ store′ x (sym turn-is ∙ e) (rw es at (w .1)) (rw eb at (w .2)) ex eg po)
+            rw add-one (turning-moves ps puts gets store moved (k - 1) s′ puts′ gets′ store′ x (w .0) (w .1) (w .2) ex eg po)

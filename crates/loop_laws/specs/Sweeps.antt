@@ -1,19 +1,23 @@
 -- A clock without firing, as tables have it: the splitters' turns from the last to the first, each with its word.
-use Prim.Native.Nat.{ℕ, zero, suc, _+_, _%_, _≤_, _<_}
-use mathlib.Core.Bool.{Bool, true, false}
+use Prim.Native.Nat.{ℕ, zero, suc, _+_, _*_, _%_, _≤_, _<_}
+use mathlib.Core.Bool.{Bool, true, false, cond}
 use mathlib.Core.List.{List, _++_}
 use mathlib.Core.Path.{_≡_}
+use lib.Dec.{ltb}
 use lib.ListN.{length, getD, drop, set}
 use lib.Seq.{slice}
 use Rattle.model.specs.Lists.{sum}
-use Rattle.model.specs.Clock.{turns}
+use Rattle.model.specs.Clock.{turn, turns}
 use Rattle.model.specs.Store.{stored}
 use Rattle.loop_laws.specs.Passes.{of, step, Places}
 
--- What filter k is presented ends here: at the cells' count, or where the filter before it is.
+-- What filter k is presented ends here, where the filters stand at f: at the cells' count, or where the filter before it is.
+abbrev pub before : (cells : ℕ) (f : ℕ → ℕ) → ℕ → ℕ
+before cells f zero = cells
+before cells f (suc k) = f k
+
 unfoldable pub source : (cells : ℕ) → List ℕ → ℕ → ℕ
-source cells ps zero = cells
-source cells ps (suc k) = getD ps k 0
+source cells ps k = before cells (of ps) k
 
 -- The counters after the splitters' turns: those past n as they were.
 unfoldable pub swept : (wants caps ps : List ℕ) (n cells : ℕ) → List ℕ
@@ -66,3 +70,66 @@ pub record Turned (c : ℕ → ℕ) (n cells word : ℕ) (wants bases caps ps ps
 -- Each FIFO holds as many cells as its two references are apart, and one at least.
 abbrev pub Lined : (n : ℕ) (at ps : List ℕ) → Type 0
 Lined n at ps = (k : ℕ) → k + 1 < n → (getD ps (k + 1) 0 < getD ps k 0) × (getD ps k 0 + getD at (k + 1) 0 ≡ getD ps (k + 1) 0 + getD at k 0)
+
+-- ---- the same filters move clock after clock
+
+-- The first cell for which filter k, of n, has no place behind it: the filter there is at q after its turn; the last needs no place.
+unfoldable pub roomFor : (n k cap p q : ℕ) → ℕ
+roomFor n k cap p q = cond (ltb (suc k) n) (q + cap) (suc p)
+
+module _ (n cells : ℕ) (w c g : ℕ → ℕ) where
+  -- In a clock without firing filter k, which stands at f k, goes g k cells on.
+  abbrev pub Goes : (ℕ → ℕ) → Type 0
+  Goes f = (k : ℕ) → k < n → f k + g k ≡ turn (before cells f k) (w k) (roomFor n k (c k) (f k) (f (suc k) + g (suc k))) (f k)
+
+  -- So it does in each of t clocks.
+  abbrev pub Again : (ℕ → ℕ) → ℕ → Type 0
+  Again f t = (i : ℕ) → i < t → Goes (λ k. f k + i * g k)
+
+-- So many of n filters move: none, or there is one.
+pub record Movers (n : ℕ) (goes : List ℕ) (count : ℕ) : Type 0 where
+  pub none : count ≡ 0 → (k : ℕ) → k < n → getD goes k 0 ≡ 0
+  pub one : 0 < count → (k : ℕ) × (k < n) × (0 < getD goes k 0)
+
+-- Of one filter at p: it goes g cells on in each of t clocks, where its source, at s, goes sg on, and the first cell without a place, b before the clock, goes bg on.
+abbrev pub Keeps : (g p w s sg b bg t : ℕ) → Type 0
+Keeps g p w s sg b bg t = (i : ℕ) → i < t → p + i * g + g ≡ turn (s + i * sg) w (b + i * bg + bg) (p + i * g)
+
+-- What filter k's source does, where the stream stays at its end,
+abbrev pub goesBefore : (g : ℕ → ℕ) → ℕ → ℕ
+goesBefore g zero = 0
+goesBefore g (suc k) = g k
+
+-- and the first cell without a place behind filter k, before the clock and as it goes on in it: behind the last there is always one.
+unfoldable pub roomAt : (n k cap p q : ℕ) → ℕ
+roomAt n k cap p q = cond (ltb (suc k) n) (q + cap) p
+
+unfoldable pub roomGoes : (n k q : ℕ) → ℕ
+roomGoes n k q = cond (ltb (suc k) n) q 1
+
+-- Filter k, of those that stand at f, keeps to what it does.
+abbrev pub KeepsAt : (n cells : ℕ) (w c g f : ℕ → ℕ) (t k : ℕ) → Type 0
+KeepsAt n cells w c g f t k = Keeps (g k) (f k) (w k) (before cells f k) (goesBefore g k) (roomAt n k (c k) (f k) (f (suc k))) (roomGoes n k (g (suc k))) t
+
+-- No filter is past the cell that it wants or past its source, and no FIFO is over its capacity.
+pub record InPlace (n cells : ℕ) (w c f : ℕ → ℕ) : Type 0 where
+  pub wanted : (k : ℕ) → k < n → f k ≤ w k
+  pub sourced : (k : ℕ) → k < n → f k ≤ before cells f k
+  pub fits : (k : ℕ) → suc k < n → f k ≤ f (suc k) + c k
+
+-- ---- a clock by the filters that move
+
+-- What it is handed: some tables whose clock it is.
+pub record Going (n : ℕ) (goes bases tops ps puts gets store : List ℕ) : Type 0 where
+  pub capacity : ℕ → ℕ
+  pub cells : ℕ
+  pub wants : List ℕ
+  pub caps : List ℕ
+  pub turns : Turns capacity n bases tops caps ps puts gets store
+  pub each : Goes n cells (of wants) (of caps) (of goes) (of ps)
+
+-- What it leaves.
+pub record Gone (c : ℕ → ℕ) (n cells word : ℕ) (wants bases caps goes ps ps′ puts′ gets′ store store′ : List ℕ) : Type 0 where
+  pub moved : Bool
+  pub turned : Turned c n cells word wants bases caps ps ps′ puts′ gets′ store store′ moved
+  pub on : (k : ℕ) → k < n → getD ps′ k 0 ≡ getD ps k 0 + getD goes k 0

@@ -1,8 +1,8 @@
 -- Kernels whose terms stand in chain order: raw writes the words as they are, and the words added are those of all references, or of all but the centre.
 use Prim.Native.Nat.{ℕ, zero, suc, _+_, _-_, _<_, _≤_}
 use mathlib.Core.Bool.{Bool, true, false}
-use mathlib.Core.List.{List, [], _∷_, _++_, map}
-use mathlib.Core.Path.{_≡_, refl, sym, ap, _∙_}
+use mathlib.Core.List.{List, [], _∷_, _++_}
+use mathlib.Core.Path.{_≡_, refl, sym, _∙_}
 use native.Mathlib.Decide.{decLt}
 use native.Mathlib.Omega.{arith}
 use lib.Dec.{eqb}
@@ -11,12 +11,7 @@ use lib.Seq.{drop-cons, take-nil, drop-nil}
 use borrow.Author.Tests.{eqb-true, eqb-false}
 use Rattle.model.specs.Lists.{tabulate, upTo, without}
 use Rattle.model.specs.Kernels.{wordsAt}
-use Rattle.model.proofs.ListLaws.{tabulate-back}
-
-map-tabulate : {A B : Type 0} (h : A → B) (n : ℕ) (f : ℕ → A) → map h (tabulate n f) ≡ tabulate n (λ i. h (f i))
-unfolding tabulate
-map-tabulate h zero f = refl
-map-tabulate h (suc n) f = ap (_∷_ (h (f 0))) (map-tabulate h n (λ i. f (suc i)))
+use Rattle.model.proofs.ListLaws.{map-tabulate, tabulate-back}
 
 pub words-of-all : (ws : List ℕ) (n : ℕ) → length ws ≡ n → wordsAt (upTo n) ws ≡ ws
 unfolding wordsAt upTo

@@ -8,11 +8,7 @@ use Rattle.model.specs.Lists.{tabulate}
 use Rattle.model.specs.Frames.{rowNumbers}
 use Rattle.model.specs.Numbers.{halfAt, halvesOf}
 use Rattle.model.specs.Reading.{numbersOn}
-
-same-entries : (n : ℕ) (f g : ℕ → ℕ) → ((i : ℕ) → f i ≡ g i) → tabulate n f ≡ tabulate n g
-unfolding tabulate
-same-entries zero f g h = refl
-same-entries (suc n) f g h = ap₂ _∷_ (h 0) (same-entries n (λ i. f (suc i)) (λ i. g (suc i)) (λ i. h (suc i)))
+use Rattle.model.proofs.ListLaws.{tabulate-same}
 
 -- Behind two bytes the numbers are those of the rest, and behind one alone there are none.
 half-rest : (a b : ℕ) (y : List ℕ) (i : ℕ) → halfAt (a ∷ b ∷ y) (2 * suc i) ≡ halfAt y (2 * i)
@@ -45,10 +41,10 @@ halves-table zero m y h = refl
 halves-table (suc n) zero y h = absurd (omega (arith, h))
 halves-table (suc n) (suc m) [] h = zeros (suc n) (suc m) h
 halves-table (suc n) (suc m) (a ∷ []) h =
-    ap₂ _∷_ (half-alone a) (zeros n (suc m) (omega (arith, h)) ∙ same-entries n (λ i. 0) (λ i. halfAt (a ∷ []) (2 * suc i)) (λ i. sym (half-last a i)))
+    ap₂ _∷_ (half-alone a) (zeros n (suc m) (omega (arith, h)) ∙ tabulate-same n (λ i. 0) (λ i. halfAt (a ∷ []) (2 * suc i)) (λ i _. sym (half-last a i)))
 halves-table (suc n) (suc m) (a ∷ b ∷ y) h =
     ap (λ l. (a * 256 + b) ∷ l)
-    (halves-table n (suc m) y (omega (arith, h)) ∙ same-entries n (λ i. halfAt y (2 * i)) (λ i. halfAt (a ∷ b ∷ y) (2 * suc i)) (λ i. sym (half-rest a b y i)))
+    (halves-table n (suc m) y (omega (arith, h)) ∙ tabulate-same n (λ i. halfAt y (2 * i)) (λ i. halfAt (a ∷ b ∷ y) (2 * suc i)) (λ i _. sym (half-rest a b y i)))
 
 -- Behind the first three bytes.
 behind : (x : List ℕ) (i : ℕ) → getD (drop 3 x) i 0 ≡ getD x (3 + i) 0
@@ -67,4 +63,4 @@ pub numbers-table : (x : List ℕ) → numbersOn x ≡ tabulate rowNumbers (λ i
 unfolding numbersOn
 numbers-table x =
     halves-table rowNumbers rowNumbers (drop 3 x) (omega arith)
-    ∙ same-entries rowNumbers (λ i. halfAt (drop 3 x) (2 * i)) (λ i. halfAt x (3 + 2 * i)) (λ i. half-behind x (2 * i))
+    ∙ tabulate-same rowNumbers (λ i. halfAt (drop 3 x) (2 * i)) (λ i. halfAt x (3 + 2 * i)) (λ i _. half-behind x (2 * i))

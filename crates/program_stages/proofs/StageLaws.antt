@@ -19,7 +19,6 @@ use Rattle.model.specs.Answers.{starvedByte}
 use Rattle.model.specs.Judging.{judgeChain}
 use Rattle.model.specs.Reading.{complete}
 use Rattle.program_stages.specs.declared.Job.{Job}
-use Rattle.program_stages.specs.declared.Stage.{Stage}
 use Rattle.program_stages.specs.declared.Stage.the-variants as stage
 use Rattle.program_stages.specs.Stages.{staged, sheetStage, cellsStage, closedBy, closed, afterRead, wantsBy, wantsInput}
 

@@ -11,8 +11,8 @@ use Rattle.model.specs.Lists.{tabulate, greatest}
 use Rattle.model.specs.Grounds.{Row, row, cellsAbove}
 use Rattle.model.specs.Judging.{mostCells}
 use Rattle.model.specs.Iterations.{firstsFrom}
+use Rattle.model.proofs.ListLaws.{tabulate-same}
 use Rattle.geometry.specs.Parts.{numberAt, Filled}
-use Rattle.geometry.proofs.PartLaws.{tabulate-same}
 use Rattle.geometry.proofs.FillLaws.{filled-none}
 use Rattle.rows.specs.Courses.{looked, rowLength}
 use Rattle.rows.specs.declared.RowCourse.{RowCourse}

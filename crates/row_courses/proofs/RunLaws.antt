@@ -22,7 +22,7 @@ use Rattle.model.specs.Answers.{byVerdict}
 use Rattle.model.specs.Iterations.{firsts, positionOf, courseOf, iterationsOf, iterationOf, readsOf, distanceIn, distanceOf}
 use Rattle.model.specs.declared.Bounds.{Bounds}
 use Rattle.model.specs.declared.Window.{Window}
-use Rattle.model.proofs.ListLaws.{length-tabulate, getD-tabulate}
+use Rattle.model.proofs.ListLaws.{length-tabulate, getD-tabulate, tabulate-same}
 use Rattle.model.proofs.ChainLaws.{offsets-count}
 use Rattle.model.proofs.CheckLaws.{WindowPasses, window-passes, some-references, few-references}
 use Rattle.model.proofs.RowLaws.{Holds, row-there, above-all}
@@ -30,7 +30,6 @@ use Rattle.model.proofs.Iterations.{few-cells, below-cells}
 use Rattle.model.specs.declared.Refusal.{Refusal}
 use Rattle.model.specs.declared.Verdict.the-variants as verdict
 use Rattle.geometry.specs.Parts.{numberAt, Filled}
-use Rattle.geometry.proofs.PartLaws.{tabulate-same}
 use Rattle.rows.specs.Courses.{courseFor, looked, columnIn, rowLength}
 use Rattle.rows.specs.Surveys.{rowSurveyOf, Surveyed}
 use Rattle.rows.specs.declared.RowSurvey.{RowSurvey}

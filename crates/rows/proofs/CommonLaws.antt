@@ -17,10 +17,9 @@ use Rattle.model.specs.Courses.{smallest, rowsDown, columnsOn, rowRead, commonS
 use Rattle.model.specs.Values.{rowsOf}
 use Rattle.model.specs.Judging.{badRow, badRowCount, badRows}
 use Rattle.model.proofs.Tests.{neither}
-use Rattle.model.proofs.ListLaws.{getD-tabulate, tabulate-back, greatest-above}
+use Rattle.model.proofs.ListLaws.{getD-tabulate, tabulate-back, greatest-above, tabulate-same}
 use Rattle.model.proofs.RowIterations.{smallest-below}
 use Rattle.geometry.specs.Parts.{numberAt}
-use Rattle.geometry.proofs.PartLaws.{tabulate-same}
 use Rattle.rows.specs.Lent.{rowOf}
 use Rattle.rows.specs.Courses.{downs, ons, startIn, endIn, lengthIn, looked, columnIn, rowLength}
 use Rattle.rows.specs.declared.RowCourse.{RowCourse}

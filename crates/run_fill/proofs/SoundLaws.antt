@@ -1,7 +1,7 @@
 -- Tables that pass the test are those of some layout, and those of every layout pass it.
 use Prim.Native.Nat.{ℕ, zero, suc, _+_, _-_, _*_, _^_, _≤_, _<_}
 use mathlib.Core.List.{List, [], _∷_}
-use mathlib.Core.Path.{_≡_, refl, sym, _∙_, ap}
+use mathlib.Core.Path.{_≡_, refl, sym, _∙_}
 use native.Mathlib.Nat.{zero-add}
 use native.Mathlib.Numerals.{add-one}
 use native.Mathlib.Omega.{arith}
@@ -11,14 +11,13 @@ use lib.Seq.{slice, slice-cons, getD-take, length-take-le}
 use Rattle.model.specs.Lists.{sum, tabulate}
 use Rattle.model.specs.Clock.{Layout}
 use Rattle.model.specs.Store.{firstPlace}
-use Rattle.flow.specs.Machine.{Holds, Placed, Fits}
+use Rattle.flow.specs.Machine.{Holds, Fits}
 use Rattle.run_laws.proofs.Held.{first-place-suc}
 use Rattle.loop_laws.specs.Passes.{of}
 use Rattle.loop_laws.specs.Sweeps.{source, Ringed}
-use Rattle.loop_laws.specs.Standings.{counting}
-use Rattle.loop_laws.specs.Tables.{Tables, Stands, Fills}
+use Rattle.loop_laws.specs.Tables.{Fills}
 use Rattle.loop_laws.proofs.StoredLaws.{holds-below, holds-apart}
-use Rattle.run_fill.specs.Fills.{Placing, Fillable, GoodCounter, GoodRing, Counted, Housed, Sound, Handed}
+use Rattle.run_fill.specs.Fills.{Placing, GoodCounter, GoodRing, Sound, Handed}
 
 -- ---- one more entry
 

@@ -4,10 +4,9 @@ ghost use mathlib.Core.Path.{_≡_};
 ghost use mathlib.Core.Bool.{true, false};
 ghost use Prim.Native.Nat.{ℕ, suc, _+_, _-_, _*_, _%_, _<_, _≤_};
 ghost use lib.ListN.{length, getD};
-ghost use lib.Seq.{slice};
-ghost use Rattle.model.specs.Clock.{Layout, turn as turnOf, limit};
+ghost use Rattle.model.specs.Clock.{Layout, turn as turnOf};
 ghost use Rattle.loop_laws.specs.Passes.{of, step, FullFifos};
-ghost use Rattle.loop_laws.specs.Sweeps.{source, Lined, Ringed, wordAt, getsOn, PutOn, Turns, Turned};
+ghost use Rattle.loop_laws.specs.Sweeps.{source, Lined, Ringed, wordAt, getsOn, PutOn, Turns, roomFor, roomAt, roomGoes, Goes, Again, Movers, Keeps, InPlace, Going, Gone};
 ghost use Rattle.loop_laws.specs.Tables.{Fills};
 ghost use Rattle.run_fill.specs.Fills.{Placing, Fillable, FillsTo, GoodCounter, GoodRing, Counted, Housed, Sound, Handed, Left};
 
@@ -22,7 +21,7 @@ fn next_place(u: usize, base: usize, top: usize) -> usize
     u + 1
 }
 
-// ---- a clock without firing
+// ---- who moves in a clock without firing
 
 // How far a filter is after its turn.
 fn turn(src: usize, w: usize, b: usize, p: usize) -> usize
@@ -52,18 +51,150 @@ fn source_of(ps: &[usize; 32], k: usize, size: usize) -> usize
     ps[k - 1]
 }
 
-// The first position that filter k could not pass on for want of a place.
-fn limit_of(ps: &[usize; 32], caps: &[usize; 32], n: usize, k: usize) -> usize
-    requires { ⌜ (k < n) × (n ≤ 32) × (length (now ps) ≡ 32) ⌝ }
-    requires { ⌜ ((i : ℕ) → i < n → getD (now ps) i 0 ≤ 1048577) ⌝ }
+// The first position that filter k, at p, could not pass on for want of a place; the filter behind it is at q after its turn.
+fn room_for(n: usize, k: usize, cap: usize, p: usize, q: usize) -> usize
+    requires { ⌜ (k < 32) × (p ≤ 1048576) × (k + 1 < n → q + cap < 18446744073709551616) ⌝ }
+    ensures { λ r. ⌜ r ≡ roomFor n k cap p q ⌝ }
+{
+    if k + 1 < n {
+        return q + cap;
+    }
+    p + 1
+}
+
+// Which filters move in a clock without firing, looked at from the last to the first: `goes` has 1 for those that do, and 0 for the others. Tells how many they are.
+fn movers(
+    n: usize,
+    wants: &[usize; 32],
+    caps: &[usize; 32],
+    size: usize,
+    ps: &[usize; 32],
+    goes: &mut [usize; 32],
+) -> usize
+    requires { ⌜ (n ≤ 32) × (length (now goes) ≡ 32) ⌝ }
+    requires { ⌜ ((k : ℕ) → k < n → getD (now ps) k 0 ≤ 1048576) ⌝ }
+    requires { ⌜ ((k : ℕ) → suc k < n → getD (now caps) k 0 ≤ 16384) ⌝ }
+    ensures { λ r. ⌜ (length (now (goes .exit)) ≡ 32) × Goes n size (of (now (wants .entry))) (of (now (caps .entry))) (of (now (goes .exit))) (of (now (ps .entry)))
+        × Movers n (now (goes .exit)) r ⌝ }
+{
+    let mut count = 0;
+    let mut behind = 0;
+    let mut k = n;
+    while 0 < k {
+        k -= 1;
+        let p = ps[k];
+        let src = source_of(ps, k, size);
+        let b = room_for(n, k, caps[k], p, behind);
+        let next = turn(src, wants[k], b, p);
+        let g = next - p;
+        goes[k] = g;
+        count += g;
+        behind = next;
+    }
+    count
+}
+
+// ---- how long they do
+
+// No more than t, and where g is 0 no more than d.
+fn bounded(t: usize, g: usize, d: usize) -> usize
+    ensures { λ r. ⌜ (r ≤ t) × (g ≡ 0 → r ≤ d) × (0 < t → (g ≡ 0 → 0 < d) → 0 < r) ⌝ }
+{
+    if g == 0 {
+        return values::lesser(t, d);
+    }
+    t
+}
+
+// For how many clocks, at most `most`, a filter at p keeps to what it does: it goes g cells on in a clock. It wants cell w; its source is at s and goes sg on, the first position without a place is b before the clock and goes bg on.
+fn keeps(
+    g: usize,
+    p: usize,
+    w: usize,
+    s: usize,
+    sg: usize,
+    b: usize,
+    bg: usize,
+    most: usize,
+) -> usize
+    requires { ⌜ (p ≤ w) × (p ≤ s) × (p ≤ b) ⌝ }
+    ensures { λ r. ⌜ (sg ≤ 1 → bg ≤ 1 → p + g ≡ turnOf s w (b + bg) p → 0 < most → (0 < r) × (r ≤ most) × Keeps g p w s sg b bg r) ⌝ }
+{
+    if g == 0 {
+        if p == w {
+            return most;
+        }
+        if sg == 0 {
+            return most;
+        }
+        if p < s {
+            return most;
+        }
+        return 1;
+    }
+    let t = values::lesser(most, w - p);
+    let u = bounded(t, sg, s - p);
+    bounded(u, bg, b - p)
+}
+
+// The first position that filter k could not pass on before the clock; the last filter's is its own.
+fn room_at(ps: &[usize; 32], caps: &[usize; 32], n: usize, k: usize) -> usize
+    requires { ⌜ (k < n) × (n ≤ 32) ⌝ }
+    requires { ⌜ ((i : ℕ) → i < n → getD (now ps) i 0 ≤ 1048576) ⌝ }
     requires { ⌜ ((i : ℕ) → suc i < n → getD (now caps) i 0 ≤ 16384) ⌝ }
-    ensures { λ r. ⌜ r ≡ limit (of (now (caps .entry))) k (getD (now (ps .entry)) k 0) (slice (suc k) n (now (ps .entry))) ⌝ }
+    ensures { λ r. ⌜ r ≡ roomAt n k (getD (now (caps .entry)) k 0) (getD (now (ps .entry)) k 0) (getD (now (ps .entry)) (suc k) 0) ⌝ }
 {
     if k + 1 < n {
         return ps[k + 1] + caps[k];
     }
-    ps[k] + 1
+    ps[k]
 }
+
+// How far it goes on.
+fn room_goes(goes: &[usize; 32], n: usize, k: usize) -> usize
+    requires { ⌜ (k < n) × (n ≤ 32) ⌝ }
+    ensures { λ r. ⌜ r ≡ roomGoes n k (getD (now (goes .entry)) (suc k) 0) ⌝ }
+{
+    if k + 1 < n {
+        return goes[k + 1];
+    }
+    1
+}
+
+// For how many clocks, at most `most`, the same filters move.
+fn span(
+    n: usize,
+    wants: &[usize; 32],
+    caps: &[usize; 32],
+    size: usize,
+    ps: &[usize; 32],
+    goes: &[usize; 32],
+    most: usize,
+) -> usize
+    requires { ⌜ (n ≤ 32) × InPlace n size (of (now wants)) (of (now caps)) (of (now ps)) ⌝ }
+    requires { ⌜ ((k : ℕ) → k < n → getD (now ps) k 0 ≤ 1048576) ⌝ }
+    requires { ⌜ ((k : ℕ) → suc k < n → getD (now caps) k 0 ≤ 16384) ⌝ }
+    ensures { λ r. ⌜ (Goes n size (of (now (wants .entry))) (of (now (caps .entry))) (of (now (goes .entry))) (of (now (ps .entry))) → 0 < most
+        → (0 < r) × (r ≤ most) × Again n size (of (now (wants .entry))) (of (now (caps .entry))) (of (now (goes .entry))) (of (now (ps .entry))) r) ⌝ }
+{
+    let mut t = most;
+    let mut s = size;
+    let mut sg = 0;
+    let mut k = 0;
+    while k < n {
+        let p = ps[k];
+        let g = goes[k];
+        let b = room_at(ps, caps, n, k);
+        let bg = room_goes(goes, n, k);
+        t = keeps(g, p, wants[k], s, sg, b, bg, t);
+        s = p;
+        sg = g;
+        k += 1;
+    }
+    t
+}
+
+// ---- a clock without firing
 
 // The word that filter k is presented; the head of the FIFO before it is then its next cell.
 fn word_for(
@@ -107,45 +238,34 @@ fn put_on(
     puts[k] = next_place(u, bases[k], tops[k]);
 }
 
-// The splitters' turns in a clock without firing, from the last to the first: `word` is the cell that filter 0 is presented. Tells whether a filter moved.
-fn turns(
+// A clock without firing: the filters of `goes` move, from the last to the first; `word` is the cell that filter 0 is presented.
+fn go(
     n: usize,
-    wants: &[usize; 32],
-    caps: &[usize; 32],
+    goes: &[usize; 32],
     bases: &[usize; 32],
     tops: &[usize; 32],
-    size: usize,
     word: u32,
     ps: &mut [usize; 32],
     puts: &mut [usize; 32],
     gets: &mut [usize; 32],
     store: &mut [u32],
-) -> bool
-    requires { ⌜ ((c : ℕ → ℕ) × Turns c n (now bases) (now tops) (now caps) (now ps) (now puts) (now gets) (now store)) ⌝ }
-    ensures { λ r. ⌜ ((c : ℕ → ℕ) → Turns c n (now (bases .entry)) (now (tops .entry)) (now (caps .entry)) (now (ps .entry)) (now (puts .entry)) (now (gets .entry)) (now (store .entry))
-        → Turned c n size word (now (wants .entry)) (now (bases .entry)) (now (caps .entry)) (now (ps .entry)) (now (ps .exit)) (now (puts .exit)) (now (gets .exit)) (now (store .entry)) (now (store .exit)) r) ⌝ }
+)
+    requires { ⌜ Going n (now goes) (now bases) (now tops) (now ps) (now puts) (now gets) (now store) ⌝ }
+    ensures { λ _. ⌜ ((c : ℕ → ℕ) (cells : ℕ) (wants caps : List ℕ) → Turns c n (now (bases .entry)) (now (tops .entry)) caps (now (ps .entry)) (now (puts .entry)) (now (gets .entry)) (now (store .entry))
+        → Goes n cells (of wants) (of caps) (of (now (goes .entry))) (of (now (ps .entry)))
+        → Gone c n cells word wants (now (bases .entry)) caps (now (goes .entry)) (now (ps .entry)) (now (ps .exit)) (now (puts .exit)) (now (gets .exit)) (now (store .entry)) (now (store .exit))) ⌝ }
 {
-    let mut moved = false;
     let mut k = n;
     while 0 < k {
         k -= 1;
-        let p = ps[k];
-        let w = wants[k];
-        if p == w {
-            continue;
-        }
-        let src = source_of(ps, k, size);
-        let b = limit_of(ps, caps, n, k);
-        let next = turn(src, w, b, p);
-        if next <= p {
+        if goes[k] == 0 {
             continue;
         }
         let x = word_for(k, word, bases, tops, gets, store);
         put_on(n, k, x, bases, tops, puts, store);
-        ps[k] = next;
-        moved = true;
+        let p = ps[k];
+        ps[k] = p + 1;
     }
-    moved
 }
 
 // ---- the clocks before the filters are aligned
@@ -188,6 +308,16 @@ struct Stopped {
     clocks: usize,
 }
 
+// How many clocks can be made, where filter 0 takes `first` cells in each.
+fn reach(first: usize, cells: usize, allowance: usize) -> usize
+    ensures { λ r. ⌜ (0 < cells → 0 < allowance → 0 < r) × (r ≤ allowance) × ((first ≡ 0 → ⊥) → r ≤ cells) ⌝ }
+{
+    if first == 0 {
+        return allowance;
+    }
+    values::lesser(cells, allowance)
+}
+
 // The clocks of a call up to the first whose filters are aligned: none of them fires, since a firing finds the filters aligned.
 fn until_aligned(
     n: usize,
@@ -226,28 +356,34 @@ fn until_aligned(
                 clocks,
             };
         }
-        let before = passed[0];
-        if !turns(
-            n,
-            wants,
-            caps,
-            bases,
-            tops,
-            size,
-            cells[taken],
-            passed,
-            puts,
-            gets,
-            store,
-        ) {
+        let mut goes = [0usize; 32];
+        if movers(n, wants, caps, size, passed, &mut goes) == 0 {
             return Stopped {
                 how: Stop::Stalled,
                 taken,
                 clocks,
             };
         }
-        taken += passed[0] - before;
-        clocks += 1;
+        let first = goes[0];
+        let most = reach(first, cells.len() - taken, allowance - clocks);
+        let t = span(n, wants, caps, size, passed, &goes, most);
+        let mut i = 0;
+        while i < t {
+            go(
+                n,
+                &goes,
+                bases,
+                tops,
+                cells[taken],
+                passed,
+                puts,
+                gets,
+                store,
+            );
+            taken += first;
+            i += 1;
+        }
+        clocks += t;
     }
     Stopped {
         how: Stop::Spent,

@@ -12,7 +12,7 @@ use Rattle.model.specs.Clock.{Layout, first, fires, next}
 use Rattle.model.specs.Store.{firstPlace, presented, stored}
 use Rattle.model.specs.Running.{Standing, Ending, goes, Ended, words, clocked, call, events}
 use Rattle.model.specs.CallLists.{firingsAmong}
-use Rattle.model.proofs.ListLaws.{length-tabulate}
+use Rattle.model.proofs.ListLaws.{length-tabulate, map-tabulate}
 use Rattle.flow.specs.Machine.{Lawful, Holds, Invariant, Ready}
 use Rattle.flow.proofs.Tests.{fires-yes, yes-live}
 use Rattle.flow.proofs.Invariant.{next-invariant}
@@ -107,11 +107,6 @@ module _ (L : Layout) (lawful : Lawful L) (write : List ℕ → List ℕ) (size 
   presented-firing x store [] f i r h e = refl
   presented-firing x store (p ∷ ps) f i r h e = presented-words capacity stream L f 0 x cells p store ps r h e
 
-  map-tabulate : (n : ℕ) (g : ℕ → ℕ) → map stream (tabulate n g) ≡ tabulate n (λ k. stream (g k))
-  unfolding tabulate
-  map-tabulate zero g = refl
-  map-tabulate (suc n) g = ap (λ (l : List ℕ). stream (g zero) ∷ l) (map-tabulate n (λ i. g (suc i)))
-
   pub firing-words : (s : Standing) → Sound s → s .done .cells < length lent → fires L (s .counters) ≡ true
       → words L write size lent s ≡ tabulate filters (λ k. stream (wants (s .counters .fired) k))
   unfolding words
@@ -121,7 +116,7 @@ module _ (L : Layout) (lawful : Lawful L) (write : List ℕ → List ℕ) (size 
       let ps = s .counters .passed in
       presented-firing _ (s .store) ps f (h .invariant .all) r (h .held) (next-cell s h l)
       ∙ ap (λ (qs : List ℕ). map stream qs) (ready-at L f 0 cells ps r)
-      ∙ map-tabulate (length ps) (λ i. wants f (0 + i))
+      ∙ map-tabulate stream (length ps) (λ i. wants f (0 + i))
       ∙ same f (length ps) (holds-length L f 0 cells ps (h .invariant .all))
     where
       same : (f n : ℕ) → 0 + n ≡ filters → tabulate n (λ k. stream (wants f (0 + k))) ≡ tabulate filters (λ k. stream (wants f k))

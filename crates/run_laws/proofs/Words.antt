@@ -2,17 +2,17 @@
 use Prim.Native.Nat.{ℕ, zero, suc, _+_, _*_, _≤_}
 use mathlib.Core.Bool.{Bool, false}
 use mathlib.Core.List.{List, _++_}
-use mathlib.Core.Path.{_≡_, refl, sym, _∙_, ap, ap₂, fun-ext}
+use mathlib.Core.Path.{_≡_, refl, sym, _∙_, ap, ap₂}
 use native.Mathlib.Nat.{zero-add, zero-mul}
 use native.Mathlib.Omega.{arith}
 use lib.ListN.{length, take, drop}
-use Rattle.model.specs.Lists.{tabulate}
 use Rattle.model.specs.Iterations.{iterationsOf}
 use Rattle.model.specs.Clock.{first}
 use Rattle.model.specs.Running.{layout, shortStore, begun, writtenBy, widthOf, Run}
 use Rattle.model.specs.CallLists.{Lending, Between, lentCells, callRun, callEvents, after, firingsAmong}
 use Rattle.model.specs.Reports.{firingsOf}
 use Rattle.model.specs.Words.{wordsOf, wordsFrom}
+use Rattle.model.proofs.ListLaws.{tabulate-same}
 use Rattle.run_laws.proofs.Layouts.{lawful, wants-read}
 use Rattle.run_laws.proofs.Traces.{traced-fired}
 use Rattle.run_laws.proofs.Calls.{firingWords, Wrote, wrote}
@@ -23,9 +23,6 @@ use Rattle.run_laws.proofs.CallSums.{firings-append}
 
 module _ (S : Setting) where
   open Setting S using (trimmed as t, proper as p, accepted as a, stream)
-
-  tabulate-same : (n : ℕ) (f g : ℕ → ℕ) → ((k : ℕ) → f k ≡ g k) → tabulate n f ≡ tabulate n g
-  tabulate-same n f g e = ap (λ (h : ℕ → ℕ). tabulate n h) (fun-ext e)
 
   module _ (l : Lending) (b : Between) {es : List Bool} (r : Reached S b es) where
     -- The words of the call's firings, by the chain's layout;
@@ -39,7 +36,7 @@ module _ (S : Setting) where
     unfolding call.wordsFrom firingWords wordsFrom wordsOf layout
     same-words j zero h = refl
     same-words j (suc n) h =
-        ap₂ (λ (x y : List ℕ). x ++ y) (ap (writtenBy t) (tabulate-same (t .count) _ _ (λ k. ap stream (wants-read t p a j k (omega arith))))) (same-words (suc j) n (omega arith))
+        ap₂ (λ (x y : List ℕ). x ++ y) (ap (writtenBy t) (tabulate-same (t .count) _ _ (λ k _. ap stream (wants-read t p a j k (omega arith))))) (same-words (suc j) n (omega arith))
 
     all-wrote : shortStore t (take (l .front) (b .store)) ≡ false
         → Wrote (layout t) (lawful t p a) (writtenBy t) (widthOf t) (lentCells t stream l b) stream (first (now S b .passed)) (lent-words S l b) (width-right S)

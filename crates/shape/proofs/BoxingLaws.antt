@@ -36,7 +36,7 @@ use Rattle.model.specs.declared.Window.{Window}
 use Rattle.model.specs.Sized.{Bounded, Suits}
 use Rattle.model.proofs.Rectangles as rectangle
 use Rattle.model.proofs.Tests.{neither}
-use Rattle.model.proofs.ListLaws.{length-tabulate, getD-tabulate}
+use Rattle.model.proofs.ListLaws.{length-tabulate, getD-tabulate, tabulate-same, map-tabulate}
 use Rattle.model.proofs.IntegerLaws.{sub-small, sub-large, above-back, sum-above, sum-at-least, leZ-trans, not-ltZ, leZ-ltZ, above-order, above-chain}
 use Rattle.model.proofs.PlaceLaws.{Below, AtLeast}
 use Rattle.model.proofs.PlaceLaws.AtLeast.{none, next}
@@ -46,7 +46,7 @@ use Rattle.model.proofs.RectangleBoxes.{within-fits, iteration-within, corners}
 use Rattle.model.proofs.RectangleCourses.{first-reads}
 use Rattle.model.proofs.Listed.{course-some, below-cells}
 use Rattle.geometry.specs.Parts.{part, numberAt, entryAt, entriesIn, Filled, Lows, Small}
-use Rattle.geometry.proofs.PartLaws.{tabulate-same, map-tabulate, part-all}
+use Rattle.geometry.proofs.PartLaws.{part-all}
 use Rattle.geometry.proofs.FillLaws.{filled-all}
 use Rattle.geometry.proofs.GridLaws.{few-dimensions, few-cells, some-references, few-references}
 use Rattle.shape.specs.Shapes.{stride, shapeFor, unsurveyedOf, surveyOf, Whole}

@@ -6,9 +6,10 @@ use native.Mathlib.Nat.{mul-comm, mul-le-mul, mul-le-mul-right}
 use native.Mathlib.Omega.{arith}
 use Rattle.model.specs.Lists.{tabulate, sum, product}
 use Rattle.model.specs.Geometry.{cellCount, place}
+use Rattle.model.proofs.ListLaws.{tabulate-same}
 use Rattle.geometry.specs.Parts.{part}
 use Rattle.shape.specs.Shapes.{stride}
-use Rattle.geometry.proofs.PartLaws.{tabulate-same, part-none, part-more, part-all, part-shift}
+use Rattle.geometry.proofs.PartLaws.{part-none, part-more, part-all, part-shift}
 
 module _ (f : ℕ → ℕ) where
   pub product-none : (d to : ℕ) → to ≤ d → 1 ≡ product (part f d to)

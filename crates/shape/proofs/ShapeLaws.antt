@@ -21,7 +21,7 @@ use Rattle.model.specs.declared.Grid.{Grid}
 use Rattle.model.specs.declared.Window.{Window}
 use Rattle.model.proofs.Rectangles.{iterationCount, iteration, reads}
 use Rattle.model.proofs.Rectangles as rectangle
-use Rattle.model.proofs.ListLaws.{length-tabulate, getD-tabulate}
+use Rattle.model.proofs.ListLaws.{length-tabulate, getD-tabulate, tabulate-same, map-tabulate}
 use Rattle.model.proofs.PlaceLaws.{first-indices}
 use Rattle.model.proofs.Distances.{reads-sum, below-cells}
 use Rattle.model.proofs.ChainLaws.{sizes-sized}
@@ -29,7 +29,7 @@ use Rattle.model.proofs.WholeLaws.{rectangle-count}
 use Rattle.geometry.specs.Parts.{part, numberAt, entryAt, entriesIn, Filled, Lows, placeBy, Small}
 use Rattle.shape.specs.Shapes.{sound, stride, shapeFor, wholeShape, blankShape, shapeOf}
 use Rattle.shape.specs.declared.Shape.{Shape}
-use Rattle.geometry.proofs.PartLaws.{tabulate-same, map-tabulate, part-all}
+use Rattle.geometry.proofs.PartLaws.{part-all}
 use Rattle.geometry.proofs.FillLaws.{filled-all}
 use Rattle.geometry.proofs.GridLaws.{sizes-above, few-cells}
 use Rattle.shape.proofs.PlacingLaws.{product-of-last, part-at-most, stride-behind, stride-past, place-by-strides}

@@ -14,9 +14,10 @@ use Rattle.model.specs.Lists.{tabulate}
 use Rattle.model.specs.Frames.{isDigit, valueOf, bytesOf, counted, pushed, fed, rowNumbers, withHalf, numbersFed, numbersFeeds}
 use Rattle.model.specs.Numbers.{byteAt, halfAt}
 use Rattle.model.specs.Reading.{numbersOn}
+use Rattle.model.proofs.ListLaws.{tabulate-same}
 use Rattle.model.proofs.NumberLaws.{numbers-table}
 use Rattle.sheet_laws.proofs.Cases.{by-bool, by-eq, by-lt}
-use Rattle.sheet_laws.proofs.NumbersLaws.{set-table, same-table, zero-table}
+use Rattle.sheet_laws.proofs.NumbersLaws.{set-table, zero-table}
 
 -- One byte more.
 abbrev pub withByte : List ℕ → (len b : ℕ) → List ℕ
@@ -148,13 +149,13 @@ first-more x k high low h l =
 
 pub first-all : (x : List ℕ) (k : ℕ) → rowNumbers ≤ k → firstOn k x ≡ numbersOn x
 unfolding firstOn
-first-all x k h = same-table rowNumbers _ _ (λ j m. let l : j < k = omega arith in rw (lt-ltb j k l)) ∙ sym (numbers-table x)
+first-all x k h = tabulate-same rowNumbers _ _ (λ j m. let l : j < k = omega arith in rw (lt-ltb j k l)) ∙ sym (numbers-table x)
 
 -- No byte stands from the upper half of number k on.
 pub first-short : (ds : List ℕ) (k : ℕ) → length ds ≤ 2 * (3 + 2 * k) + 1 → firstOn k (bytesOf ds) ≡ numbersOn (bytesOf ds)
 unfolding firstOn halfAt
 first-short ds k h =
-    same-table rowNumbers _ (λ i. halfAt (bytesOf ds) (3 + 2 * i))
+    tabulate-same rowNumbers _ (λ i. halfAt (bytesOf ds) (3 + 2 * i))
     (λ j m. by-lt j k
     (λ l. rw (lt-ltb _ _ l))
     (λ l. rw (le-ltb _ _ l, byte-none ds (3 + 2 * j) (omega arith), byte-none ds (3 + 2 * j + 1) (omega arith))))

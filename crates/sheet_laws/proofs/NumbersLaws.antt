@@ -17,23 +17,19 @@ use Rattle.model.specs.Frames.{isDigit, valueOf, whole, bytesOf, counted, Seen,
 use Rattle.model.specs.Numbers.{byteAt, halfAt}
 use Rattle.model.specs.Reading.{numbersOn, lineVerdict, stepOf}
 use Rattle.model.proofs.NumberLaws.{numbers-table}
-use Rattle.model.proofs.ListLaws.{length-tabulate, getD-tabulate, tabulate-back}
+use Rattle.model.proofs.ListLaws.{length-tabulate, getD-tabulate, tabulate-same, tabulate-back}
 use Rattle.sheet_laws.proofs.Cases.{by-bool, by-eq, by-lt, never, and-true}
 use Rattle.sheet_laws.proofs.FrameLaws.{capped, capped-few, capped-many, standing, none-taken, value-small, two-digits, unwhole-frame}
 use Rattle.sheet_laws.proofs.AcceptedLines.{refused-accepted}
 use Rattle.sheet_laws.proofs.FixedMemory.{Bounded, unsound-verdict, fixed-memory}
 
--- Two tables that differ in one place at most, and in none; a table of zeros.
+-- Two tables that differ in one place at most; a table of zeros.
 pub set-table : (m at v : ℕ) (f g : ℕ → ℕ) → (at < m → g at ≡ v) → ((k : ℕ) → k < m → (k ≡ at → ⊥) → g k ≡ f k) → set (tabulate m f) at v ≡ tabulate m g
 set-table m at v f g here there =
     sym (tabulate-back 0 (set (tabulate m f) at v) m g (length-set (tabulate m f) at v ∙ length-tabulate m f)
     (λ k h. by-eq k at
     (λ e. rw e (here (omega arith) ∙ sym (getD-set-same (tabulate m f) at v 0 (omega (arith, length-tabulate m f)))))
     (λ n. there k h n ∙ sym (getD-set-other (tabulate m f) at k v 0 n ∙ getD-tabulate m f k 0 h))))
-
-pub same-table : (m : ℕ) (f g : ℕ → ℕ) → ((k : ℕ) → k < m → g k ≡ f k) → tabulate m f ≡ tabulate m g
-same-table m f g there =
-    sym (tabulate-back 0 (tabulate m f) m g (length-tabulate m f) (λ k h. there k h ∙ sym (getD-tabulate m f k 0 h)))
 
 pub zero-table : (m : ℕ) (f : ℕ → ℕ) → ((k : ℕ) → k < m → f k ≡ 0) → replicate m 0 ≡ tabulate m f
 zero-table m f zeros =
@@ -90,7 +86,7 @@ module _ (bs : List ℕ) (b : ℕ) where
 
   -- A byte of the kind or of the row count, and one behind all numbers.
   numbers-outside : ((k : ℕ) → k < rowNumbers → (3 + 2 * k ≡ length bs → ⊥) × (3 + 2 * k + 1 ≡ length bs → ⊥)) → tableOn bs ≡ tableOn longer
-  numbers-outside h = same-table rowNumbers _ _ (λ k l. half-other (3 + 2 * k) (h k l .0) (h k l .1))
+  numbers-outside h = tabulate-same rowNumbers _ _ (λ k l. sym (half-other (3 + 2 * k) (h k l .0) (h k l .1)))
 
   past-numbers : withHalf (tableOn bs) (counted - 3) b ≡ tableOn bs
   unfolding withHalf

@@ -19,15 +19,11 @@ use Rattle.model.specs.Values.{sizesOf, rowsOf, dimsOf, entryOf, offsetOf, offs
 use Rattle.model.specs.Frames.{framed}
 use Rattle.model.specs.Numbers.{halfBytes, wordBytes, pattern}
 use Rattle.model.specs.Writing.{groundLine, gridLine, offsetLine, indexPair, boxLines, capacityLine, orderLines, kernelLine, chainLines, sheetOf}
+use Rattle.model.proofs.ListLaws.{tabulate-same}
 use Rattle.model.proofs.ChainLaws.{rows-count, dims-flat, ground-flat, dims-skewed, ground-skewed}
 use Rattle.sheet_laws.specs.declared.Part.{Part}
 use Rattle.sheet_laws.specs.declared.Part.the-variants as part
 use Rattle.sheet_laws.specs.Rows.{gridRow, rowsLine, offsetRow, boxRow, orderRow, rowOf, lenOf, toCapacities, partBehind, partAt, linesBehind, lineAt, linesFrom}
-
-pub tabulate-same : {A : Type 0} (n : ℕ) (f g : ℕ → A) → ((i : ℕ) → f i ≡ g i) → tabulate n f ≡ tabulate n g
-unfolding tabulate
-tabulate-same zero f g h = refl
-tabulate-same (suc n) f g h = rw (h 0) (ap (λ t. g 0 ∷ t) (tabulate-same n (λ i. f (suc i)) (λ i. g (suc i)) (λ i. h (suc i))))
 
 -- Up to four words, halves and pairs are the front of four.
 four-words : (d : ℕ) (f : ℕ → ℕ) → d ≤ 4
@@ -80,7 +76,7 @@ numbers-joined (suc n) f =
     let s : (i : ℕ) → rowAt f (suc i) ≡ rowAt (λ i. f (suc (suc i))) i = λ i. ap₂ (λ (a b : ℕ). record { start = f a; length = f b }) (omega arith) (omega arith) in
     rw e
     (ap (λ t. halfBytes (f 0) ++ (halfBytes (f 1) ++ t))
-    (ap (flatMap (λ (r : Row). halfBytes (r .start) ++ halfBytes (r .length))) (tabulate-same n _ _ s) ∙ numbers-joined n (λ i. f (suc (suc i)))))
+    (ap (flatMap (λ (r : Row). halfBytes (r .start) ++ halfBytes (r .length))) (tabulate-same n _ _ (λ i _. s i)) ∙ numbers-joined n (λ i. f (suc (suc i)))))
 
 pub rows-line : (g : Grid) (numbers : List ℕ) → g .skewed ≡ true → gridLine g numbers ≡ rowsLine (g .rows) numbers
 unfolding groundLine rowsLine rowsOf
@@ -249,7 +245,7 @@ module _ (c : Chain) (numbers : List ℕ) (few : dimsOf (c .grid) ≤ 4) where
       let z : j + 0 ≡ j = omega arith in
       let t : (k : ℕ) → offsetAt (j + suc k) ≡ offsetAt (suc j + k) = λ k. ap (λ m. offsetAt m) (omega arith) in
       rw (y, z, line-offset c numbers j (omega arith), ← offset-front (dimsOf (c .grid)) (c .window) j few)
-      (ap (λ u. framed (offsetLine (offsetAt j)) ++ flatMap framed (map offsetLine u)) (tabulate-same i _ _ t)
+      (ap (λ u. framed (offsetLine (offsetAt j)) ++ flatMap framed (map offsetLine u)) (tabulate-same i _ _ (λ k _. t k))
       ∙ ap (λ u. framed (offsetLine (offsetAt j)) ++ u) (offset-lines i (suc j) (omega arith)))
 
   capacity-lines : (i j : ℕ) → j + i + 1 ≤ n → flatMap framed (map capacityLine (tabulate i (λ k. capacityOf c (j + k)))) ≡ linesFrom c numbers (1 + ahead c + j) i
@@ -260,7 +256,7 @@ module _ (c : Chain) (numbers : List ℕ) (few : dimsOf (c .grid) ≤ 4) where
       let z : j + 0 ≡ j = omega arith in
       let t : (k : ℕ) → capacityOf c (j + suc k) ≡ capacityOf c (suc j + k) = λ k. ap (λ m. capacityOf c m) (omega arith) in
       rw (y, z, line-capacity c numbers j (omega arith))
-      (ap (λ u. framed (capacityLine (capacityOf c j)) ++ flatMap framed (map capacityLine u)) (tabulate-same i _ _ t)
+      (ap (λ u. framed (capacityLine (capacityOf c j)) ++ flatMap framed (map capacityLine u)) (tabulate-same i _ _ (λ k _. t k))
       ∙ ap (λ u. framed (capacityLine (capacityOf c j)) ++ u) (capacity-lines i (suc j) (omega arith)))
 
   from-zero : (k : ℕ) → k ≡ 0 + k
@@ -269,7 +265,7 @@ module _ (c : Chain) (numbers : List ℕ) (few : dimsOf (c .grid) ≤ 4) where
   all-offsets : flatMap framed (map offsetLine (offsetsOf (dimsOf (c .grid)) (c .window))) ≡ linesFrom c numbers 1 n
   unfolding offsetsOf
   all-offsets =
-      ap (λ u. flatMap framed (map offsetLine u)) (tabulate-same n _ _ (λ k. ap (λ m. offsetAt m) (from-zero k)))
+      ap (λ u. flatMap framed (map offsetLine u)) (tabulate-same n _ _ (λ k _. ap (λ m. offsetAt m) (from-zero k)))
       ∙ offset-lines n 0 (omega arith)
 
   abbrev boxes : ℕ
@@ -295,7 +291,7 @@ module _ (c : Chain) (numbers : List ℕ) (few : dimsOf (c .grid) ≤ 4) where
     unfolding capacitiesOf
     all-capacities =
         let z : 1 + ahead c + 0 ≡ 1 + n + boxes = omega arith in
-        ap (λ u. flatMap framed (map capacityLine u)) (tabulate-same (n - 1) _ _ (λ k. ap (λ m. capacityOf c m) (from-zero k)))
+        ap (λ u. flatMap framed (map capacityLine u)) (tabulate-same (n - 1) _ _ (λ k _. ap (λ m. capacityOf c m) (from-zero k)))
         ∙ capacity-lines (n - 1) 0 (omega arith)
         ∙ ap (λ m. linesFrom c numbers m (n - 1)) z
 

@@ -15,11 +15,10 @@ use Rattle.model.specs.declared.Order.{Order}
 use Rattle.model.specs.declared.Window.{Window}
 use Rattle.model.specs.Lists.{tabulate}
 use Rattle.model.specs.Values.{sizesOf, groundOf, dimsOf, entryOf, offsetOf, offsetsOf, capacityOf, capacitiesOf, orderOf, partOf, trimmed, boundsOf, sizeArray, normalGrid, chainOf}
-use Rattle.model.proofs.ListLaws.{length-tabulate, getD-tabulate}
+use Rattle.model.proofs.ListLaws.{length-tabulate, getD-tabulate, tabulate-same}
 use Rattle.model.proofs.ChainLaws.{grid-normal, same-normal}
 use Rattle.sheet_laws.proofs.Cases.{by-lt}
 use Rattle.sheet_laws.proofs.AcceptedChains.{Accepted}
-use Rattle.sheet_laws.proofs.SheetRows.{tabulate-same}
 use Rattle.sheet_trips.proofs.Bytes.{blank-at}
 use Rattle.sheet_trips.proofs.Values.{sets-before, sets-at, sets-behind}
 
@@ -103,7 +102,7 @@ table-at n i f d =
 
 normal-sizes : (g : Grid) → readSizes g ≡ tabulate 4 (λ d. getD (sizesOf g) d 0)
 unfolding readSizes sizesOf
-normal-sizes g = tabulate-same 4 _ _ (λ d. sym (table-at (g .dims) d (λ i. getD (g .sizes) i 0) 0))
+normal-sizes g = tabulate-same 4 _ _ (λ d _. sym (table-at (g .dims) d (λ i. getD (g .sizes) i 0) 0))
 
 module _ (dims : ℕ) (w : Window) where
   past-offsets : (n k d : ℕ) → n ≤ k → getD (readOffsets dims w n) (4 * k + d) (pos 0) ≡ pos 0

@@ -10,10 +10,9 @@ use Rattle.model.specs.Grounds.{Row}
 use Rattle.model.specs.Frames.{padded, bytesOf, digitsOf, framed}
 use Rattle.model.specs.Numbers.{byteAt, halfAt, halfBytes}
 use Rattle.model.specs.Reading.{numbersOn, firstNumbers, numbersIn}
-use Rattle.model.proofs.ListLaws.{length-tabulate, getD-tabulate, tabulate-back}
+use Rattle.model.proofs.ListLaws.{length-tabulate, getD-tabulate, tabulate-back, tabulate-same}
 use Rattle.model.proofs.NumberLaws.{numbers-table}
 use Rattle.sheet_laws.specs.Rows.{rowsLine}
-use Rattle.sheet_laws.proofs.SheetRows.{tabulate-same}
 use Rattle.sheet_trips.proofs.Bytes.{Small, small-append, small-half, frame-back, frame-line}
 use Rattle.sheet_trips.proofs.Bytes.Small.{none, more}
 
@@ -52,7 +51,7 @@ halves-back (suc m) (x ∷ []) s l = absurd (omega arith)
 halves-back (suc m) (x ∷ y ∷ xs) (more h (more k s)) l =
     let e : (x * 256 + y) / 256 ≡ x = omega arith in
     let f : (x * 256 + y) % 256 ≡ y = omega arith in
-    rw (e, f) (ap (λ t. x ∷ y ∷ t) (ap (flatMap halfBytes) (tabulate-same m _ _ behind) ∙ halves-back m xs s (omega arith)))
+    rw (e, f) (ap (λ t. x ∷ y ∷ t) (ap (flatMap halfBytes) (tabulate-same m _ _ (λ i _. behind i)) ∙ halves-back m xs s (omega arith)))
   where
     behind : (i : ℕ) → halfAt (x ∷ y ∷ xs) (2 * suc i) ≡ halfAt xs (2 * i)
     behind i =

@@ -1,10 +1,9 @@
 -- Rows that are lent beside a grid: only as many numbers play a part as the grid says, of a rectangle none.
-use Prim.Native.Nat.{ℕ, zero, suc, _+_, _*_, _<_}
+use Prim.Native.Nat.{ℕ, _+_, _*_, _<_}
 use mathlib.Core.Bool.{true, false}
-use mathlib.Core.List.{List, _∷_}
-use mathlib.Core.Path.{_≡_, refl, sym, _∙_, ap, ap₂}
+use mathlib.Core.List.{List}
+use mathlib.Core.Path.{_≡_, sym, _∙_, ap, ap₂}
 use native.Mathlib.Omega.{arith}
-use Rattle.model.specs.Lists.{tabulate}
 use Rattle.model.specs.Grounds.{Row}
 use Rattle.model.specs.Grounds.Ground.{rows}
 use Rattle.model.specs.Values.{rowsOf, groundOf, trimmed}
@@ -14,6 +13,7 @@ use Rattle.model.specs.Writing.{chainLines, sheetOf, writeVerdict, writeOf}
 use Rattle.model.specs.declared.Chain.{Chain}
 use Rattle.model.specs.declared.Grid.{Grid}
 use Rattle.model.specs.declared.State.{State}
+use Rattle.model.proofs.ListLaws.{tabulate-same}
 use Rattle.model.proofs.ChainLaws.{ground-flat, ground-skewed}
 use Rattle.sheet_laws.proofs.Cases.{by-bool}
 use Rattle.zohmirka_words.specs.Words.{wordAt, laid, rowPlaces, rowWords}
@@ -28,15 +28,10 @@ pub places-flat : (g : Grid) → g .skewed ≡ false → rowPlaces g ≡ 0
 unfolding rowPlaces
 places-flat g e = rw e
 
-tabulate-alike : {A : Type 0} (n : ℕ) (f g : ℕ → A) → ((i : ℕ) → i < n → f i ≡ g i) → tabulate n f ≡ tabulate n g
-unfolding tabulate
-tabulate-alike zero f g h = refl
-tabulate-alike (suc n) f g h = ap₂ (λ x xs. x ∷ xs) (h 0 (omega arith)) (tabulate-alike n (λ i. f (suc i)) (λ i. g (suc i)) (λ i b. h (suc i) (omega arith)))
-
 rows-alike : (n : ℕ) (ns ms : List ℕ) → ((i : ℕ) → i < 2 * n → wordAt ns i ≡ wordAt ms i) → rowsOf n ns ≡ rowsOf n ms
 unfolding rowsOf
 rows-alike n ns ms h =
-    tabulate-alike n _ _
+    tabulate-same n _ _
     (λ k b. ap₂ (λ (s l : ℕ). let r : Row = record { start = s; length = l } in r) (h (2 * k) (omega arith)) (h (2 * k + 1) (omega arith)))
 
 abbrev pub Alike : Grid → (ns ms : List ℕ) → Type 0
@@ -51,7 +46,7 @@ module _ (g : Grid) (ns ms : List ℕ) (h : Alike g ns ms) where
 
   pub words-alike : rowWords g ns ≡ rowWords g ms
   unfolding rowWords
-  words-alike = tabulate-alike (rowPlaces g) (wordAt ns) (wordAt ms) h
+  words-alike = tabulate-same (rowPlaces g) (wordAt ns) (wordAt ms) h
 
 -- The numbers that were laid into a slice.
 pub laid-alike : (g : Grid) (ns old : List ℕ) → Alike g (laid (rowWords g ns) old) ns

@@ -1,6 +1,4 @@
 use mathlib.Core.Path.{ap}
-use Rattle.model.specs.declared.State.{State}
-use Rattle.case_runs.specs.declared.Run.{Run}
 use Rattle.case_runs.specs.CaseRuns.{startedFrom}
 use borrow.Author.Needs.{needs}
 use Rattle.case_runs.proofs.begin.Statement.{statement}

@@ -4,7 +4,6 @@ use mathlib.Core.List.{List}
 use mathlib.Core.Path.{_≡_, refl, sym, ap, _∙_}
 use borrow.Author.Needs.{needs}
 use borrow.Author.Tests.{lt-ltb, le-ltb}
-use native.Mathlib.Omega.{arith}
 use lib.ListN.{length, getD}
 use Rattle.nested.specs.declared.windows.Loops.{Loops}
 use Rattle.nested.specs.Nested.{indexIn, noCell, cellOf}

@@ -2,7 +2,6 @@
 use native.Mathlib.Omega.{arith}
 use borrow.Author.Tests.{ltb-false, ltb-true}
 use Rattle.loop_laws.proofs.FillLaws.{not-true}
-use borrow.Author.Needs.{needs}
 use Rattle.run_fill.proofs.bad_counter.Statement.{statement}
 use Rattle.run_fill.proofs.bad_counter.Tie as tie
 

@@ -1,6 +1,6 @@
 -- The counters and the wanted cells, filter by filter. Assumes nothing.
 use Prim.Native.Nat.{ℕ, _-_, _≤_, _<_}
-use mathlib.Core.Path.{_≡_, sym}
+use mathlib.Core.Path.{_≡_}
 use native.Mathlib.Omega.{arith}
 use lib.ListN.{getD}
 use Rattle.loop_laws.specs.Sweeps.{source}

@@ -4,7 +4,7 @@ use mathlib.Core.Path.{_≡_, refl}
 use native.Mathlib.Omega.{arith}
 use lib.ListN.{length}
 use Rattle.run_fill.specs.Fills.{Sound}
-use Rattle.run_fill.proofs.SoundLaws.{one, handed, may-place, sound, fills}
+use Rattle.run_fill.proofs.SoundLaws.{handed, may-place, sound, fills}
 use borrow.Author.Needs.{needs}
 use Rattle.run_fill.proofs.fill.Statement.{statement}
 use Rattle.run_fill.proofs.fill.Tie as tie

@@ -1,5 +1,5 @@
 -- `fill` writes each of the cells and ends. Assumes nothing.
-use Prim.Native.Nat.{_≤_, _*_, _-_}
+use Prim.Native.Nat.{_≤_, _-_}
 use borrow.Author.Needs.{needs}
 use Rattle.cases.proofs.cells.fill.Statement.{statement}
 use Rattle.cases.proofs.cells.fill.Tie as tie

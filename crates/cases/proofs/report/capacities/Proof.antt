@@ -1,5 +1,5 @@
 -- `capacities` reads within its array, and ends. Assumes nothing.
-use Prim.Native.Nat.{_≤_, _*_, _-_}
+use Prim.Native.Nat.{_≤_, _-_}
 use borrow.Author.Needs.{needs}
 use Rattle.cases.proofs.report.capacities.Statement.{statement}
 use Rattle.cases.proofs.report.capacities.Tie as tie

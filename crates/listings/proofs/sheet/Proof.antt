@@ -3,8 +3,8 @@ use borrow.Author.Needs.{needs}
 use lib.Seq.{length-take-le}
 use mathlib.Core.Path.{sym}
 use native.Mathlib.Omega.{arith}
-use Rattle.cases.proofs.listings.sheet.Statement.{statement}
-use Rattle.cases.proofs.listings.sheet.Tie as tie
+use Rattle.listings.proofs.sheet.Statement.{statement}
+use Rattle.listings.proofs.sheet.Tie as tie
 
 slice-aggregate-write-chain : tie.Need-slice-aggregate-write-chain
 slice-aggregate-write-chain c = search needs

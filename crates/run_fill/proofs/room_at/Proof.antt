@@ -1,10 +1,11 @@
 use Prim.Native.Nat.{_+_}
+use mathlib.Core.Path.{sym}
+use native.Mathlib.Numerals.{add-one}
 use native.Mathlib.Omega.{arith}
-use lib.ListN.{getD}
-use Rattle.loop_laws.proofs.SweepLaws.{limit-inner, limit-last}
 use borrow.Author.Needs.{needs}
-use Rattle.run_fill.proofs.limit_of.Statement.{statement}
-use Rattle.run_fill.proofs.limit_of.Tie as tie
+use Rattle.loop_laws.proofs.AgainLaws.{room-at-inner, room-at-last}
+use Rattle.run_fill.proofs.room_at.Statement.{statement}
+use Rattle.run_fill.proofs.room_at.Tie as tie
 
 add-if1 : tie.Need-add-if1
 add-if1 c = search needs
@@ -25,10 +26,10 @@ element-copy-out-result-2 : tie.Need-element-copy-out-result-2
 element-copy-out-result-2 c = search needs
 
 add-result-2 : tie.Need-add-result-2
-add-result-2 c = omega (arith, c .before .before .before .pre .1 .0 (c .before .before .before .args .k + 1) (omega arith), c .before .before .before .pre .1 .1 (c .before .before .before .args .k) (omega arith))
+add-result-2 c = let st = c .before .before .before in omega (arith, st .pre .1 .0 (st .args .k + 1) (omega arith), st .pre .1 .1 (st .args .k) (omega arith))
 
 returns : tie.Need-returns
-returns c = let a = c .before .before .before .args in limit-inner (λ i. getD (a .caps .now) i 0) (a .k) (getD (a .ps .now) (a .k) 0) (a .n) (a .ps .now) (omega arith) (omega arith)
+returns c = let t = c .before .before in rw (add-one, room-at-inner (t .before .args .n) (t .before .args .k) _ _ _ (omega (arith, t .if1 .taken)))
 
 mul-result-3 : tie.Need-mul-result-3
 mul-result-3 c = search needs
@@ -36,14 +37,11 @@ mul-result-3 c = search needs
 element-copy-out-result-3 : tie.Need-element-copy-out-result-3
 element-copy-out-result-3 c = search needs
 
-add-result-3 : tie.Need-add-result-3
-add-result-3 c = omega (arith, c .before .before .pre .1 .0 (c .before .before .args .k) (omega arith))
-
 returns-2 : tie.Need-returns-2
-returns-2 c = let a = c .before .before .args in limit-last (λ i. getD (a .caps .now) i 0) (a .k) (getD (a .ps .now) (a .k) 0) (a .n) (a .ps .now) (omega arith) (omega arith)
+returns-2 c = let e = c .before in sym (room-at-last (e .before .args .n) (e .before .args .k) _ _ _ (omega (arith, e .if1 .left)))
 
-pub limit-of-spec : {M : Type 1} → statement M
-limit-of-spec =
+pub room-at-spec : {M : Type 1} → statement M
+room-at-spec =
     tie.close
     (tie.spec
     add-if1
@@ -56,5 +54,4 @@ limit-of-spec =
     returns
     mul-result-3
     element-copy-out-result-3
-    add-result-3
     returns-2)

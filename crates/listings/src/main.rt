@@ -1,4 +1,4 @@
-// The two printed listings of document 01.
+// The two printed listings of document 01, with the line that document 02 adds: the library's plan and run of a grid of 5 cells.
 use case_runs::fresh;
 use libc::STDOUT_FILENO;
 use model::Answer;
@@ -52,7 +52,7 @@ fn sheet(chain: Chain) {
     }
 }
 
-pub(crate) fn listings() {
+fn main() {
     let read = sheet_calls::read_request(b"010100000005\n020000\n020003\n0400\n");
     let request = read.request;
     let p = planner::plan(request, &[]);
