@@ -31,6 +31,10 @@ module _ (f : ℕ → ℕ) where
   unfolding greatest
   greatest-none n = rw (part-none f n n (omega arith))
 
+  pub greatest-last : (n : ℕ) → 0 < n → f (n - 1) ≡ greatest (part f (n - 1) n)
+  unfolding greatest
+  greatest-last n some = rw (part-back f n n some (omega arith), part-none f n n (omega arith)) (omega arith)
+
   pub greatest-back : (k n : ℕ) → 0 < k → k ≤ n → max (f (k - 1)) (greatest (part f k n)) ≡ greatest (part f (k - 1) n)
   unfolding greatest
   greatest-back k n some h = rw (part-back f k n some h)

@@ -72,12 +72,11 @@ fn rows_hold(
 {
     let mut u = from;
     while u < to {
-        let start = common::start_in(count, rows, down, on, n, u);
-        if left < start {
+        let c = common::columns_in(count, rows, down, on, n, u);
+        if left < c.start {
             return false;
         }
-        let end = common::end_in(count, rows, down, on, n, u);
-        if end <= right {
+        if c.end <= right {
             return false;
         }
         u += 1;

@@ -62,83 +62,68 @@ pub(crate) fn start_of(count: u32, rows: &[u32], down: u32, u: usize) -> usize
     wide_usize(number(rows, 2 * i))
 }
 
-// The first column behind it.
-fn end_of(count: u32, rows: &[u32], down: u32, u: usize) -> usize
-    ensures { λ r. ⌜ r ≡ endOf (row (rowsOf count (now (rows .entry))) (down + u)) ⌝ }
+// Columns: the first, and the first behind the last.
+pub(crate) struct Columns {
+    pub(crate) start: usize,
+    pub(crate) end: usize,
+}
+
+// The row of cells that lies so far below row u; none past the last row.
+fn row_below(count: u32, rows: &[u32], down: u32, u: usize) -> Columns
+    ensures { λ r. ⌜ (r .start ≡ row (rowsOf count (now (rows .entry))) (down + u) .start) × (r .end ≡ endOf (row (rowsOf count (now (rows .entry))) (down + u))) ⌝ }
 {
     let n = wide_usize(count);
     if n <= u {
-        return 0;
+        return Columns { start: 0, end: 0 };
     }
     let i = wide_usize(down) + u;
     if n <= i {
-        return 0;
+        return Columns { start: 0, end: 0 };
     }
     let start = wide_usize(number(rows, 2 * i));
     let length = wide_usize(number(rows, 2 * i + 1));
-    start + length
+    let end = start + length;
+    Columns { start, end }
 }
 
-// The first column of row u of all iterations that keeps a reference inside its row, and the first behind the last that does.
-fn first_column(count: u32, rows: &[u32], down: u32, on: u32, u: usize) -> usize
-    ensures { λ r. ⌜ r ≡ row (rowsOf count (now (rows .entry))) (down + u) .start - on ⌝ }
+// The columns of row u of all iterations that keep a reference inside its row.
+fn columns_of(count: u32, rows: &[u32], down: u32, on: u32, u: usize) -> Columns
+    ensures { λ r. ⌜ (r .start ≡ row (rowsOf count (now (rows .entry))) (down + u) .start - on) × (r .end ≡ endOf (row (rowsOf count (now (rows .entry))) (down + u)) - on) ⌝ }
 {
-    let start = start_of(count, rows, down, u);
-    less(start, wide_usize(on))
+    let cells = row_below(count, rows, down, u);
+    let left = wide_usize(on);
+    let start = less(cells.start, left);
+    let end = less(cells.end, left);
+    Columns { start, end }
 }
 
-fn column_behind(count: u32, rows: &[u32], down: u32, on: u32, u: usize) -> usize
-    ensures { λ r. ⌜ r ≡ endOf (row (rowsOf count (now (rows .entry))) (down + u)) - on ⌝ }
-{
-    let end = end_of(count, rows, down, u);
-    less(end, wide_usize(on))
-}
-
-// Row u of all iterations: its first column,
-pub(crate) fn start_in(
+// Row u of all iterations,
+pub(crate) fn columns_in(
     count: u32,
     rows: &[u32],
     down: &[u32; 32],
     on: &[u32; 32],
     n: usize,
     u: usize,
-) -> usize
+) -> Columns
     requires { ⌜ n ≤ 32 ⌝ }
-    ensures { λ r. ⌜ r ≡ startIn (rowsOf count (now (rows .entry))) (now (down .entry)) (now (on .entry)) n u ⌝ }
-{
-    let mut start: usize = 0;
-    let mut k = n;
-    while 0 < k {
-        k -= 1;
-        let here = first_column(count, rows, down[k], on[k], u);
-        start = greater(here, start);
-    }
-    start
-}
-
-// the first behind it,
-pub(crate) fn end_in(
-    count: u32,
-    rows: &[u32],
-    down: &[u32; 32],
-    on: &[u32; 32],
-    n: usize,
-    u: usize,
-) -> usize
-    requires { ⌜ n ≤ 32 ⌝ }
-    ensures { λ r. ⌜ r ≡ endIn (rowsOf count (now (rows .entry))) (now (down .entry)) (now (on .entry)) n u ⌝ }
+    ensures { λ r. ⌜ (r .start ≡ startIn (rowsOf count (now (rows .entry))) (now (down .entry)) (now (on .entry)) n u)
+        × (r .end ≡ endIn (rowsOf count (now (rows .entry))) (now (down .entry)) (now (on .entry)) n u) ⌝ }
 {
     if n == 0 {
-        return 0;
+        return Columns { start: 0, end: 0 };
     }
     let mut k = n - 1;
-    let mut end = column_behind(count, rows, down[k], on[k], u);
+    let last = columns_of(count, rows, down[k], on[k], u);
+    let mut start = last.start;
+    let mut end = last.end;
     while 0 < k {
         k -= 1;
-        let here = column_behind(count, rows, down[k], on[k], u);
-        end = lesser(here, end);
+        let here = columns_of(count, rows, down[k], on[k], u);
+        start = greater(here.start, start);
+        end = lesser(here.end, end);
     }
-    end
+    Columns { start, end }
 }
 
 // and how many iterations it has.
@@ -153,7 +138,6 @@ pub(crate) fn length_in(
     requires { ⌜ n ≤ 32 ⌝ }
     ensures { λ r. ⌜ r ≡ lengthIn (rowsOf count (now (rows .entry))) (now (down .entry)) (now (on .entry)) n u ⌝ }
 {
-    let start = start_in(count, rows, down, on, n, u);
-    let end = end_in(count, rows, down, on, n, u);
-    capped(less(end, start))
+    let c = columns_in(count, rows, down, on, n, u);
+    capped(less(c.end, c.start))
 }

@@ -259,7 +259,8 @@ pub fn row_start(count: u32, rows: &[u32], course: RowCourse, v: u32) -> usize
     let u = wide_usize(course.top) + wide_usize(v);
     let down = course.down;
     let on = course.on;
-    common::start_in(count, rows, &down, &on, n, u)
+    let c = common::columns_in(count, rows, &down, &on, n, u);
+    c.start
 }
 
 // How many iterations it has.

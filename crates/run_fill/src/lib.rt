@@ -318,7 +318,7 @@ fn reach(first: usize, cells: usize, allowance: usize) -> usize
     values::lesser(cells, allowance)
 }
 
-// The clocks of a call up to the first whose filters are aligned: none of them fires, since a firing finds the filters aligned.
+// The clocks of a call until its filters are found aligned. None of them fires: in each a filter moves that is not where it is wanted.
 fn until_aligned(
     n: usize,
     at: &[usize; 32],
@@ -584,7 +584,7 @@ pub struct Filled {
     pub full: bool,
 }
 
-// The clocks of a call up to the first whose filters are aligned. Tables that are out of place make no clock, and nothing changes but the places.
+// The clocks of a call until its filters are found aligned. Tables that are out of place make no clock, and nothing changes but the places.
 pub fn fill(
     n: usize,
     at: &[usize; 32],

@@ -15,6 +15,7 @@ use Rattle.model.specs.Values.{Trimmed, trimmed}
 use Rattle.model.specs.Iterations.{iterationsOf}
 use Rattle.model.specs.Clock.{Layout}
 use Rattle.model.specs.Running.{Ending, Done, Spent, Ended, outcomeOf, layout, filtersOf, writtenBy, widthOf}
+use Rattle.model.specs.declared.Order.{Order}
 use Rattle.model.specs.declared.Chain.{Chain}
 use Rattle.model.specs.declared.Counts.{Counts}
 use Rattle.model.specs.declared.Outcome.{Outcome}
@@ -120,9 +121,10 @@ module _ (c : Chain) (flat : c .grid .skewed ≡ false) (row iterations cells ce
   all = stretch 0 (layout (trimmed c []) .iterations) (layout (trimmed c []))
 
   module _ (more : fired < iterations) where
-    pub may-stretch : Stretching all (writtenBy (trimmed c [])) (c .kernel) (terms (c .kernel) centre (filtersFor n (c .order))) n row iterations cells centre fired (c .grid .dims) at wants caps bases tops spans strides passed store
+    pub may-stretch : (order : Order) → order ≡ c .order
+        → Stretching all (writtenBy (trimmed c [])) (c .kernel) (terms (c .kernel) centre (filtersFor n order)) n row iterations cells centre fired (c .grid .dims) at wants caps bases tops spans strides passed store
     unfolding trimmed filtersOf
-    may-stretch = record {
+    may-stretch order own = record {
       handed = record {
         tables = record {
           filters-are = T .filters-are;
@@ -153,7 +155,7 @@ module _ (c : Chain) (flat : c .grid .skewed ≡ false) (row iterations cells ce
           subst (λ (d : ℕ). Walks d spans strides) (dims-flat (c .grid) flat)
           (walks (trimmed c []) (trimmed-proper c []) row iterations cells centre at caps bases tops spans strides P);
       writes-are = λ ws. writes-are (trimmed c []) (trimmed-proper c []) row iterations cells centre at caps bases tops spans strides P ws
-          ∙ ap (λ (ks : List ℕ). written (c .kernel) centre (terms (c .kernel) centre ks) (upTo n) ws) (sym (filters-are n (c .order)));
+          ∙ ap (λ (ks : List ℕ). written (c .kernel) centre (terms (c .kernel) centre ks) (upTo n) ws) (sym (ap (filtersFor n) own ∙ filters-are n (c .order)));
     }
 
     -- They are the whole call's.

@@ -226,6 +226,7 @@ struct Stopped {
 // The clocks of a call that is not refused: all iterations are one stretch.
 fn clocks(
     chain: Chain,
+    order: Order,
     at: &[usize; 32],
     wants: &[usize; 32],
     caps: &[usize; 32],
@@ -245,7 +246,7 @@ fn clocks(
     allowance: u32,
 ) -> Stopped
     requires { ⌜ (chain .grid .skewed ≡ false) × Prepared (trimmed chain []) row iterations size centre (now at) (now caps) (now bases) (now tops) (now spans) (now strides)
-        × Begins (trimmed chain []) fired (now wants) (now passed) (now store) ⌝ }
+        × Begins (trimmed chain []) fired (now wants) (now passed) (now store) × (order ≡ chain .order) ⌝ }
     ensures { λ r. ⌜ Ends r (callOf (trimmed chain []) (chain .window .count) fired (now (passed .entry)) (now (store .entry)) (now (cells .entry)) (now (out .entry)) allowance) (chain .window .count)
         (now (passed .entry)) (now (passed .exit)) (now (store .exit)) (now (out .exit)) ⌝ }
 {
@@ -264,7 +265,6 @@ fn clocks(
     let n = chain.window.count as usize;
     let dims = chain.grid.dims as usize;
     let kernel = chain.kernel;
-    let order = chain.order;
     let s = stretch_clocks(
         kernel,
         centre,
@@ -386,6 +386,7 @@ fn state_of(state: State, n: usize, passed: &[usize; 32], fired: u32) -> State
 // The call that is not refused, its tables prepared.
 fn run_ready(
     chain: Chain,
+    order: Order,
     state: State,
     ready: Ready,
     at: &[usize; 32],
@@ -401,12 +402,14 @@ fn run_ready(
     out: &mut [u32],
     allowance: u32,
 ) -> Ran
-    requires { ⌜ (chain .grid .skewed ≡ false) × (judgeRun (trimmed chain []) state (now store) ≡ Accepted) × Begun chain [] state ready (now at) (now wants) (now caps) (now bases) (now tops) (now spans) (now strides) (now passed) (now store) ⌝ }
+    requires { ⌜ (chain .grid .skewed ≡ false) × (judgeRun (trimmed chain []) state (now store) ≡ Accepted) × Begun chain [] state ready (now at) (now wants) (now caps) (now bases) (now tops) (now spans) (now strides) (now passed) (now store)
+        × (order ≡ chain .order) ⌝ }
     ensures { λ r. ⌜ ranOf r (now (store .exit)) (now (out .exit)) ≡ runOf chain [] state (now (store .entry)) (now (cells .entry)) (now (out .entry)) allowance ⌝ }
 {
     let n = chain.window.count as usize;
     let stopped = clocks(
         chain,
+        order,
         at,
         wants,
         caps,
@@ -433,7 +436,7 @@ fn run_ready(
     }
 }
 
-// A run call on a rectangle: the chain is looked at first, then 10, then 11; then the clocks are made.
+// A run call on a rectangle: the chain is looked at first, then 10, then 11; then the clocks are made. The order is taken out first, so that nothing else of the chain has to be kept for the clocks.
 fn run_flat(
     chain: Chain,
     state: State,
@@ -445,6 +448,7 @@ fn run_flat(
     requires { ⌜ chain .grid .skewed ≡ false ⌝ }
     ensures { λ r. ⌜ ranOf r (now (store .exit)) (now (out .exit)) ≡ runOf chain [] state (now (store .entry)) (now (cells .entry)) (now (out .entry)) allowance ⌝ }
 {
+    let order = chain.order;
     let mut at = [0usize; 32];
     let mut wants = [0usize; 32];
     let mut caps = [0usize; 32];
@@ -474,6 +478,7 @@ fn run_flat(
         },
         Verdict::Accepted => run_ready(
             chain,
+            order,
             state,
             ready,
             &at,

@@ -1,5 +1,8 @@
 //! Skewed grids (document 02, request 5): rows that each have their own first column and length.
 
+mod dice;
+
+use dice::Dice;
 use std::collections::HashMap;
 use straight::sheet::chain_text;
 use straight::*;
@@ -414,17 +417,6 @@ fn states_at_row_ends() {
     assert_eq!(answer(10, 9, 4), 11);
     assert_eq!(answer(7, 6, 4), 11);
     assert_eq!(answer(8, 6, 5), 11);
-}
-
-struct Dice(u64);
-
-impl Dice {
-    fn roll(&mut self, sides: u64) -> u64 {
-        self.0 ^= self.0 << 13;
-        self.0 ^= self.0 >> 7;
-        self.0 ^= self.0 << 17;
-        (self.0 >> 11) % sides
-    }
 }
 
 /// The iterations by their definition, each with what the references read.

@@ -29,14 +29,14 @@ wide-usize-requires-3 c κs = search needs
 add-u : tie.Need-add-u
 add-u c = search needs
 
-start-in-requires : tie.Need-start-in-requires
-start-in-requires c κs = omega (arith, c .before .before .before .before .before .before .lesser .ensures)
+columns-in-requires : tie.Need-columns-in-requires
+columns-in-requires c κs = omega (arith, c .before .before .before .before .before .before .lesser .ensures)
 
 returns-2 : tie.Need-returns-2
 returns-2 c =
     let a = c .before .before .before .before .before .before .before .before .before .before .before .args in
     let rs = rowsOf (a .count) (a .rows .now) in
-    c .start-in .ensures
+    c .columns-in .ensures .0
     ∙ ap₂ (λ (n u : ℕ). startIn rs (a .course .down) (a .course .on) n u) (c .before .before .before .before .before .before .before .lesser .ensures) (ap₂ _+_ (c .before .before .before .before .before .before .wide-usize2 .ensures .0) (c .before .before .before .before .before .wide-usize3 .ensures .0))
     ∙ sym (column-whole rs (a .course) (a .v) (c .before .before .before .before .before .before .before .before .before .if1 .left))
 
@@ -51,5 +51,5 @@ row-start-spec =
     wide-usize-requires-2
     wide-usize-requires-3
     add-u
-    start-in-requires
+    columns-in-requires
     returns-2)

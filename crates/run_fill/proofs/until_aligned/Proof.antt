@@ -1,4 +1,4 @@
--- The clocks of the call's definition up to the first whose filters are aligned, those in which the same filters move together. Assumes nothing.
+-- The clocks of the call's definition until the filters are found aligned, those in which the same filters move together. Assumes nothing.
 use Prim.Native.Nat.{ℕ, suc, _+_, _-_, _*_, _≤_, _<_}
 use mathlib.Core.List.{List}
 use mathlib.Core.Path.{_≡_, refl}
@@ -58,27 +58,6 @@ looked p = p .before .before .before .before .before
 
 abbrev reached : tie.After-span Inv-loop2 μ-loop2 Inv-loop μ-loop → tie.After-reach Inv-loop2 μ-loop2 Inv-loop μ-loop
 reached p = p .before .before .before
-
-abbrev begun : tie.At-loop2 Inv-loop2 μ-loop2 Inv-loop μ-loop → tie.At-loop Inv-loop2 μ-loop2 Inv-loop μ-loop
-begun l = head (unlined (looked (l .before)))
-
--- How long the same filters move.
-spans : (p : tie.After-span Inv-loop2 μ-loop2 Inv-loop μ-loop) →
-    let a = start (head (unlined (looked p))) .args in
-    (0 < p .span .result) × (p .span .result ≤ reached p .reach .result)
-    × Again (a .n) (a .size) (of (a .wants .now)) (of (a .caps .now)) (of (looked p .movers .last .1 .1 .1 .1 .1 .0)) (of (head (unlined (looked p)) .loop .passed)) (p .span .result)
-spans p =
-    let m = looked p in
-    let e1 = unstarved (unlined m) in
-    p .span .ensures (m .movers .ensures .1) (reached p .reach .ensures .0 (omega (arith, e1 .if1 .left)) (omega (arith, e1 .before .loop-test .taken)))
-
--- Filter 0 goes one cell on at most.
-goes-few : (m : tie.After-movers Inv-loop2 μ-loop2 Inv-loop μ-loop) → getD (m .movers .last .1 .1 .1 .1 .1 .0) 0 0 ≤ 1
-goes-few m = goes-most _ _ _ _ _ _ (m .movers .ensures .1) 0 (start (head (unlined m)) .pre .fills .tables .some)
-
--- The clock has a cell.
-presented : (i : tie.In-loop2 Inv-loop2 μ-loop2 Inv-loop μ-loop) → i .before .loop2 .taken < length (start (begun (i .before)) .args .cells .now)
-presented i = omega (arith, i .before .loop2 .inv .2 0 (omega (arith, i .loop2-test .taken)))
 
 loop-holds : tie.Need-loop-holds Inv-loop2 μ-loop2 Inv-loop μ-loop
 loop-holds c = λ L walk iterations fired F. filling-start _ _ _ _ _ _ _ _ _ _ _ _ _ _ _ _ _ F
@@ -187,6 +166,29 @@ span-requires c κs =
     let F = start a .pre .fills in
     let s = a .loop .inv _ _ _ _ F in
     ((F .tables .few, in-place _ _ _ _ _ _ _ _ _ _ _ _ _ _ _ _ _ F _ _ _ _ _ _ s), (small _ _ _ _ _ _ _ _ _ _ _ _ _ _ _ _ _ F _ _ _ _ _ _ s, F .tables .small))
+
+-- ---- the clocks in which the same filters move
+
+abbrev begun : tie.At-loop2 Inv-loop2 μ-loop2 Inv-loop μ-loop → tie.At-loop Inv-loop2 μ-loop2 Inv-loop μ-loop
+begun l = head (unlined (looked (l .before)))
+
+-- How long the same filters move.
+spans : (p : tie.After-span Inv-loop2 μ-loop2 Inv-loop μ-loop) →
+    let a = start (head (unlined (looked p))) .args in
+    (0 < p .span .result) × (p .span .result ≤ reached p .reach .result)
+    × Again (a .n) (a .size) (of (a .wants .now)) (of (a .caps .now)) (of (looked p .movers .last .1 .1 .1 .1 .1 .0)) (of (head (unlined (looked p)) .loop .passed)) (p .span .result)
+spans p =
+    let m = looked p in
+    let e1 = unstarved (unlined m) in
+    p .span .ensures (m .movers .ensures .1) (reached p .reach .ensures .0 (omega (arith, e1 .if1 .left)) (omega (arith, e1 .before .loop-test .taken)))
+
+-- Filter 0 goes one cell on at most.
+goes-few : (m : tie.After-movers Inv-loop2 μ-loop2 Inv-loop μ-loop) → getD (m .movers .last .1 .1 .1 .1 .1 .0) 0 0 ≤ 1
+goes-few m = goes-most _ _ _ _ _ _ (m .movers .ensures .1) 0 (start (head (unlined m)) .pre .fills .tables .some)
+
+-- The clock has a cell.
+presented : (i : tie.In-loop2 Inv-loop2 μ-loop2 Inv-loop μ-loop) → i .before .loop2 .taken < length (start (begun (i .before)) .args .cells .now)
+presented i = omega (arith, i .before .loop2 .inv .2 0 (omega (arith, i .loop2-test .taken)))
 
 loop2-holds : tie.Need-loop2-holds Inv-loop2 μ-loop2 Inv-loop μ-loop
 loop2-holds c =

@@ -8,10 +8,10 @@ use Rattle.runner.proofs.clocks.Tie as tie
 
 -- the function's entry, and the test whether firings are left, from the call of `stretch_clocks`
 abbrev start : tie.After-stretch-clocks → tie.Start
-start s = s .before .before .before .before .before .before .before .before .before .before .before .before
+start s = s .before .before .before .before .before .before .before .before .before .before .before
 
 abbrev going : tie.After-stretch-clocks → tie.Else1
-going s = s .before .before .before .before .before .before .before .before
+going s = s .before .before .before .before .before .before .before
 
 counts-requires : tie.Need-counts-requires
 counts-requires c κs = search needs
@@ -45,8 +45,8 @@ cast-dims c = search needs
 
 stretch-clocks-requires : tie.Need-stretch-clocks-requires
 stretch-clocks-requires c κs =
-    let st = c .before .before .before .before .before .before .before .before .before .before .before in
-    record { layout = _; write = _; stretching = may-stretch (st .args .chain) (st .pre .0) _ _ _ _ _ _ _ _ _ _ (st .pre .1) _ _ _ _ (st .pre .2) (c .before .before .before .before .before .before .before .if1 .left) }
+    let st = c .before .before .before .before .before .before .before .before .before .before in
+    record { layout = _; write = _; stretching = may-stretch (st .args .chain) (st .pre .0) _ _ _ _ _ _ _ _ _ _ (st .pre .1) _ _ _ _ (st .pre .2) (c .before .before .before .before .before .before .if1 .left) _ (st .pre .3) }
 
 counts-requires-3 : tie.Need-counts-requires-3
 counts-requires-3 c κs =
@@ -54,7 +54,7 @@ counts-requires-3 c κs =
     let st = start s in
     let m = going s .if1 .left in
     let few = iterations-small (st .args .chain) (st .pre .0) _ _ _ _ _ _ _ _ _ _ (st .pre .1) _ _ _ _ (st .pre .2) in
-    let E = stretched-whole (st .args .chain) (st .pre .0) _ _ _ _ _ _ _ _ _ _ (st .pre .1) _ _ _ _ (st .pre .2) m (s .stretch-clocks .ensures _ _ (may-stretch (st .args .chain) (st .pre .0) _ _ _ _ _ _ _ _ _ _ (st .pre .1) _ _ _ _ (st .pre .2) m)) in
+    let E = stretched-whole (st .args .chain) (st .pre .0) _ _ _ _ _ _ _ _ _ _ (st .pre .1) _ _ _ _ (st .pre .2) m (s .stretch-clocks .ensures _ _ (may-stretch (st .args .chain) (st .pre .0) _ _ _ _ _ _ _ _ _ _ (st .pre .1) _ _ _ _ (st .pre .2) m _ (st .pre .3))) in
     counts-small _ few E (st .fits .allowance .fits)
 
 add-all : tie.Need-add-all
@@ -63,7 +63,7 @@ add-all c =
     let st = start s in
     let m = going s .if1 .left in
     let few = iterations-small (st .args .chain) (st .pre .0) _ _ _ _ _ _ _ _ _ _ (st .pre .1) _ _ _ _ (st .pre .2) in
-    let E = stretched-whole (st .args .chain) (st .pre .0) _ _ _ _ _ _ _ _ _ _ (st .pre .1) _ _ _ _ (st .pre .2) m (s .stretch-clocks .ensures _ _ (may-stretch (st .args .chain) (st .pre .0) _ _ _ _ _ _ _ _ _ _ (st .pre .1) _ _ _ _ (st .pre .2) m)) in
+    let E = stretched-whole (st .args .chain) (st .pre .0) _ _ _ _ _ _ _ _ _ _ (st .pre .1) _ _ _ _ (st .pre .2) m (s .stretch-clocks .ensures _ _ (may-stretch (st .args .chain) (st .pre .0) _ _ _ _ _ _ _ _ _ _ (st .pre .1) _ _ _ _ (st .pre .2) m _ (st .pre .3))) in
     all-fits _ few E
 
 outcome-of-requires : tie.Need-outcome-of-requires
@@ -75,7 +75,7 @@ cast-t46 c =
     let st = start s in
     let m = going s .if1 .left in
     let few = iterations-small (st .args .chain) (st .pre .0) _ _ _ _ _ _ _ _ _ _ (st .pre .1) _ _ _ _ (st .pre .2) in
-    let E = stretched-whole (st .args .chain) (st .pre .0) _ _ _ _ _ _ _ _ _ _ (st .pre .1) _ _ _ _ (st .pre .2) m (s .stretch-clocks .ensures _ _ (may-stretch (st .args .chain) (st .pre .0) _ _ _ _ _ _ _ _ _ _ (st .pre .1) _ _ _ _ (st .pre .2) m)) in
+    let E = stretched-whole (st .args .chain) (st .pre .0) _ _ _ _ _ _ _ _ _ _ (st .pre .1) _ _ _ _ (st .pre .2) m (s .stretch-clocks .ensures _ _ (may-stretch (st .args .chain) (st .pre .0) _ _ _ _ _ _ _ _ _ _ (st .pre .1) _ _ _ _ (st .pre .2) m _ (st .pre .3))) in
     all-fits-32 _ few E
 
 same-length : tie.Need-same-length
@@ -90,7 +90,7 @@ returns-3 c =
     let st = start s in
     let m = going s .if1 .left in
     let few = iterations-small (st .args .chain) (st .pre .0) _ _ _ _ _ _ _ _ _ _ (st .pre .1) _ _ _ _ (st .pre .2) in
-    let E = stretched-whole (st .args .chain) (st .pre .0) _ _ _ _ _ _ _ _ _ _ (st .pre .1) _ _ _ _ (st .pre .2) m (s .stretch-clocks .ensures _ _ (may-stretch (st .args .chain) (st .pre .0) _ _ _ _ _ _ _ _ _ _ (st .pre .1) _ _ _ _ (st .pre .2) m)) in
+    let E = stretched-whole (st .args .chain) (st .pre .0) _ _ _ _ _ _ _ _ _ _ (st .pre .1) _ _ _ _ (st .pre .2) m (s .stretch-clocks .ensures _ _ (may-stretch (st .args .chain) (st .pre .0) _ _ _ _ _ _ _ _ _ _ (st .pre .1) _ _ _ _ (st .pre .2) m _ (st .pre .3))) in
     ends-stretched _ few E (c .before .counts3 .ensures) (c .outcome-of .ensures)
 
 pub clocks-spec : {M : Type 1} → statement M

@@ -1,14 +1,14 @@
 -- A number turns the call back, or it goes on. Assumes nothing.
 use mathlib.Core.Bool.{false}
 use mathlib.Core.List.{[]}
-use mathlib.Core.Path.{_≡_, sym, _∙_}
+use mathlib.Core.Path.{_≡_, refl, sym, _∙_}
 use Rattle.runner.proofs.RunLaws.{by-refusal}
 use borrow.Author.Needs.{needs}
 use Rattle.runner.proofs.run_flat.Statement.{statement}
 use Rattle.runner.proofs.run_flat.Tie as tie
 
 abbrev start : tie.After-prepare → tie.Start
-start p = p .before .before .before .before .before .before .before .before .before .before .before .before .before
+start p = p .before .before .before .before .before .before .before .before .before .before .before .before .before .before
 
 flat : (p : tie.After-prepare) → start p .args .chain .grid .skewed ≡ false
 flat p = start p .pre
@@ -27,7 +27,7 @@ run-ready-requires c κs =
     let t = c .before .before .before .before .before .before .before .before .before .before in
     let p = t .before .before in
     let r = p .prepare .ensures (flat p) in
-    (flat p, sym (r .verdict-is) ∙ t .enum-told .given .1, r .begun (t .enum-told .given .1))
+    (flat p, sym (r .verdict-is) ∙ t .enum-told .given .1, r .begun (t .enum-told .given .1), refl)
 
 same-length : tie.Need-same-length
 same-length c = search needs

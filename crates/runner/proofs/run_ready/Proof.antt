@@ -13,7 +13,7 @@ cast-n c = search needs
 clocks-requires : tie.Need-clocks-requires
 clocks-requires c κs =
     let s = c .before .before .before .before .before .before .before in
-    (s .pre .0, s .pre .2 .tables, s .pre .2 .begins)
+    (s .pre .0, s .pre .2 .tables, s .pre .2 .begins, s .pre .3)
 
 state-of-requires : tie.Need-state-of-requires
 unfolding trimmed

@@ -223,20 +223,13 @@ const ALL: [Way; 5] = [
     Way::Nested,
 ];
 
+/// The columns of their times.
+const TIMES: [&str; 5] = ["whole", "64 cells", "(a) whole", "(a) 64 cells", "(b)"];
+
 /// Planned chains: cases 1, 3, 4 and 5, raw and difference, and differences in other orders.
 pub fn planned() {
-    let mut table = Table::new(&[
-        "case",
-        "n",
-        "whole",
-        "64 cells",
-        "(a) whole",
-        "(a) 64 cells",
-        "(b)",
-        "(a) / whole",
-        "whole / (b)",
-        "64 cells / whole",
-    ]);
+    let ratios = ["(a) / whole", "whole / (b)", "64 cells / whole"];
+    let mut table = Table::new(&[&["case", "n"], &TIMES[..], &ratios].concat());
     for (name, chain) in planned_chains() {
         let mut lent = Lent::new(chain);
         let clocks = lent.check().clocks;
@@ -256,28 +249,15 @@ pub fn planned() {
 
 /// Planned chains on rows.
 pub fn skewed() {
-    let mut table = Table::new(&[
-        "map and kernel",
-        "places",
-        "cells",
-        "firings",
-        "clocks",
-        "whole",
-        "64 cells",
-        "(a) whole",
-        "(a) 64 cells",
-        "(b)",
-        "(a) / whole",
-        "(a) / library, 64 cells",
-        "whole / (b)",
-        "64 cells / whole",
-    ]);
+    let counts = ["map and kernel", "places", "cells", "firings", "clocks"];
+    let ratios = ["(a) / whole", "(a) / library, 64 cells"];
+    let mut table = Table::new(&[&counts, &TIMES[..], &ratios].concat());
     for (name, chain) in skewed_chains() {
         let mut lent = Lent::new(chain);
         let sums = lent.check();
         assert_eq!(sums.outcome, 0);
         let times = lent.time(ALL);
-        let [whole, pieces, a, a_pieces, b] = times;
+        let [whole, pieces, a, a_pieces, _] = times;
         let mut cells = vec![name];
         let counts = [
             lent.store.len(),
@@ -288,14 +268,12 @@ pub fn skewed() {
         cells.extend(counts.map(|count| count.to_string()));
         cells.extend(times.map(|nanos| per(nanos, sums.clocks)));
         cells.extend([
-            ratio(a / whole, a >= whole),
+            ratio(a / whole, a >= 1.5 * whole),
             ratio(a_pieces / pieces, a_pieces >= pieces),
-            ratio(whole / b, true),
-            ratio(pieces / whole, true),
         ]);
         table.row(cells);
     }
-    table.print("Run call on rows, the five-point cross, ns per clock: all cells lent in one call, and 64 cells a call; beside (a) the clock rule and (b) a nested loop. Goal: at least as fast as (a).");
+    table.print("Run call on rows, the five-point cross, ns per clock: all cells lent in one call, and 64 cells a call; beside (a) the clock rule and (b) a nested loop. Goals: (a) / whole at least 1.5; with 64 cells a call as fast as (a).");
 }
 
 /// Accepted chains that were not planned so.

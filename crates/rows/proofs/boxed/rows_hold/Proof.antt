@@ -17,21 +17,20 @@ abbrev μ-loop : tie.MeasureT-loop
 loop-holds : tie.Need-loop-holds Inv-loop μ-loop
 loop-holds c = (omega arith, λ u h k. absurd (omega arith))
 
-start-in-requires : tie.Need-start-in-requires Inv-loop μ-loop
-start-in-requires c κs = search needs
+columns-in-requires : tie.Need-columns-in-requires Inv-loop μ-loop
+columns-in-requires c κs = search needs
 
 returns : tie.Need-returns Inv-loop μ-loop
 returns c =
-    let l = c .before .before .before in
-    (λ e. absurd (false≢true e), λ _ s. absurd (omega (arith, c .before .start-in .ensures, s (l .loop .u) (l .loop .inv .0) (c .before .before .loop-test .taken) .0)))
-
-end-in-requires : tie.Need-end-in-requires Inv-loop μ-loop
-end-in-requires c κs = search needs
+    let i = c .before .before in
+    let l = i .before .before in
+    (λ e. absurd (false≢true e), λ _ s. absurd (omega (arith, i .columns-in .ensures .0, s (l .loop .u) (l .loop .inv .0) (i .before .loop-test .taken) .0)))
 
 returns-2 : tie.Need-returns-2 Inv-loop μ-loop
 returns-2 c =
-    let l = c .before .before .before .before .before in
-    (λ e. absurd (false≢true e), λ _ s. absurd (omega (arith, c .before .end-in .ensures, s (l .loop .u) (l .loop .inv .0) (c .before .before .before .before .loop-test .taken) .1)))
+    let i = c .before .before .before .before in
+    let l = i .before .before in
+    (λ e. absurd (false≢true e), λ _ s. absurd (omega (arith, i .columns-in .ensures .1, s (l .loop .u) (l .loop .inv .0) (i .before .loop-test .taken) .1)))
 
 add-u : tie.Need-add-u Inv-loop μ-loop
 add-u c = omega arith
@@ -41,11 +40,13 @@ loop-less c = omega arith
 
 loop-again : tie.Need-loop-again Inv-loop μ-loop
 loop-again c =
-    let l = c .before .before .before .before .before in
+    let e = c .before .before in
+    let i = e .before .before in
+    let l = i .before .before in
     let a = l .before .before .args in (
       omega arith,
       spans-more (rowsOf (a .count) (a .rows .now)) (a .down .now) (a .on .now) (a .n) (a .from) (l .loop .u) (a .left) (a .right) (l .loop .inv .1)
-          (omega (arith, c .before .before .before .start-in .ensures)) (omega (arith, c .before .end-in .ensures)),
+          (omega (arith, e .if1 .left, i .columns-in .ensures .0)) (omega (arith, c .if2 .left, i .columns-in .ensures .1)),
     )
 
 returns-3 : tie.Need-returns-3 Inv-loop μ-loop
@@ -61,9 +62,8 @@ rows-hold-spec =
     Inv-loop
     μ-loop
     loop-holds
-    start-in-requires
+    columns-in-requires
     returns
-    end-in-requires
     returns-2
     add-u
     loop-less

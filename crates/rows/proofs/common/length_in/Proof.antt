@@ -5,11 +5,8 @@ use Rattle.rows.specs.Courses.{lengthIn}
 use Rattle.rows.proofs.common.length_in.Statement.{statement}
 use Rattle.rows.proofs.common.length_in.Tie as tie
 
-start-in-requires : tie.Need-start-in-requires
-start-in-requires c κs = search needs
-
-end-in-requires : tie.Need-end-in-requires
-end-in-requires c κs = search needs
+columns-in-requires : tie.Need-columns-in-requires
+columns-in-requires c κs = search needs
 
 less-requires : tie.Need-less-requires
 less-requires c κs = search needs
@@ -19,8 +16,7 @@ capped-requires c κs = search needs
 
 returns : tie.Need-returns
 unfolding lengthIn
-returns c = c .capped .ensures ∙ ap (λ (x : ℕ). min x 1024) (c .before .less .ensures ∙ ap₂ _-_ (c .before .before .end-in .ensures) (c .before .before .before .start-in .ensures))
+returns c = c .capped .ensures ∙ ap (λ (x : ℕ). min x 1024) (c .before .less .ensures ∙ ap₂ _-_ (c .before .before .columns-in .ensures .1) (c .before .before .columns-in .ensures .0))
 
 pub length-in-spec : {M : Type 1} → statement M
-length-in-spec =
-    tie.close (tie.spec start-in-requires end-in-requires less-requires capped-requires returns)
+length-in-spec = tie.close (tie.spec columns-in-requires less-requires capped-requires returns)

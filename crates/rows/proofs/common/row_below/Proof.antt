@@ -1,15 +1,17 @@
 use Prim.Native.Nat.{_+_}
 use native.Mathlib.Omega.{arith}
 use borrow.Author.Needs.{needs}
-use Rattle.rows.proofs.LentLaws.{end-past, end-lent}
-use Rattle.rows.proofs.common.end_of.Statement.{statement}
-use Rattle.rows.proofs.common.end_of.Tie as tie
+use Rattle.rows.proofs.LentLaws.{start-past, start-lent, end-past, end-lent}
+use Rattle.rows.proofs.common.row_below.Statement.{statement}
+use Rattle.rows.proofs.common.row_below.Tie as tie
 
 wide-usize-requires : tie.Need-wide-usize-requires
 wide-usize-requires c κs = search needs
 
 returns : tie.Need-returns
-returns c = let a = c .before .before .before .args in omega (arith, end-past (a .count) (a .rows .now) (a .down + a .u) (omega arith))
+returns c =
+    let a = c .before .before .before .args in
+    (omega (arith, start-past (a .count) (a .rows .now) (a .down + a .u) (omega arith)), omega (arith, end-past (a .count) (a .rows .now) (a .down + a .u) (omega arith)))
 
 wide-usize-requires-2 : tie.Need-wide-usize-requires-2
 wide-usize-requires-2 c κs = search needs
@@ -18,7 +20,9 @@ add-i : tie.Need-add-i
 add-i c = search needs
 
 returns-2 : tie.Need-returns-2
-returns-2 c = let a = c .before .before .before .before .before .args in omega (arith, end-past (a .count) (a .rows .now) (a .down + a .u) (omega arith))
+returns-2 c =
+    let a = c .before .before .before .before .before .args in
+    (omega (arith, start-past (a .count) (a .rows .now) (a .down + a .u) (omega arith)), omega (arith, end-past (a .count) (a .rows .now) (a .down + a .u) (omega arith)))
 
 mul-number : tie.Need-mul-number
 mul-number c = search needs
@@ -41,14 +45,20 @@ number-requires-2 c κs = search needs
 wide-usize-requires-4 : tie.Need-wide-usize-requires-4
 wide-usize-requires-4 c κs = search needs
 
-add-result : tie.Need-add-result
-add-result c = search needs
+add-end : tie.Need-add-end
+add-end c = search needs
 
 returns-3 : tie.Need-returns-3
-returns-3 c = let e = c .before .before .before .before in let a = e .before .before .before .before .before .args in omega (arith, end-lent (a .count) (a .rows .now) (e .before .wide-usize2 .result + a .u) (a .down + a .u) (omega arith) (omega arith))
+returns-3 c =
+    let e = c .before .before .before .before in
+    let a = e .before .before .before .before .before .args in
+    let i = e .before .wide-usize2 .result + a .u in (
+      omega (arith, start-lent (a .count) (a .rows .now) i (a .down + a .u) (omega arith) (omega arith)),
+      omega (arith, end-lent (a .count) (a .rows .now) i (a .down + a .u) (omega arith) (omega arith)),
+    )
 
-pub end-of-spec : {M : Type 1} → statement M
-end-of-spec =
+pub row-below-spec : {M : Type 1} → statement M
+row-below-spec =
     tie.close
     (tie.spec
     wide-usize-requires
@@ -63,5 +73,5 @@ end-of-spec =
     add-number
     number-requires-2
     wide-usize-requires-4
-    add-result
+    add-end
     returns-3)
