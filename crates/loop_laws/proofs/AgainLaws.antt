@@ -50,19 +50,16 @@ keeps-absent p w s b bg t h i l = rw (mul-zero i, add-zero p, add-zero p, add-ze
 pub keeps-full : (p w s sg b bg t : ℕ) → bg ≤ 1 → p ≤ b → (p ≡ w → ⊥) → p < s → p + 0 ≡ turn s w (b + bg) p → Keeps 0 p w s sg b bg t
 keeps-full p w s sg b bg t h g ne ps e i l = go bg refl
   where
-    stays : p < b + bg → ⊥
-    stays q = omega (arith, turn-goes s w (b + bg) p ps ne q)
+    no-place : p < b + bg → ⊥
+    no-place q = omega (arith, turn-goes s w (b + bg) p ps ne q)
+
+    full : Dec (p < b) → b ≤ p
+    full (yes q) = absurd (no-place (omega arith))
+    full (no q) = omega arith
 
     go : (x : ℕ) → x ≡ bg → p + i * 0 + 0 ≡ turn (s + i * sg) w (b + i * bg + bg) (p + i * 0)
-    go zero z = rw (mul-zero i, add-zero p, add-zero p, ← z, mul-zero i, add-zero b, add-zero b) (turn-full (s + i * sg) w b p (let y : b ≤ p = omega-le in y))
-      where
-        omega-le : b ≤ p
-        omega-le = pick (decLt p b)
-          where
-            pick : Dec (p < b) → b ≤ p
-            pick (yes q) = absurd (stays (omega arith))
-            pick (no q) = omega arith
-    go (suc x) z = absurd (stays (omega arith))
+    go zero z = rw (mul-zero i, add-zero p, add-zero p, ← z, mul-zero i, add-zero b, add-zero b) (turn-full (s + i * sg) w b p (full (decLt p b)))
+    go (suc x) z = absurd (no-place (omega arith))
 
 -- A filter that goes on does so until it is where it is wanted, has taken what its source held, and filled the places behind it.
 pub keeps-going : (p w s sg b bg t : ℕ) → sg ≤ 1 → bg ≤ 1 → p + t ≤ w → p < s → p < b + bg → (sg ≡ 0 → p + t ≤ s) → (bg ≡ 0 → p + t ≤ b) → Keeps 1 p w s sg b bg t

@@ -86,7 +86,7 @@ module _ (n cells : ℕ) (w c g : ℕ → ℕ) where
   abbrev pub Again : (ℕ → ℕ) → ℕ → Type 0
   Again f t = (i : ℕ) → i < t → Goes (λ k. f k + i * g k)
 
--- So many of n filters move: none, or there is one.
+-- `count` tells whether one of n filters moves: where it is 0 none does, else there is one that does.
 pub record Movers (n : ℕ) (goes : List ℕ) (count : ℕ) : Type 0 where
   pub none : count ≡ 0 → (k : ℕ) → k < n → getD goes k 0 ≡ 0
   pub one : 0 < count → (k : ℕ) × (k < n) × (0 < getD goes k 0)
