@@ -10,7 +10,7 @@ use Rattle.model.specs.declared.Answer.the-variants as answer
 use Rattle.model.specs.declared.Chain.{Chain}
 use Rattle.model.specs.declared.State.{State}
 use Rattle.model.specs.Answers.{answerCounts, outcomeCase}
-use Rattle.model.specs.Running.{Run as Left, runOf}
+use Rattle.model_run.specs.Running.{Run as Left, runOf}
 use Rattle.case_runs.specs.declared.compare.Compared.{Compared}
 use Rattle.case_runs.specs.declared.FirstFiring.{FirstFiring}
 use Rattle.case_runs.specs.declared.Run.{Run}
@@ -39,20 +39,20 @@ abbrev pub begun : Run
 begun = startedFrom fresh
 
 -- All that a call with its share leaves; places past those that it is lent are as before.
-unfoldable pub lent : Chain → (numbers : List ℕ) → State → Share → (cells store output : List ℕ) → Left
-lent c numbers s h cells store output =
-    let l = runOf c numbers s store (take (h .count) (drop (h .from) cells)) (take (h .places) output) (h .clocks) in
+unfoldable pub lent : Chain → (rows : List ℕ) → State → Share → (cells store output : List ℕ) → Left
+lent c rows s h cells store output =
+    let l = runOf c rows s store (take (h .count) (drop (h .from) cells)) (take (h .places) output) (h .clocks) in
     record { answer = l .answer; state = l .state; store = l .store; output = l .output ++ drop (h .places) output }
 
 abbrev pub oneClock : (from : ℕ) → Share
 oneClock from = record { from = from; count = 1; places = 32; clocks = 1 }
 
 -- The clocks that a fresh run makes without an output place, and one clock more with places.
-unfoldable pub firstFiring : Chain → (numbers cells store output : List ℕ) → FirstFiring
-firstFiring c numbers cells store output =
-    let l = lent c numbers fresh (record { from = 0; count = 1048576; places = 0; clocks = 4294967295 }) cells store output in
+unfoldable pub firstFiring : Chain → (rows cells store output : List ℕ) → FirstFiring
+firstFiring c rows cells store output =
+    let l = lent c rows fresh (record { from = 0; count = 1048576; places = 0; clocks = 4294967295 }) cells store output in
     let before = answerCounts (l .answer) in
-    let m = lent c numbers (l .state) (oneClock (before .cells)) cells (l .store) (l .output) in
+    let m = lent c rows (l .state) (oneClock (before .cells)) cells (l .store) (l .output) in
     record { before = before; next = answerCounts (m .answer) }
 
 -- How a call ended: the place of its outcome in document 01's list, 5 where it was refused.
@@ -94,21 +94,21 @@ abbrev pub course : Run → (store output : List ℕ) → Course
 course r store output = record { run = r; store = store; output = output }
 
 -- One call more.
-unfoldable pub called : Chain → (numbers : List ℕ) → Bool → (width : ℕ) → (cells : List ℕ) → Course → Course
-called c numbers pieces width cells k =
+unfoldable pub called : Chain → (rows : List ℕ) → Bool → (width : ℕ) → (cells : List ℕ) → Course → Course
+called c rows pieces width cells k =
     let r = k .run in
-    let l = lent c numbers (r .state) (shareOf pieces (r .calls) (r .cells)) cells (k .store) (k .output) in
+    let l = lent c rows (r .state) (shareOf pieces (r .calls) (r .cells)) cells (k .store) (k .output) in
     course (afterCall r (l .state) (l .answer) width) (l .store) (l .output)
 
 abbrev pub stopped : (words : ℕ) → (done broken : Bool) → Bool
 stopped words done broken = (ltb 0 words || done) || broken
 
 -- Calls until one has written a word, or the run has ended; at most n.
-unfoldable pub calledOn : (n : ℕ) → Chain → (numbers : List ℕ) → Bool → (width : ℕ) → (cells : List ℕ) → Course → Course
-calledOn zero c numbers pieces width cells k = k
-calledOn (suc n) c numbers pieces width cells k =
-    let l = called c numbers pieces width cells k in
-    cond (stopped (l .run .words) (l .run .done) (l .run .broken)) l (calledOn n c numbers pieces width cells l)
+unfoldable pub calledOn : (n : ℕ) → Chain → (rows : List ℕ) → Bool → (width : ℕ) → (cells : List ℕ) → Course → Course
+calledOn zero c rows pieces width cells k = k
+calledOn (suc n) c rows pieces width cells k =
+    let l = called c rows pieces width cells k in
+    cond (stopped (l .run .words) (l .run .done) (l .run .broken)) l (calledOn n c rows pieces width cells l)
 
 -- A run whose words are all the same was compared to the end of what its last call wrote.
 abbrev pub AllCompared : Compared → Type 0

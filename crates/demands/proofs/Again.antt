@@ -11,14 +11,14 @@ use lib.ListN.{length, take}
 use borrow.Author.Tests.{le-ltb}
 use Rattle.model.specs.Values.{Trimmed, trimmed}
 use Rattle.model.specs.Answers.{noCounts}
-use Rattle.model.specs.Clock.{Counters, moves}
-use Rattle.model.specs.Running.{layout, Standing, Ending, Done, Spent, Starved, Stalled, Full, ends, outcomeOf, shortStore, begun, writtenBy, widthOf, Run}
-use Rattle.model.specs.CallLists.{Lending, Between, LentEnough, lentCells, callRun, after}
+use Rattle.model_run.specs.Clock.{Counters, moves}
+use Rattle.model_run.specs.Running.{layout, Standing, Ending, Done, Spent, Starved, Stalled, Full, ends, outcomeOf, shortStore, begun, writtenBy, widthOf, Run}
+use Rattle.model_run.specs.CallLists.{Lending, Between, LentEnough, lentCells, callRun, after}
 use Rattle.model.specs.declared.Outcome.the-variants as outcome
 use Rattle.model.specs.declared.Answer.the-variants as answer
 use Rattle.flow.specs.Machine.{live}
-use Rattle.model.specs.Reports.{Reports, clocksOf}
-use Rattle.demands.specs.Demand3.{ListOfCalls, handedOn, oneMore}
+use Rattle.model_run.specs.Reports.{Reports, clocksOf}
+use Rattle.demands.specs.Demand3.{ListOfCalls, handedOn, oneMore, chainIn}
 use Rattle.demands.specs.Promises.{Piece, Over, MakesClock, Again, again, againStore}
 use Rattle.run_laws.proofs.Looks.{Looked, is-done, is-spent, is-starved, is-stalled, is-full}
 use Rattle.run_laws.proofs.Traces.{still-traced}
@@ -157,18 +157,18 @@ module _ (q : ListOfCalls) where
   makes-clock l = makes (setting q) l (handedOn q) (reached q)
 
   module _ (l m : Lending) where
-    after-done : Reports outcome.Done (oneMore q l) → shortStore (trimmed (q .chain) (q .numbers)) (againStore q l m) ≡ false → again q l m .answer ≡ answer.Ended (outcome.Done noCounts)
+    after-done : Reports outcome.Done (oneMore q l) → shortStore (chainIn q) (againStore q l m) ≡ false → again q l m .answer ≡ answer.Ended (outcome.Done noCounts)
     after-done x s =
-        let t = trimmed (q .chain) (q .numbers) in
+        let t = chainIn q in
         let d = done-at (setting q) l (handedOn q) (reached q) x in
         again-done (setting q) m _ (after-reached (setting q) l (handedOn q) (reached q)) s (done-dead t _ d) d
 
-    after-stall : Reports outcome.Stalled (oneMore q l) → shortStore (trimmed (q .chain) (q .numbers)) (againStore q l m) ≡ false
+    after-stall : Reports outcome.Stalled (oneMore q l) → shortStore (chainIn q) (againStore q l m) ≡ false
         → (0 < m .allowance → 0 < m .cells → again q l m .answer ≡ answer.Ended (outcome.Stalled noCounts))
         × (m .allowance ≡ 0 → again q l m .answer ≡ answer.Ended (outcome.Spent noCounts))
         × (0 < m .allowance → m .cells ≡ 0 → again q l m .answer ≡ answer.Ended (outcome.Starved noCounts))
     after-stall x s =
-        let t = trimmed (q .chain) (q .numbers) in
+        let t = chainIn q in
         let d = stalled-at (setting q) l (handedOn q) (reached q) x in
         again-stalled (setting q) m _ (after-reached (setting q) l (handedOn q) (reached q)) s (stalled-dead t _ (d .1)) (d .0) (d .1)
 

@@ -15,19 +15,19 @@ use Rattle.model.specs.Values.{Trimmed, trimmed}
 use Rattle.model.specs.Iterations.{iterationsOf}
 use Rattle.model.specs.Answers.{noCounts, answerCounts, firstOf}
 use Rattle.model.specs.Judging.{valueChecks, judged}
-use Rattle.model.specs.Clock.{Layout, Counters, first, fires, next, moves}
-use Rattle.model.specs.Store.{firstPlace, placeIn, presented, stored}
-use Rattle.model.specs.Running.{layout, countersOf, withCounters, Standing, Ending, Done, Spent, Starved, Stalled, Full, Look, goes, ends, Ended, outcomeOf, words, clocked, look, call, events, shortStore, badState, judgeRun, begun, writtenBy, widthOf, ended, runTrimmed, runOf, Run}
+use Rattle.model_run.specs.Clock.{Layout, Counters, first, fires, next, moves}
+use Rattle.model_run.specs.Store.{firstPlace, placeIn, presented, stored}
+use Rattle.model_run.specs.Running.{layout, countersOf, withCounters, Standing, Ending, Done, Spent, Starved, Stalled, Full, Look, goes, ends, Ended, outcomeOf, words, clocked, look, call, events, shortStore, badState, judgeRun, begun, writtenBy, widthOf, ended, runTrimmed, runOf, Run}
 use Rattle.model.specs.declared.Chain.{Chain}
 use Rattle.model.specs.declared.State.{State}
 use Rattle.model.specs.declared.Counts.{Counts}
 use Rattle.model.specs.declared.Outcome.the-variants as outcome
 use Rattle.model.specs.declared.Verdict.the-variants as verdict
 use Rattle.model.specs.declared.Answer.the-variants as answer
-use Rattle.model.specs.Reports.{Reports, firingsOf}
+use Rattle.model_run.specs.Reports.{Reports, firingsOf}
 use Rattle.model.specs.Sized.{Proper}
-use Rattle.model.proofs.ListLaws.{length-tabulate}
-use Rattle.model.proofs.CheckLaws.{passes, both-pass}
+use Rattle.grid_laws.proofs.ListLaws.{length-tabulate}
+use Rattle.grid_laws.proofs.CheckLaws.{passes, both-pass}
 use Rattle.flow.specs.Machine.{live, Lawful, Holds, Invariant}
 use Rattle.flow.proofs.Invariant.{next-invariant}
 use Rattle.flow.proofs.Laws.{progress, block}
@@ -220,12 +220,12 @@ run-judged : (t : Trimmed) (s : State) (store : List ℕ) → Judged t s store �
 unfolding judgeRun judged firstOf
 run-judged t s store j = first-append (valueChecks t) _ (j .value) ∙ rw (j .enough, j .sound) refl
 
-module _ (c : Chain) (numbers : List ℕ) (s : State) (l : Lent) (j : Judged (trimmed c numbers) s (l .store)) where
+module _ (c : Chain) (rows : List ℕ) (s : State) (l : Lent) (j : Judged (trimmed c rows) s (l .store)) where
   abbrev t : Trimmed
-  t = trimmed c numbers
+  t = trimmed c rows
 
   abbrev proper : Proper t
-  proper = trimmed-proper c numbers
+  proper = trimmed-proper c rows
 
   abbrev ok : Accepted t
   ok = accepted t proper (j .value)
@@ -286,29 +286,29 @@ module _ (c : Chain) (numbers : List ℕ) (s : State) (l : Lent) (j : Judged (tr
     output = end .standing .output;
   }
 
-  run-is : run c numbers s l ≡ ran
+  run-is : run c rows s l ≡ ran
   unfolding runOf runTrimmed ran
   run-is = rw (run-judged t s (l .store) j) refl
 
-  run-counts : answerCounts (run c numbers s l .answer) ≡ end .standing .done
+  run-counts : answerCounts (run c rows s l .answer) ≡ end .standing .done
   unfolding ran answerCounts
   run-counts = ap (λ (x : Run). answerCounts (x .answer)) run-is ∙ outcome-counts (end .ending) (end .standing .done)
 
-  run-firings : firingsOf (run c numbers s l) ≡ end .standing .done .firings
+  run-firings : firingsOf (run c rows s l) ≡ end .standing .done .firings
   run-firings = ap (λ (d : Counts). d .firings) run-counts
 
-  run-counters : countersOf (t .count) (run c numbers s l .state) ≡ end .standing .counters
+  run-counters : countersOf (t .count) (run c rows s l .state) ≡ end .standing .counters
   unfolding ran layout
   run-counters =
       ap (λ (x : Run). countersOf (t .count) (x .state)) run-is
       ∙ counters-back (t .count) s (end .standing .counters)
       (omega (arith, holds-length (layout t) (end .standing .counters .fired) 0 (layout t .cells) (end .standing .counters .passed) (end-stays .good .invariant .all)))
 
-  run-answer : (e : Ending) (d : Counts) → end .ending ≡ e → end .standing .done ≡ d → run c numbers s l .answer ≡ answer.Ended (outcomeOf e d)
+  run-answer : (e : Ending) (d : Counts) → end .ending ≡ e → end .standing .done ≡ d → run c rows s l .answer ≡ answer.Ended (outcomeOf e d)
   unfolding ran
   run-answer e d x y = ap (λ (r : Run). r .answer) run-is ∙ ap₂ (λ (f : Ending) (z : Counts). answer.Ended (outcomeOf f z)) x y
 
-  within : Within c numbers s l
+  within : Within c rows s l
   unfolding begun
   within = record {
     clocks = omega (arith, ap (λ (d : Counts). d .clocks) run-counts, end-allowed);
@@ -316,17 +316,17 @@ module _ (c : Chain) (numbers : List ℕ) (s : State) (l : Lent) (j : Judged (tr
     places = subst (λ (n : ℕ). n * widthOf t ≤ length (l .output)) (sym run-firings) (omega (arith, end-stays .good .places, end-stays .output-length));
   }
 
-  kept : Kept c numbers s l
+  kept : Kept c rows s l
   unfolding begun ran layout
   kept = record {
     store-length = ap (λ (x : Run). length (x .store)) run-is ∙ end-stays .store-length;
     store-rest = ap (λ (x : Run). drop (sum (t .capacities)) (x .store)) run-is ∙ subst (λ (n : ℕ). drop n (end .standing .store) ≡ drop n (l .store)) (all-places t proper ok) (end-stays .store-rest);
     output-length = ap (λ (x : Run). length (x .output)) run-is ∙ end-stays .output-length;
-    output-rest = subst (λ (n : ℕ). drop (n * widthOf t) (run c numbers s l .output) ≡ drop (n * widthOf t) (l .output)) (sym run-firings)
+    output-rest = subst (λ (n : ℕ). drop (n * widthOf t) (run c rows s l .output) ≡ drop (n * widthOf t) (l .output)) (sym run-firings)
         (ap (λ (x : Run). drop (end .standing .done .firings * widthOf t) (x .output)) run-is ∙ end-stays .output-rest (end .standing .done .firings * widthOf t) (omega arith));
   }
 
-  reports : (e : Ending) → Reports (outcomeOf e) (run c numbers s l) ↔ Means t l (countersOf (t .count) (run c numbers s l .state)) (answerCounts (run c numbers s l .answer)) e
+  reports : (e : Ending) → Reports (outcomeOf e) (run c rows s l) ↔ Means t l (countersOf (t .count) (run c rows s l .state)) (answerCounts (run c rows s l .answer)) e
   reports e = (
     λ r.
         subst₂ (λ (n : Counters) (d : Counts). Means t l n d e) (sym run-counters) (sym run-counts)
@@ -339,42 +339,42 @@ module _ (c : Chain) (numbers : List ℕ) (s : State) (l : Lent) (j : Judged (tr
   )
 
   -- The state that it hands back has the invariant, so it is not turned back with any store that is long enough.
-  judged-again : (store : List ℕ) → shortStore t store ≡ false → Judged t (run c numbers s l .state) store
+  judged-again : (store : List ℕ) → shortStore t store ≡ false → Judged t (run c rows s l .state) store
   judged-again store e = record { value = j .value; enough = e; sound = rw run-counters (invariant-good (layout t) (end .standing .counters) (end-stays .good .invariant)) }
 
   -- The store that it hands back is as long as it was.
-  long-again : shortStore t (run c numbers s l .store) ≡ false
+  long-again : shortStore t (run c rows s l .store) ≡ false
   unfolding shortStore
   long-again = ap (λ (n : ℕ). ltb n (sum (t .capacities))) (kept .store-length) ∙ j .enough
 
   -- A call where there is no clock to make.
-  dead-answer : live (layout t) (countersOf (t .count) s) ≡ false → (e : Ending) → Means t l (countersOf (t .count) s) noCounts e → run c numbers s l .answer ≡ answer.Ended (outcomeOf e noCounts)
+  dead-answer : live (layout t) (countersOf (t .count) s) ≡ false → (e : Ending) → Means t l (countersOf (t .count) s) noCounts e → run c rows s l .answer ≡ answer.Ended (outcomeOf e noCounts)
   unfolding ended begun
   dead-answer dead e m =
       let still = no-clock (layout t) (writtenBy t) (widthOf t) (l .cells) (l .allowance) start (ap length (still-traced (layout t) (end-counted .traced) dead)) in
       run-answer e noCounts (end-one e (subst (λ (x : Standing). Means t l (x .counters) (x .done) e) (sym still) m)) (ap (λ (x : Standing). x .done) still)
 
 -- Calling again.
-module _ (c : Chain) (numbers : List ℕ) (s : State) (l : Lent) (j : Judged (trimmed c numbers) s (l .store)) (m : Lent) where
+module _ (c : Chain) (rows : List ℕ) (s : State) (l : Lent) (j : Judged (trimmed c rows) s (l .store)) (m : Lent) where
   abbrev handed : Counters
-  handed = countersOf (trimmed c numbers .count) (run c numbers s l .state)
+  handed = countersOf (trimmed c rows .count) (run c rows s l .state)
 
-  after-done : Reports outcome.Done (run c numbers s l) → shortStore (trimmed c numbers) (m .store) ≡ false → onceMore c numbers s l m .answer ≡ answer.Ended (outcome.Done noCounts)
+  after-done : Reports outcome.Done (run c rows s l) → shortStore (trimmed c rows) (m .store) ≡ false → onceMore c rows s l m .answer ≡ answer.Ended (outcome.Done noCounts)
   unfolding outcomeOf layout
   after-done r e =
-      let all = reports c numbers s l j Done .0 r in
-      dead-answer c numbers (run c numbers s l .state) m (judged-again c numbers s l j (m .store) e) (done-dead (trimmed c numbers) handed (omega arith)) Done all
+      let all = reports c rows s l j Done .0 r in
+      dead-answer c rows (run c rows s l .state) m (judged-again c rows s l j (m .store) e) (done-dead (trimmed c rows) handed (omega arith)) Done all
 
   -- After Stalled firings are left and nothing would move, so that the rest is said by what is lent.
-  after-stall : Reports outcome.Stalled (run c numbers s l) → shortStore (trimmed c numbers) (m .store) ≡ false → (e : Ending)
-      → (handed .fired < iterationsOf (trimmed c numbers) → moves (layout (trimmed c numbers)) handed ≡ false → Means (trimmed c numbers) m handed noCounts e)
-      → onceMore c numbers s l m .answer ≡ answer.Ended (outcomeOf e noCounts)
+  after-stall : Reports outcome.Stalled (run c rows s l) → shortStore (trimmed c rows) (m .store) ≡ false → (e : Ending)
+      → (handed .fired < iterationsOf (trimmed c rows) → moves (layout (trimmed c rows)) handed ≡ false → Means (trimmed c rows) m handed noCounts e)
+      → onceMore c rows s l m .answer ≡ answer.Ended (outcomeOf e noCounts)
   unfolding outcomeOf
   after-stall r short e means =
-      let x = reports c numbers s l j Stalled .0 r in
-      dead-answer c numbers (run c numbers s l .state) m (judged-again c numbers s l j (m .store) short) (stalled-dead (trimmed c numbers) handed (x .3)) e (means (x .0) (x .3))
+      let x = reports c rows s l j Stalled .0 r in
+      dead-answer c rows (run c rows s l .state) m (judged-again c rows s l j (m .store) short) (stalled-dead (trimmed c rows) handed (x .3)) e (means (x .0) (x .3))
 
-  called-again : CalledAgain c numbers s l m
+  called-again : CalledAgain c rows s l m
   unfolding outcomeOf
   called-again = record {
     done = after-done;
@@ -384,12 +384,12 @@ module _ (c : Chain) (numbers : List ℕ) (s : State) (l : Lent) (j : Judged (tr
   }
 
 pub any-states : AnyStates
-any-states c numbers s l e =
-    let j = judged-run (trimmed c numbers) s (l .store) e in
+any-states c rows s l e =
+    let j = judged-run (trimmed c rows) s (l .store) e in
     record {
-      within = within c numbers s l j;
-      kept = kept c numbers s l j;
-      outcome = reports c numbers s l j;
-      accepted = run-judged (trimmed c numbers) (run c numbers s l .state) (run c numbers s l .store) (judged-again c numbers s l j (run c numbers s l .store) (long-again c numbers s l j));
-      again = called-again c numbers s l j;
+      within = within c rows s l j;
+      kept = kept c rows s l j;
+      outcome = reports c rows s l j;
+      accepted = run-judged (trimmed c rows) (run c rows s l .state) (run c rows s l .store) (judged-again c rows s l j (run c rows s l .store) (long-again c rows s l j));
+      again = called-again c rows s l j;
     }

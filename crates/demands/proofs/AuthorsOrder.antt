@@ -18,21 +18,22 @@ use Rattle.model.specs.Iterations.{positionOf, iterationOf, readsOf}
 use Rattle.model.specs.Judging.{repeats, needsCentre, lacksCentre, centred, badOrder, judged}
 use Rattle.model.specs.Steps.{falling, whichOf, authorsOrder, sorted}
 use Rattle.model.specs.Planning.{trimmedRequest, judgeRequest, planOf}
-use Rattle.model.specs.Kernels.{terms, centreOf, wordsAt, written, difference, scaled, blend}
-use Rattle.model.specs.Running.{filtersOf, termsOf, writesOf, writtenBy}
-use Rattle.model.specs.CallLists.{allWords, firingsMade}
-use Rattle.model.specs.Words.{wordsOf, wordsFrom, loopOf, loopFrom}
+use Rattle.model_run.specs.Kernels.{terms, wordsAt, written, difference, scaled, blend}
+use Rattle.model.specs.Windows.{centreOf}
+use Rattle.model_run.specs.Running.{filtersOf, termsOf, writesOf, writtenBy}
+use Rattle.model_run.specs.CallLists.{allWords, firingsMade}
+use Rattle.model_run.specs.Words.{wordsOf, wordsFrom, loopOf, loopFrom}
 use Rattle.model.specs.declared.Kernel.{Kernel}
 use Rattle.model.specs.declared.Kernel.the-variants as kernel
 use Rattle.model.specs.declared.Request.{Request}
 use Rattle.model.specs.declared.Verdict.the-variants as verdict
-use Rattle.model.proofs.ListLaws.{length-tabulate, getD-tabulate, tabulate-back}
-use Rattle.model.proofs.SameWindows.{same-iteration}
-use Rattle.model.proofs.CheckLaws.{value-passes}
-use Rattle.model.proofs.SortLaws.{length-falling, falling-each, falling-no-other}
-use Rattle.model.proofs.TermLaws.{order-once, order-each, good-order, number-at, length-authors, authors-below, authors-hold, which-below, which-stands, authors-centre-below, centre-held, same-centre}
+use Rattle.grid_laws.proofs.ListLaws.{length-tabulate, getD-tabulate, tabulate-back}
+use Rattle.grid_laws.proofs.SameWindows.{same-iteration}
+use Rattle.grid_laws.proofs.CheckLaws.{value-passes}
+use Rattle.grid_laws.proofs.SortLaws.{length-falling, falling-each, falling-no-other}
+use Rattle.grid_laws.proofs.TermLaws.{order-once, order-each, good-order, number-at, length-authors, authors-below, authors-hold, which-below, which-stands, authors-centre-below, centre-held, same-centre}
 use Rattle.run_laws.proofs.Plans.{request-proper, planned-lists}
-use Rattle.demands.specs.Demand3.{ListOfCalls, runsOf}
+use Rattle.demands.specs.Demand3.{ListOfCalls, runsOf, chainIn}
 use Rattle.demands.specs.AuthorsOrder.{EachOnce, AuthorsOrder}
 use Rattle.demands.proofs.Words.{demand-2}
 
@@ -207,19 +208,19 @@ sorted-writes t p e stream j =
     written-alike (t .ground) (t .offsets) (t .count) (p .references) stream (iterationOf (sorted t) j) (iterationOf t j)
     (same-iteration (sorted t) t refl (falling-no-other (t .offsets)) (falling-each (t .offsets)) refl j) (p .entries) (q .window .distinct) (t .kernel) (q .kernel .centre)
 
-loop : (r : Request) (numbers : List ℕ) → judgeRequest r numbers ≡ verdict.Accepted → (stream : ℕ → ℕ) (j : ℕ) → wordsOf (trimmed (planOf r numbers .chain) numbers) stream j ≡ loopOf r numbers stream j
+loop : (r : Request) (rows : List ℕ) → judgeRequest r rows ≡ verdict.Accepted → (stream : ℕ → ℕ) (j : ℕ) → wordsOf (trimmed (planOf r rows .chain) rows) stream j ≡ loopOf r rows stream j
 unfolding judgeRequest planOf loopOf
-loop r numbers ok stream j = rw (ok, planned-lists r numbers ok) (sorted-writes (trimmedRequest r numbers) (request-proper r numbers) ok stream j)
+loop r rows ok stream j = rw (ok, planned-lists r rows ok) (sorted-writes (trimmedRequest r rows) (request-proper r rows) ok stream j)
 
-loops : (r : Request) (numbers : List ℕ) → judgeRequest r numbers ≡ verdict.Accepted → (stream : ℕ → ℕ) (j n : ℕ) → wordsFrom (trimmed (planOf r numbers .chain) numbers) stream j n ≡ loopFrom r numbers stream j n
+loops : (r : Request) (rows : List ℕ) → judgeRequest r rows ≡ verdict.Accepted → (stream : ℕ → ℕ) (j n : ℕ) → wordsFrom (trimmed (planOf r rows .chain) rows) stream j n ≡ loopFrom r rows stream j n
 unfolding wordsFrom loopFrom
-loops r numbers ok stream j zero = refl
-loops r numbers ok stream j (suc n) = ap₂ _++_ (loop r numbers ok stream j) (loops r numbers ok stream (suc j) n)
+loops r rows ok stream j zero = refl
+loops r rows ok stream j (suc n) = ap₂ _++_ (loop r rows ok stream j) (loops r rows ok stream (suc j) n)
 
-outputs : (r : Request) (numbers : List ℕ) → judgeRequest r numbers ≡ verdict.Accepted → (q : ListOfCalls) → Same (q .chain) (q .numbers) (planOf r numbers .chain) numbers
-    → allWords (trimmed (q .chain) (q .numbers)) (q .stream) (q .calls) (q .start) ≡ loopFrom r numbers (q .stream) 0 (firingsMade (runsOf q))
-outputs r numbers ok q e =
-    demand-2 q .words ∙ ap (λ (t : Trimmed). wordsFrom t (q .stream) 0 (firingsMade (runsOf q))) e ∙ loops r numbers ok (q .stream) 0 (firingsMade (runsOf q))
+outputs : (r : Request) (rows : List ℕ) → judgeRequest r rows ≡ verdict.Accepted → (q : ListOfCalls) → Same (q .chain) (q .rows) (planOf r rows .chain) rows
+    → allWords (chainIn q) (q .stream) (q .calls) (q .start) ≡ loopFrom r rows (q .stream) 0 (firingsMade (runsOf q))
+outputs r rows ok q e =
+    demand-2 q .words ∙ ap (λ (t : Trimmed). wordsFrom t (q .stream) 0 (firingsMade (runsOf q))) e ∙ loops r rows ok (q .stream) 0 (firingsMade (runsOf q))
 
 pub authors-order : AuthorsOrder
 authors-order = record { number-14 = number-14; loop = loop; outputs = outputs }

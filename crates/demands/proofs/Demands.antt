@@ -3,7 +3,7 @@ use Rattle.demands.specs.Iterations.{Geometry}
 use Rattle.demands.specs.Demand3.{ListOfCalls, Demand3}
 use Rattle.demands.specs.Demand2.{Demand2}
 use Rattle.demands.specs.Plan.{PlanDemand}
-use Rattle.demands.specs.Steps.{PaperSteps}
+use Rattle.demands.specs.PlanSteps.{PaperSteps}
 use Rattle.demands.specs.AuthorsOrder.{AuthorsOrder}
 use Rattle.demands.specs.Promises.{Promises}
 use Rattle.demands.specs.AnyState.{AnyStates}
@@ -13,7 +13,7 @@ use Rattle.demands.proofs.HandedOn.{hands-on}
 use Rattle.demands.proofs.Timing.{indexed, on-time, not-earlier}
 use Rattle.demands.proofs.Words.{demand-2}
 use Rattle.demands.proofs.Plans.{plan-demand}
-use Rattle.demands.proofs.Steps.{paper-steps}
+use Rattle.demands.proofs.PlanSteps.{paper-steps}
 use Rattle.demands.proofs.AuthorsOrder.{authors-order}
 use Rattle.demands.proofs.Again.{makes-clock, called-again}
 use Rattle.demands.proofs.Pieces.{small-pieces}

@@ -7,14 +7,14 @@ use native.Mathlib.Decide.{decLt}
 use native.Mathlib.Omega.{arith}
 use Rattle.model.specs.Values.{trimmed}
 use Rattle.model.specs.Iterations.{iterationsOf}
-use Rattle.model.specs.Running.{layout}
-use Rattle.model.specs.CallLists.{Lending, Between, LentEnough, callRun, firingsAmong}
+use Rattle.model_run.specs.Running.{layout}
+use Rattle.model_run.specs.CallLists.{Lending, Between, LentEnough, callRun, firingsAmong}
 use Rattle.model.specs.declared.Outcome.the-variants as outcome
-use Rattle.model.specs.Right.{Right}
-use Rattle.model.specs.Reports.{Reports, firingsOf}
+use Rattle.grid_laws.specs.Right.{Right}
+use Rattle.model_run.specs.Reports.{Reports, firingsOf}
 use Rattle.flow.specs.Machine.{FlowsUpTo}
 use Rattle.flow.proofs.Blocked.{first-blocked}
-use Rattle.demands.specs.Demand3.{ListOfCalls, eventsOf, handedOn, Finishes, StopsAt, NeverFires, Stalls, Numbered}
+use Rattle.demands.specs.Demand3.{ListOfCalls, eventsOf, handedOn, Finishes, StopsAt, NeverFires, Stalls, Numbered, chainIn}
 use Rattle.run_laws.proofs.Accepts.{trimmed-proper, accepted-chain}
 use Rattle.run_laws.proofs.Layouts.{right-flows, flows-right, blocked-flows, flows-blocked, disorder-blocks, wrong-blocks}
 use Rattle.run_laws.proofs.Between.{Setting, Reached, fresh-reached}
@@ -24,9 +24,9 @@ use Rattle.demands.proofs.Stops.{call-few, stalled-at, enough-at, enoug
 -- The chain and the stream of a list of calls.
 abbrev pub setting : ListOfCalls → Setting
 setting q = record {
-  trimmed = trimmed (q .chain) (q .numbers);
-  proper = trimmed-proper (q .chain) (q .numbers);
-  accepted = accepted-chain (q .chain) (q .numbers) (q .accepted);
+  trimmed = chainIn q;
+  proper = trimmed-proper (q .chain) (q .rows);
+  accepted = accepted-chain (q .chain) (q .rows) (q .accepted);
   stream = q .stream;
 }
 
@@ -44,15 +44,15 @@ module _ (q : ListOfCalls) where
   }
 
   -- A call of the list or the one more, on a chain that is right, and on one whose first iteration is blocked.
-  right-runs-on : Right (trimmed (q .chain) (q .numbers)) → (l : Lending) (b : Between) (es : List Bool) → Reached (setting q) b es → Reports outcome.Stalled (callRun (trimmed (q .chain) (q .numbers)) (q .stream) l b) → ⊥
+  right-runs-on : Right (chainIn q) → (l : Lending) (b : Between) (es : List Bool) → Reached (setting q) b es → Reports outcome.Stalled (callRun (chainIn q) (q .stream) l b) → ⊥
   unfolding layout
   right-runs-on right l b es r p =
-      omega (arith, stalled-at (setting q) (right-flows (trimmed (q .chain) (q .numbers)) (setting q .proper) (setting q .accepted) right) l b r p .1)
+      omega (arith, stalled-at (setting q) (right-flows (chainIn q) (setting q .proper) (setting q .accepted) right) l b r p .1)
 
-  fires-not : FlowsUpTo (layout (trimmed (q .chain) (q .numbers))) 0 → (l : Lending) (b : Between) (es : List Bool) → Reached (setting q) b es → firingsOf (callRun (trimmed (q .chain) (q .numbers)) (q .stream) l b) ≡ 0
+  fires-not : FlowsUpTo (layout (chainIn q)) 0 → (l : Lending) (b : Between) (es : List Bool) → Reached (setting q) b es → firingsOf (callRun (chainIn q) (q .stream) l b) ≡ 0
   fires-not flows l b es r = omega (arith, call-few (setting q) flows l b es r)
 
-  never-fires : FlowsUpTo (layout (trimmed (q .chain) (q .numbers))) 0 → NeverFires q
+  never-fires : FlowsUpTo (layout (chainIn q)) 0 → NeverFires q
   unfolding layout
   never-fires flows = record {
     no-firing = (
@@ -63,19 +63,19 @@ module _ (q : ListOfCalls) where
   }
 
   -- Lent enough, the firings made are as many as come before the first blocked iteration; so if they are all, the chain is right.
-  finished-right : (l : Lending) → LentEnough (trimmed (q .chain) (q .numbers)) l (handedOn q)
-      → firingsAmong (eventsOf q) + firingsOf (callRun (trimmed (q .chain) (q .numbers)) (q .stream) l (handedOn q)) ≡ iterationsOf (trimmed (q .chain) (q .numbers)) → Right (trimmed (q .chain) (q .numbers))
+  finished-right : (l : Lending) → LentEnough (chainIn q) l (handedOn q)
+      → firingsAmong (eventsOf q) + firingsOf (callRun (chainIn q) (q .stream) l (handedOn q)) ≡ iterationsOf (chainIn q) → Right (chainIn q)
   finished-right l h e =
-      let (B, flows) = first-blocked (layout (trimmed (q .chain) (q .numbers))) in
-      let all : B ≡ iterationsOf (trimmed (q .chain) (q .numbers)) = sym (enough-at (setting q) flows l (handedOn q) reached h) ∙ e in
-      flows-right (trimmed (q .chain) (q .numbers)) (setting q .proper) (setting q .accepted) (rw all at flows)
+      let (B, flows) = first-blocked (layout (chainIn q)) in
+      let all : B ≡ iterationsOf (chainIn q) = sym (enough-at (setting q) flows l (handedOn q) reached h) ∙ e in
+      flows-right (chainIn q) (setting q .proper) (setting q .accepted) (rw all at flows)
 
   pub finishes : Finishes q
   unfolding layout
   finishes = record {
     exactly = λ l h. (
       λ right.
-          let flows = right-flows (trimmed (q .chain) (q .numbers)) (setting q .proper) (setting q .accepted) right in
+          let flows = right-flows (chainIn q) (setting q .proper) (setting q .accepted) right in
           (enough-done (setting q) flows l (handedOn q) reached h (omega arith), omega (arith, enough-at (setting q) flows l (handedOn q) reached h, numbered .firings)),
       λ p. finished-right l h (omega (arith, p .1, numbered .firings)),
     );
@@ -85,7 +85,7 @@ module _ (q : ListOfCalls) where
     );
   }
 
-  stops-at : {B : ℕ} → FlowsUpTo (layout (trimmed (q .chain) (q .numbers))) B → StopsAt q B
+  stops-at : {B : ℕ} → FlowsUpTo (layout (chainIn q)) B → StopsAt q B
   unfolding layout
   stops-at flows = record {
     at-most = λ l. omega (arith, call-few (setting q) flows l (handedOn q) (eventsOf q) reached, numbered .firings);
@@ -95,22 +95,22 @@ module _ (q : ListOfCalls) where
   }
 
   -- Where the chain is not right, an iteration is blocked.
-  some-blocked : (Right (trimmed (q .chain) (q .numbers)) → ⊥) → {B : ℕ} → FlowsUpTo (layout (trimmed (q .chain) (q .numbers))) B → B < iterationsOf (trimmed (q .chain) (q .numbers))
+  some-blocked : (Right (chainIn q) → ⊥) → {B : ℕ} → FlowsUpTo (layout (chainIn q)) B → B < iterationsOf (chainIn q)
   unfolding layout
-  some-blocked wrong {B} flows = go (decLt B (iterationsOf (trimmed (q .chain) (q .numbers))))
+  some-blocked wrong {B} flows = go (decLt B (iterationsOf (chainIn q)))
     where
-      go : Dec (B < iterationsOf (trimmed (q .chain) (q .numbers))) → B < iterationsOf (trimmed (q .chain) (q .numbers))
+      go : Dec (B < iterationsOf (chainIn q)) → B < iterationsOf (chainIn q)
       go (yes h) = h
       go (no h) =
-          let all : B ≡ iterationsOf (trimmed (q .chain) (q .numbers)) = omega (arith, flows .most) in
-          absurd (wrong (flows-right (trimmed (q .chain) (q .numbers)) (setting q .proper) (setting q .accepted) (rw all at flows)))
+          let all : B ≡ iterationsOf (chainIn q) = omega (arith, flows .most) in
+          absurd (wrong (flows-right (chainIn q) (setting q .proper) (setting q .accepted) (rw all at flows)))
 
   pub stalls : Stalls q
   stalls = record {
     first = λ wrong order.
-        let (B, flows) = first-blocked (layout (trimmed (q .chain) (q .numbers))) in
-        (B, flows-blocked (trimmed (q .chain) (q .numbers)) (setting q .proper) (setting q .accepted) order flows, some-blocked wrong flows);
-    shorter = λ order B b. stops-at (blocked-flows (trimmed (q .chain) (q .numbers)) (setting q .proper) (setting q .accepted) order b);
-    disordered = λ n. never-fires (disorder-blocks (trimmed (q .chain) (q .numbers)) (setting q .proper) (setting q .accepted) n);
-    rectangular = λ sizes e wrong. never-fires (wrong-blocks (trimmed (q .chain) (q .numbers)) (setting q .proper) (setting q .accepted) sizes e wrong);
+        let (B, flows) = first-blocked (layout (chainIn q)) in
+        (B, flows-blocked (chainIn q) (setting q .proper) (setting q .accepted) order flows, some-blocked wrong flows);
+    shorter = λ order B b. stops-at (blocked-flows (chainIn q) (setting q .proper) (setting q .accepted) order b);
+    disordered = λ n. never-fires (disorder-blocks (chainIn q) (setting q .proper) (setting q .accepted) n);
+    rectangular = λ sizes e wrong. never-fires (wrong-blocks (chainIn q) (setting q .proper) (setting q .accepted) sizes e wrong);
   }

@@ -15,15 +15,15 @@ use Rattle.model.specs.Values.{Trimmed, groundOf, dimsOf, offsetsOf, partOf, ca
 use Rattle.model.specs.Sized.{Sized}
 use Rattle.model.specs.Iterations.{cellsOf, positionOf, courseOf, iterationsOf, iterationOf, readsOf}
 use Rattle.model.specs.Judging.{windowChecks, valueChecks, judged, judgeChain}
-use Rattle.model.specs.Running.{layout, shortStore, judgeRun, begun, filtersOf, termsOf, writesOf, writtenBy, widthOf, ended, runTrimmed, runOf}
+use Rattle.model_run.specs.Running.{layout, shortStore, judgeRun, begun, filtersOf, termsOf, writesOf, writtenBy, widthOf, ended, runTrimmed, runOf}
 use Rattle.model.specs.declared.Kernel.{Kernel}
 use Rattle.model.specs.declared.State.{State}
-use Rattle.model.proofs.ChainLaws.{offsets-count, offsets-sized}
-use Rattle.model.proofs.CheckLaws.{WindowPasses, value-passes, some-references}
-use Rattle.model.proofs.BoxLaws.{none-whole}
-use Rattle.model.proofs.WholeLaws.{rectangle-count}
-use Rattle.model.proofs.RectangleBoxes.{full-course, full-fits}
-use Rattle.model.proofs.Iterations.{some-iteration}
+use Rattle.grid_laws.proofs.ChainLaws.{offsets-count, offsets-sized}
+use Rattle.grid_laws.proofs.CheckLaws.{WindowPasses, value-passes, some-references}
+use Rattle.grid_laws.proofs.BoxLaws.{none-whole}
+use Rattle.grid_laws.proofs.WholeLaws.{rectangle-count}
+use Rattle.grid_laws.proofs.RectangleBoxes.{full-course, full-fits}
+use Rattle.grid_laws.proofs.Iterations.{some-iteration}
 use Rattle.demands.specs.Iterations.{FullBoxRuns}
 
 -- A value with a box, by its parts.
@@ -55,7 +55,7 @@ full-passes g sizes offsets e =
 
 pub full-box-runs : FullBoxRuns
 unfolding judgeChain judged runOf trimmed partOf capacitiesOf
-full-box-runs c numbers sizes is b f ok = (
+full-box-runs c rows sizes is b f ok = (
   judged-alike dims g n offsets (capacitiesOf c) (c .order .stood) (orderOf n (c .order)) (c .kernel) p same fits ∙ ap (λ (q : Part). judged (with q)) (sym none) ∙ ok,
   λ s store lent output allowance.
       runs-alike dims g n offsets (capacitiesOf c) (c .order .stood) (orderOf n (c .order)) (c .kernel) p same fits s store lent output allowance
@@ -69,7 +69,7 @@ full-box-runs c numbers sizes is b f ok = (
     n = c .window .count
 
     g : Ground
-    g = groundOf (c .grid) numbers
+    g = groundOf (c .grid) rows
 
     offsets : List (List ℤ)
     offsets = offsetsOf (dimsOf (c .grid)) (c .window)
@@ -78,24 +78,24 @@ full-box-runs c numbers sizes is b f ok = (
     p = partOf (dimsOf (c .grid)) b
 
     with : Part → Trimmed
-    with q = with-part (dimsOf (c .grid)) (groundOf (c .grid) numbers) (c .window .count) (offsetsOf (dimsOf (c .grid)) (c .window)) (capacitiesOf c) (c .order .stood) (orderOf (c .window .count) (c .order)) (c .kernel) q
+    with q = with-part (dimsOf (c .grid)) (groundOf (c .grid) rows) (c .window .count) (offsetsOf (dimsOf (c .grid)) (c .window)) (capacitiesOf c) (c .order .stood) (orderOf (c .window .count) (c .order)) (c .kernel) q
 
     none : partOf (dimsOf (c .grid)) (c .bounds) ≡ whole
     none = rw (f .absent)
 
-    passes : WindowPasses (trimmed c numbers)
-    passes = value-passes (trimmed c numbers) ok .window
+    passes : WindowPasses (trimmed c rows)
+    passes = value-passes (trimmed c rows) ok .window
 
-    some : 0 < count (allIterations (groundOf (c .grid) numbers) (offsetsOf (dimsOf (c .grid)) (c .window)))
-    some = some-iteration (trimmed c numbers) (passes .iterates)
+    some : 0 < count (allIterations (groundOf (c .grid) rows) (offsetsOf (dimsOf (c .grid)) (c .window)))
+    some = some-iteration (trimmed c rows) (passes .iterates)
 
-    same : course (groundOf (c .grid) numbers) (offsetsOf (dimsOf (c .grid)) (c .window)) (partOf (dimsOf (c .grid)) b) ≡ course (groundOf (c .grid) numbers) (offsetsOf (dimsOf (c .grid)) (c .window)) whole
+    same : course (groundOf (c .grid) rows) (offsetsOf (dimsOf (c .grid)) (c .window)) (partOf (dimsOf (c .grid)) b) ≡ course (groundOf (c .grid) rows) (offsetsOf (dimsOf (c .grid)) (c .window)) whole
     same =
-        ap (course (groundOf (c .grid) numbers) (offsetsOf (dimsOf (c .grid)) (c .window))) (f .full)
-        ∙ full-same (groundOf (c .grid) numbers) sizes (offsetsOf (dimsOf (c .grid)) (c .window)) is some
+        ap (course (groundOf (c .grid) rows) (offsetsOf (dimsOf (c .grid)) (c .window))) (f .full)
+        ∙ full-same (groundOf (c .grid) rows) sizes (offsetsOf (dimsOf (c .grid)) (c .window)) is some
 
-    fits : badBox (groundOf (c .grid) numbers) (offsetsOf (dimsOf (c .grid)) (c .window)) (partOf (dimsOf (c .grid)) b) ≡ false
+    fits : badBox (groundOf (c .grid) rows) (offsetsOf (dimsOf (c .grid)) (c .window)) (partOf (dimsOf (c .grid)) b) ≡ false
     fits =
-        ap (badBox (groundOf (c .grid) numbers) (offsetsOf (dimsOf (c .grid)) (c .window))) (f .full)
-        ∙ full-passes (groundOf (c .grid) numbers) sizes (offsetsOf (dimsOf (c .grid)) (c .window)) is (offsets-sized (c .grid) numbers (c .window))
+        ap (badBox (groundOf (c .grid) rows) (offsetsOf (dimsOf (c .grid)) (c .window))) (f .full)
+        ∙ full-passes (groundOf (c .grid) rows) sizes (offsetsOf (dimsOf (c .grid)) (c .window)) is (offsets-sized (c .grid) rows (c .window))
         (omega (arith, offsets-count (dimsOf (c .grid)) (c .window), some-references (c .window .count) (passes .count))) some

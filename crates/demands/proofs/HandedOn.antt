@@ -9,11 +9,11 @@ use lib.ListN.{getD, replicate}
 use Rattle.model.specs.Lists.{tabulate, sum}
 use Rattle.model.specs.Values.{trimmed}
 use Rattle.model.specs.Answers.{answerCounts}
-use Rattle.model.specs.Clock.{Counters, first, fresh}
-use Rattle.model.specs.Running.{layout, countersOf, Run}
-use Rattle.model.specs.CallLists.{Lending, Between, callRun, after, afterAll, runs, cellsTaken}
+use Rattle.model_run.specs.Clock.{Counters, first, fresh}
+use Rattle.model_run.specs.Running.{layout, countersOf, Run}
+use Rattle.model_run.specs.CallLists.{Lending, Between, callRun, after, afterAll, runs, cellsTaken}
 use Rattle.model.specs.declared.Counts.{Counts}
-use Rattle.demands.specs.Demand3.{ListOfCalls, runsOf, handedOn, HandsOn}
+use Rattle.demands.specs.Demand3.{ListOfCalls, runsOf, handedOn, HandsOn, chainIn}
 use Rattle.run_laws.proofs.Between.{Setting, Reached, now, ending, refused, ran, by-call, sound-end, reached-fired, after-reached, now-after}
 use Rattle.run_laws.proofs.CallEnds.{outcome-counts, not-short}
 use Rattle.demands.proofs.Finishing.{setting, start, reached, numbered}
@@ -51,8 +51,8 @@ pub hands-on : (q : ListOfCalls) → HandsOn q
 unfolding countersOf fresh
 hands-on q = record {
   firings = reached-fired (setting q) (reached q) ∙ numbered q .firings;
-  cells = sym (first-of (trimmed (q .chain) (q .numbers) .count) (λ k. getD (handedOn q .state .passed) k (record { 0 = 0 }) .0) (setting q .accepted .some))
+  cells = sym (first-of (chainIn q .count) (λ k. getD (handedOn q .state .passed) k (record { 0 = 0 }) .0) (setting q .accepted .some))
       ∙ list-cells (setting q) (q .calls) (q .start) [] (start q)
-      ∙ ap (λ (n : ℕ). n + cellsTaken (runsOf q)) (ap (λ (c : Counters). first (c .passed)) (q .fresh .counters) ∙ first-zero (layout (trimmed (q .chain) (q .numbers)) .filters))
+      ∙ ap (λ (n : ℕ). n + cellsTaken (runsOf q)) (ap (λ (c : Counters). first (c .passed)) (q .fresh .counters) ∙ first-zero (layout (chainIn q) .filters))
       ∙ zero-add _;
 }

@@ -24,15 +24,15 @@ use Rattle.model.specs.Planning.{trimmedRequest}
 use Rattle.model.specs.declared.Refusal.the-variants as refusal
 use Rattle.model.specs.declared.Verdict.{Verdict}
 use Rattle.model.specs.declared.Verdict.the-variants as verdict
-use Rattle.model.proofs.Tests.{neither}
-use Rattle.model.proofs.GroundLaws.{inside-order, inside-below, position-cell, inside-once}
-use Rattle.model.proofs.WholeLaws.{whole-iterations, whole-complete}
-use Rattle.model.proofs.BoxLaws.{none-whole, each-of-box}
-use Rattle.model.proofs.RectangleBoxes.{corners}
-use Rattle.model.proofs.Listed as run
-use Rattle.model.proofs.Iterations.{fitting, distance-most, distance-reached, same-distance}
-use Rattle.model.proofs.Iterations.{one-distance as pair-distance}
-use Rattle.model.proofs.CheckLaws.{some-references}
+use Rattle.grid_laws.proofs.Tests.{neither}
+use Rattle.grid_laws.proofs.GroundLaws.{inside-order, inside-below, position-cell, inside-once}
+use Rattle.grid_laws.proofs.WholeLaws.{whole-iterations, whole-complete}
+use Rattle.grid_laws.proofs.BoxLaws.{none-whole, each-of-box}
+use Rattle.grid_laws.proofs.RectangleBoxes.{corners}
+use Rattle.grid_laws.proofs.Listed as run
+use Rattle.grid_laws.proofs.Iterations.{fitting, distance-most, distance-reached, same-distance}
+use Rattle.grid_laws.proofs.Iterations.{one-distance as pair-distance}
+use Rattle.grid_laws.proofs.CheckLaws.{some-references}
 use Rattle.run_laws.proofs.Accepts.{trimmed-proper, accepted-chain, fitting-of}
 use Rattle.run_laws.proofs.Plans.{request-proper}
 use Rattle.demands.specs.Iterations.{Enumerated, Placed, Empty, Number6, Number15, Geometry}
@@ -158,18 +158,18 @@ number-15 t proper = record {
 pub geometry : Geometry
 unfolding trimmed
 geometry = record {
-  iterations = λ c numbers e. enumerated (trimmed c numbers) (fitting-of (trimmed c numbers) (trimmed-proper c numbers) (accepted-chain c numbers e));
-  largest = λ c numbers e.
-      let ok = accepted-chain c numbers e in
-      let f = fitting-of (trimmed c numbers) (trimmed-proper c numbers) ok in
-      record { most = distance-most (trimmed c numbers) f; reached = λ k h. distance-reached (trimmed c numbers) f k (ok .iterates) };
-  distances = λ c numbers sizes i n fits.
-      let f = fitting (trimmed c numbers) (trimmed-proper c numbers) (some-references (c .window .count) n) fits in
-      record { pair = pair-distance (trimmed c numbers) f sizes i; neighbours = same-distance (trimmed c numbers) f sizes i };
-  cells = λ c numbers. placed (trimmed c numbers);
-  chain-6 = λ c numbers. number-6 (trimmed c numbers) (trimmed-proper c numbers);
-  request-6 = λ r numbers. number-6 (trimmedRequest r numbers) (request-proper r numbers);
-  chain-15 = λ c numbers. number-15 (trimmed c numbers) (trimmed-proper c numbers);
-  request-15 = λ r numbers. number-15 (trimmedRequest r numbers) (request-proper r numbers);
+  iterations = λ c rows e. enumerated (trimmed c rows) (fitting-of (trimmed c rows) (trimmed-proper c rows) (accepted-chain c rows e));
+  largest = λ c rows e.
+      let ok = accepted-chain c rows e in
+      let f = fitting-of (trimmed c rows) (trimmed-proper c rows) ok in
+      record { most = distance-most (trimmed c rows) f; reached = λ k h. distance-reached (trimmed c rows) f k (ok .iterates) };
+  distances = λ c rows sizes i n fits.
+      let f = fitting (trimmed c rows) (trimmed-proper c rows) (some-references (c .window .count) n) fits in
+      record { pair = pair-distance (trimmed c rows) f sizes i; neighbours = same-distance (trimmed c rows) f sizes i };
+  cells = λ c rows. placed (trimmed c rows);
+  chain-6 = λ c rows. number-6 (trimmed c rows) (trimmed-proper c rows);
+  request-6 = λ r rows. number-6 (trimmedRequest r rows) (request-proper r rows);
+  chain-15 = λ c rows. number-15 (trimmed c rows) (trimmed-proper c rows);
+  request-15 = λ r rows. number-15 (trimmedRequest r rows) (request-proper r rows);
   full-box = full-box-runs;
 }

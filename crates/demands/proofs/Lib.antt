@@ -10,7 +10,7 @@ pub mod Stores
 pub mod SameHandedOn
 pub mod Pieces
 pub mod Plans
-pub mod Steps
+pub mod PlanSteps
 pub mod AnyState
 pub mod Promised
 pub mod AuthorsOrder

@@ -11,15 +11,15 @@ use Rattle.model.specs.Lists.{tabulate, upTo}
 use Rattle.model.specs.Boxes.{Part}
 use Rattle.model.specs.Boxes.Part.{whole, box}
 use Rattle.model.specs.Grounds.{Row}
-use Rattle.model.specs.Grounds.Ground.{rectangle, rows}
+use Rattle.model.specs.Grounds.Ground.{rectangle, skewed}
 use Rattle.model.specs.Values.{Trimmed, sizesOf, rowsOf, groundOf, dimsOf, offsetOf, offsetsOf, partOf, capacitiesOf, orderOf, trimmedOf, onGrid, trimmed, chainOf, blankChain, Same}
 use Rattle.model.specs.Answers.{check, firstOf, byVerdict}
 use Rattle.model.specs.Judging.{judged, judgeChain}
 use Rattle.model.specs.Steps.{sorted, distances}
 use Rattle.model.specs.Planning.{trimmedRequest, judgeRequest, plannedChain, planOf}
-use Rattle.model.specs.Frames.{framed}
-use Rattle.model.specs.Numbers.{wordBytes, wordPattern}
-use Rattle.model.specs.Writing.{groundLine, offsetLine, indexPair, boxLines, capacityLine, orderLines, kernelLine, chainLines, sheetOf, writeVerdict, Written, writeOf}
+use Rattle.model_sheet.specs.Frames.{framed}
+use Rattle.model_sheet.specs.Numbers.{wordBytes, wordPattern}
+use Rattle.model_sheet.specs.Writing.{groundLine, offsetLine, indexPair, boxLines, capacityLine, orderLines, kernelLine, chainLines, sheetOf, writeVerdict, Written, writeOf}
 use Rattle.model.specs.declared.Bounds.{Bounds}
 use Rattle.model.specs.declared.Grid.{Grid}
 use Rattle.model.specs.declared.Window.{Window}
@@ -31,7 +31,7 @@ use Rattle.model.specs.declared.Chain.{Chain}
 use Rattle.model.specs.declared.Planned.{Planned}
 use Rattle.model.specs.declared.Refusal.the-variants as refusal
 use Rattle.model.specs.declared.Verdict.the-variants as verdict
-use Rattle.model.proofs.ListLaws.{getD-tabulate, tabulate-same}
+use Rattle.grid_laws.proofs.ListLaws.{getD-tabulate, tabulate-same}
 use Rattle.demands.specs.PastCounts.{GridsAgree, WindowsAgree, BoundsAgree, OrdersAgree, ChainsAgree, RequestsAgree, SameRequest, PastCounts}
 
 -- Lists of equally many entries, the same at each place.
@@ -44,12 +44,12 @@ unfolding tabulate flatMap
 flat-alike zero h f g e = refl
 flat-alike (suc n) h f g e = ap₂ _++_ (e 0 (omega arith)) (flat-alike n (λ i. h (suc i)) f g (λ k b. e (suc k) (omega arith)))
 
-rows-alike : (n m : ℕ) (ns ms : List ℕ) → n ≡ m → ((i : ℕ) → i < 2 * n → getD ns i 0 ≡ getD ms i 0) → rowsOf n ns ≡ rowsOf m ms
+rows-alike : (n m : ℕ) (rows rows′ : List ℕ) → n ≡ m → ((i : ℕ) → i < 2 * n → getD rows i 0 ≡ getD rows′ i 0) → rowsOf n rows ≡ rowsOf m rows′
 unfolding rowsOf
-rows-alike n m ns ms e same =
+rows-alike n m rows rows′ e same =
     alike n m _ _ e (λ i h. ap₂ (λ (x y : ℕ). let r : Row = record { start = x; length = y } in r) (same (2 * i) (omega arith)) (same (2 * i + 1) (omega arith)))
 
-module _ (g h : Grid) (ns ms : List ℕ) (a : GridsAgree g ns h ms) where
+module _ (g h : Grid) (rows rows′ : List ℕ) (a : GridsAgree g rows h rows′) where
   dims-alike : dimsOf g ≡ dimsOf h
   unfolding dimsOf
   dims-alike = go (g .skewed) (h .skewed) refl (a .skewed)
@@ -60,14 +60,14 @@ module _ (g h : Grid) (ns ms : List ℕ) (a : GridsAgree g ns h ms) where
       go true false e d = absurd (true≢false d)
       go false true e d = absurd (true≢false (sym d))
 
-  ground-alike : groundOf g ns ≡ groundOf h ms
+  ground-alike : groundOf g rows ≡ groundOf h rows′
   unfolding groundOf sizesOf
   ground-alike = go (g .skewed) (h .skewed) refl (a .skewed)
     where
       go : (s t : Bool) → g .skewed ≡ s → s ≡ t
-          → cond s (rows (rowsOf (g .rows) ns)) (rectangle (tabulate (g .dims) (λ d. getD (g .sizes) d 0)))
-          ≡ cond t (rows (rowsOf (h .rows) ms)) (rectangle (tabulate (h .dims) (λ d. getD (h .sizes) d 0)))
-      go true true e d = ap rows (rows-alike (g .rows) (h .rows) ns ms (a .count e) (a .rows e))
+          → cond s (skewed (rowsOf (g .rows) rows)) (rectangle (tabulate (g .dims) (λ d. getD (g .sizes) d 0)))
+          ≡ cond t (skewed (rowsOf (h .rows) rows′)) (rectangle (tabulate (h .dims) (λ d. getD (h .sizes) d 0)))
+      go true true e d = ap skewed (rows-alike (g .rows) (h .rows) rows rows′ (a .count e) (a .lent e))
       go false false e d = ap rectangle (alike (g .dims) (h .dims) _ _ (a .dims e) (a .sizes e))
       go true false e d = absurd (true≢false d)
       go false true e d = absurd (true≢false (sym d))
@@ -88,15 +88,15 @@ parts-alike n m a b e x = go (a .stood) (b .stood) refl (x .stood)
     go true false h d = absurd (true≢false d)
     go false true h d = absurd (true≢false (sym d))
 
-trimmed-alike : (g h : Grid) (ns ms : List ℕ) (v w : Window) (p q : Bounds) (xs ys : List ℕ) (s t : Bool) (os ps : List ℕ) (k l : Kernel)
-    → GridsAgree g ns h ms → WindowsAgree (dimsOf g) v w → BoundsAgree (dimsOf g) p q → xs ≡ ys → s ≡ t → os ≡ ps → k ≡ l
-    → trimmedOf g ns v p xs s os k ≡ trimmedOf h ms w q ys t ps l
-trimmed-alike g h ns ms v w p q xs ys s t os ps k l a b x capacities stood order kernel = λ i. record {
-  dims = dims-alike g h ns ms a i;
-  ground = ground-alike g h ns ms a i;
+trimmed-alike : (g h : Grid) (rows rows′ : List ℕ) (v w : Window) (p q : Bounds) (xs ys : List ℕ) (s t : Bool) (os ps : List ℕ) (k l : Kernel)
+    → GridsAgree g rows h rows′ → WindowsAgree (dimsOf g) v w → BoundsAgree (dimsOf g) p q → xs ≡ ys → s ≡ t → os ≡ ps → k ≡ l
+    → trimmedOf g rows v p xs s os k ≡ trimmedOf h rows′ w q ys t ps l
+trimmed-alike g h rows rows′ v w p q xs ys s t os ps k l a b x capacities stood order kernel = λ i. record {
+  dims = dims-alike g h rows rows′ a i;
+  ground = ground-alike g h rows rows′ a i;
   count = b .count i;
-  offsets = offsets-alike (dimsOf g) (dimsOf h) v w (dims-alike g h ns ms a) b i;
-  part = parts-alike (dimsOf g) (dimsOf h) p q (dims-alike g h ns ms a) x i;
+  offsets = offsets-alike (dimsOf g) (dimsOf h) v w (dims-alike g h rows rows′ a) b i;
+  part = parts-alike (dimsOf g) (dimsOf h) p q (dims-alike g h rows rows′ a) x i;
   capacities = capacities i;
   ordered = stood i;
   order = order i;
@@ -113,17 +113,17 @@ orders-alike n m o p e a = go (o .stood) (p .stood) refl (a .stood)
     go true false h d = absurd (true≢false d)
     go false true h d = absurd (true≢false (sym d))
 
-same-chains : (c d : Chain) (ns ms : List ℕ) → ChainsAgree c ns d ms → Same c ns d ms
+same-chains : (c d : Chain) (rows rows′ : List ℕ) → ChainsAgree c rows d rows′ → Same c rows d rows′
 unfolding trimmed capacitiesOf
-same-chains c d ns ms a =
-    trimmed-alike (c .grid) (d .grid) ns ms (c .window) (d .window) (c .bounds) (d .bounds) (capacitiesOf c) (capacitiesOf d) (c .order .stood) (d .order .stood)
+same-chains c d rows rows′ a =
+    trimmed-alike (c .grid) (d .grid) rows rows′ (c .window) (d .window) (c .bounds) (d .bounds) (capacitiesOf c) (capacitiesOf d) (c .order .stood) (d .order .stood)
     (orderOf (c .window .count) (c .order)) (orderOf (d .window .count) (d .order)) (c .kernel) (d .kernel) (a .grid) (a .window) (a .bounds)
     (alike (c .window .count - 1) (d .window .count - 1) _ _ (ap (λ (n : ℕ). n - 1) (a .window .count)) (a .capacities))
     (a .order .stood) (orders-alike (c .window .count) (d .window .count) (c .order) (d .order) (a .window .count) (a .order)) (a .kernel)
 
-apart : (c d : Chain) (ns ms : List ℕ) → c .order .stood ≡ true → d .order .stood ≡ false → Same c ns d ms → ⊥
+apart : (c d : Chain) (rows rows′ : List ℕ) → c .order .stood ≡ true → d .order .stood ≡ false → Same c rows d rows′ → ⊥
 unfolding trimmed
-apart c d ns ms s n e = true≢false (sym s ∙ ap (λ (t : Trimmed). t .ordered) e ∙ n)
+apart c d rows rows′ s n e = true≢false (sym s ∙ ap (λ (t : Trimmed). t .ordered) e ∙ n)
 
 -- A box is not none.
 boxed : Part → Bool
@@ -138,24 +138,24 @@ boxed-stood dims b = go (b .stood)
     go true = refl
     go false = refl
 
-box-apart : (c d : Chain) (ns ms : List ℕ) → c .bounds .stood ≡ true → d .bounds .stood ≡ false → Same c ns d ms → ⊥
+box-apart : (c d : Chain) (rows rows′ : List ℕ) → c .bounds .stood ≡ true → d .bounds .stood ≡ false → Same c rows d rows′ → ⊥
 unfolding trimmed
-box-apart c d ns ms s n e =
+box-apart c d rows rows′ s n e =
     true≢false (sym s ∙ sym (boxed-stood (dimsOf (c .grid)) (c .bounds)) ∙ ap (λ (t : Trimmed). boxed (t .part)) e ∙ boxed-stood (dimsOf (d .grid)) (d .bounds) ∙ n)
 
-box-asked : (r q : Request) (ns ms : List ℕ) → r .bounds .stood ≡ true → q .bounds .stood ≡ false → SameRequest r ns q ms → ⊥
+box-asked : (r q : Request) (rows rows′ : List ℕ) → r .bounds .stood ≡ true → q .bounds .stood ≡ false → SameRequest r rows q rows′ → ⊥
 unfolding trimmedRequest
-box-asked r q ns ms s n e =
+box-asked r q rows rows′ s n e =
     true≢false (sym s ∙ sym (boxed-stood (dimsOf (r .grid)) (r .bounds)) ∙ ap (λ (t : Trimmed). boxed (t .part)) e ∙ boxed-stood (dimsOf (q .grid)) (q .bounds) ∙ n)
 
-same-requests : (r q : Request) (ns ms : List ℕ) → RequestsAgree r ns q ms → SameRequest r ns q ms
+same-requests : (r q : Request) (rows rows′ : List ℕ) → RequestsAgree r rows q rows′ → SameRequest r rows q rows′
 unfolding trimmedRequest
-same-requests r q ns ms a =
-    both (r .kernel) (q .kernel) (distances (sorted (onGrid (r .grid) ns (r .window) (r .bounds)))) (distances (sorted (onGrid (q .grid) ms (q .window) (q .bounds)))) (a .kernel)
+same-requests r q rows rows′ a =
+    both (r .kernel) (q .kernel) (distances (sorted (onGrid (r .grid) rows (r .window) (r .bounds)))) (distances (sorted (onGrid (q .grid) rows′ (q .window) (q .bounds)))) (a .kernel)
     (ap (λ (t : Trimmed). distances (sorted t)) (both kernel.Raw kernel.Raw [] [] refl refl))
   where
-    both : (k l : Kernel) (xs ys : List ℕ) → k ≡ l → xs ≡ ys → trimmedOf (r .grid) ns (r .window) (r .bounds) xs false [] k ≡ trimmedOf (q .grid) ms (q .window) (q .bounds) ys false [] l
-    both k l xs ys f e = trimmed-alike (r .grid) (q .grid) ns ms (r .window) (q .window) (r .bounds) (q .bounds) xs ys false false [] [] k l (a .grid) (a .window) (a .bounds) e refl refl f
+    both : (k l : Kernel) (xs ys : List ℕ) → k ≡ l → xs ≡ ys → trimmedOf (r .grid) rows (r .window) (r .bounds) xs false [] k ≡ trimmedOf (q .grid) rows′ (q .window) (q .bounds) ys false [] l
+    both k l xs ys f e = trimmed-alike (r .grid) (q .grid) rows rows′ (r .window) (q .window) (r .bounds) (q .bounds) xs ys false false [] [] k l (a .grid) (a .window) (a .bounds) e refl refl f
 
 -- What is written of a chain, from what plays a part.
 boxFrom : (dims : ℕ) → Part → List (List ℕ)
@@ -194,28 +194,28 @@ box-from dims b = go (b .stood)
     go true = ap (λ (bs : List ℕ). (8 ∷ bs) ∷ []) (flat-alike dims (λ k. k) (pair (b .lowest) (b .highest)) (pair low high) same)
     go false = refl
 
-written-from : (c : Chain) (numbers output : List ℕ) → writeOf c numbers output ≡ writtenFrom (trimmed c numbers) output
+written-from : (c : Chain) (rows output : List ℕ) → writeOf c rows output ≡ writtenFrom (trimmed c rows) output
 unfolding writeOf writeVerdict sheetOf chainLines orderLines judgeChain trimmed linesFrom writtenFrom
-written-from c numbers output = rw (box-from (dimsOf (c .grid)) (c .bounds))
+written-from c rows output = rw (box-from (dimsOf (c .grid)) (c .bounds))
 
-written-alike : (c d : Chain) (ns ms : List ℕ) → Same c ns d ms → (output : List ℕ) → writeOf c ns output ≡ writeOf d ms output
-written-alike c d ns ms e output = written-from c ns output ∙ ap (λ (t : Trimmed). writtenFrom t output) e ∙ sym (written-from d ms output)
+written-alike : (c d : Chain) (rows rows′ : List ℕ) → Same c rows d rows′ → (output : List ℕ) → writeOf c rows output ≡ writeOf d rows′ output
+written-alike c d rows rows′ e output = written-from c rows output ∙ ap (λ (t : Trimmed). writtenFrom t output) e ∙ sym (written-from d rows′ output)
 
 -- What is planned of a request.
 plannedFrom : Trimmed → Planned
 plannedFrom t =
     byVerdict (judged t) (record { verdict = verdict.Accepted; chain = chainOf (sorted t) }) (λ x. record { verdict = verdict.Refused x; chain = blankChain })
 
-planned-from : (r : Request) (numbers : List ℕ) → planOf r numbers ≡ plannedFrom (trimmedRequest r numbers)
+planned-from : (r : Request) (rows : List ℕ) → planOf r rows ≡ plannedFrom (trimmedRequest r rows)
 unfolding planOf plannedChain judgeRequest plannedFrom
-planned-from r numbers = refl
+planned-from r rows = refl
 
-planned-alike : (r q : Request) (ns ms : List ℕ) → SameRequest r ns q ms → planOf r ns ≡ planOf q ms
-planned-alike r q ns ms e = planned-from r ns ∙ ap plannedFrom e ∙ sym (planned-from q ms)
+planned-alike : (r q : Request) (rows rows′ : List ℕ) → SameRequest r rows q rows′ → planOf r rows ≡ planOf q rows′
+planned-alike r q rows rows′ e = planned-from r rows ∙ ap plannedFrom e ∙ sym (planned-from q rows′)
 
-judged-alike : (r q : Request) (ns ms : List ℕ) → SameRequest r ns q ms → judgeRequest r ns ≡ judgeRequest q ms
+judged-alike : (r q : Request) (rows rows′ : List ℕ) → SameRequest r rows q rows′ → judgeRequest r rows ≡ judgeRequest q rows′
 unfolding judgeRequest
-judged-alike r q ns ms e = ap judged e
+judged-alike r q rows rows′ e = ap judged e
 
 pub past-counts : PastCounts
 past-counts = record { same-chains = same-chains; same-requests = same-requests; apart = apart; box-apart = box-apart; box-asked = box-asked; written = written-alike; judged = judged-alike; planned = planned-alike }

@@ -8,13 +8,13 @@ use native.Mathlib.Omega.{arith}
 use lib.ListN.{length, length-append}
 use Rattle.model.specs.Lists.{sum}
 use Rattle.model.specs.Values.{Trimmed, trimmed}
-use Rattle.model.specs.Clock.{Layout, Counters, fresh}
-use Rattle.model.specs.Running.{layout, countersOf, Done, Stalled, outcomeOf}
-use Rattle.model.specs.CallLists.{Lending, Between, callRun, callEvents, after, afterAll, runs, clocksMade, firingsMade}
-use Rattle.model.specs.Reports.{clocksOf, firingsOf}
+use Rattle.model_run.specs.Clock.{Layout, Counters, fresh}
+use Rattle.model_run.specs.Running.{layout, countersOf, Done, Stalled, outcomeOf}
+use Rattle.model_run.specs.CallLists.{Lending, Between, callRun, callEvents, after, afterAll, runs, clocksMade, firingsMade}
+use Rattle.model_run.specs.Reports.{clocksOf, firingsOf}
 use Rattle.flow.specs.Machine.{live, Ran}
 use Rattle.flow.proofs.Laws.{few-clocks, stopped-same}
-use Rattle.demands.specs.Demand3.{ListOfCalls, runsOf, eventsOf, handedOn, oneMore}
+use Rattle.demands.specs.Demand3.{ListOfCalls, runsOf, eventsOf, handedOn, oneMore, chainIn}
 use Rattle.demands.specs.Promises.{Piece, Over, SameRun, SameOutcome, EndAlike, Pieces, SmallPieces}
 use Rattle.run_laws.proofs.Layouts.{lawful}
 use Rattle.run_laws.proofs.Traces.{Traced, traced-ran, still-traced}
@@ -34,11 +34,11 @@ record Stops (t : Trimmed) (n : ℕ) (s : Counters) : Type 0 where
 module _ (q : ListOfCalls) (l : Lending) (over : Over (oneMore q l)) where
   -- The counters at its end.
   abbrev last : Counters
-  last = countersOf (trimmed (q .chain) (q .numbers) .count) (after (trimmed (q .chain) (q .numbers)) (q .stream) l (handedOn q) .state)
+  last = countersOf (chainIn q .count) (after (chainIn q) (q .stream) l (handedOn q) .state)
 
-  stops : Stops (trimmed (q .chain) (q .numbers)) (clocksMade (runsOf q) + clocksOf (oneMore q l)) last
+  stops : Stops (chainIn q) (clocksMade (runsOf q) + clocksOf (oneMore q l)) last
   stops =
-      let t = trimmed (q .chain) (q .numbers) in
+      let t = chainIn q in
       let r = after-reached (setting q) l (handedOn q) (reached q) in
       record {
         ran = subst (λ (n : ℕ). Ran (layout t) (fresh (layout t)) n last)
@@ -55,7 +55,7 @@ module _ (p q : ListOfCalls) (same : SameRun p q) (l m : Lending) where
   ends-same x y =
       let s = stops p l x in
       let e = subst (λ (t : Trimmed). Stops t (clocksMade (runsOf q) + clocksOf (oneMore q m)) (last q m y)) (sym (same .chain)) (stops q m y) in
-      stopped-same (layout (trimmed (p .chain) (p .numbers))) (s .ran) (s .dead) (e .ran) (e .dead)
+      stopped-same (layout (chainIn p)) (s .ran) (s .dead) (e .ran) (e .dead)
 
   same-outcome : (x : Over (oneMore p l)) (y : Over (oneMore q m)) → last p l x ≡ last q m y → SameOutcome (oneMore p l) (oneMore q m)
   unfolding outcomeOf
@@ -116,13 +116,13 @@ module _ (S : Setting) where
       go (inr x) y = inr (stays-dead ls (after t stream l b) _ (after-reached S l b r) (over-dead S l b r x))
 
 -- After n times the number of cells pieces there is none.
-pieces-over : (q : ListOfCalls) → Pieces (trimmed (q .chain) (q .numbers)) (q .stream) (q .calls) (q .start) → trimmed (q .chain) (q .numbers) .count * layout (trimmed (q .chain) (q .numbers)) .cells ≤ length (q .calls)
-    → (l : Lending) → Piece (trimmed (q .chain) (q .numbers)) l (handedOn q) → Over (oneMore q l)
+pieces-over : (q : ListOfCalls) → Pieces (chainIn q) (q .stream) (q .calls) (q .start) → chainIn q .count * layout (chainIn q) .cells ≤ length (q .calls)
+    → (l : Lending) → Piece (chainIn q) l (handedOn q) → Over (oneMore q l)
 unfolding layout
 pieces-over q pieces many l piece = go (makes (setting q) l (handedOn q) (reached q) piece) (pieces-on (setting q) (q .calls) (q .start) [] (start q) pieces)
   where
     t : Trimmed
-    t = trimmed (q .chain) (q .numbers)
+    t = chainIn q
 
     go : (0 < clocksOf (oneMore q l)) ⊎ Over (oneMore q l) → (length (q .calls) ≤ clocksMade (runsOf q)) ⊎ (live (layout t) (now (setting q) (handedOn q)) ≡ false)
         → Over (oneMore q l)

@@ -10,19 +10,19 @@ use Rattle.model.specs.Grounds.Ground.{rectangle}
 use Rattle.model.specs.Values.{Trimmed, groundOf, dimsOf, offsetsOf, trimmed}
 use Rattle.model.specs.Iterations.{positionOf, courseOf, iterationsOf, iterationOf, readsOf, distanceIn, distanceOf}
 use Rattle.model.specs.Judging.{judgeChain}
-use Rattle.model.specs.Running.{layout}
+use Rattle.model_run.specs.Running.{layout}
 use Rattle.model.specs.Steps.{distances, sorted}
 use Rattle.model.specs.Planning.{trimmedRequest, judgeRequest, planOf}
 use Rattle.model.specs.declared.Request.{Request}
 use Rattle.model.specs.declared.Verdict.the-variants as verdict
-use Rattle.model.proofs.ListLaws.{getD-tabulate}
-use Rattle.model.proofs.Iterations.{falls, distance-most, distance-reached}
-use Rattle.model.proofs.SameWindows.{fewest-places}
-use Rattle.model.proofs.SortLaws.{length-falling, falling-each, falling-no-other, falling-falls}
-use Rattle.model.proofs.TermLaws.{length-authors, authors-below, authors-hold}
+use Rattle.grid_laws.proofs.ListLaws.{getD-tabulate}
+use Rattle.grid_laws.proofs.Iterations.{falls, distance-most, distance-reached}
+use Rattle.grid_laws.proofs.SameWindows.{fewest-places}
+use Rattle.grid_laws.proofs.SortLaws.{length-falling, falling-each, falling-no-other, falling-falls}
+use Rattle.grid_laws.proofs.TermLaws.{length-authors, authors-below, authors-hold}
 use Rattle.model.specs.Sized.{Proper}
 use Rattle.run_laws.specs.Accepted.{Accepted}
-use Rattle.model.specs.Right.{Planned}
+use Rattle.grid_laws.specs.Right.{Planned}
 use Rattle.run_laws.proofs.Accepts.{trimmed-proper, accepted, fitting-of}
 use Rattle.run_laws.proofs.Layouts.{wants-read, planned-layout}
 use Rattle.run_laws.proofs.Plans.{sorted-proper, no-repeats, request-proper, planned-lists, planned-judged, plan-accepted}
@@ -59,24 +59,24 @@ module _ (t : Trimmed) (proper : Proper t) (ok : Accepted t) (p : Planned t) whe
     total-distance j h =
         rw (proper .fifos) at (steps-sum (readsOf t j) (t .capacities) (λ k b. every-iteration j k h (omega (arith, proper .fifos))))
 
-module _ (r : Request) (numbers : List ℕ) (ok : judgeRequest r numbers ≡ verdict.Accepted) where
-  planned-pairs : Planned (sorted (trimmedRequest r numbers))
+module _ (r : Request) (rows : List ℕ) (ok : judgeRequest r rows ≡ verdict.Accepted) where
+  planned-pairs : Planned (sorted (trimmedRequest r rows))
   unfolding judgeRequest trimmedRequest sorted distances distanceOf distanceIn readsOf positionOf iterationOf courseOf
   planned-pairs k g =
-      let p = request-proper r numbers in
+      let p = request-proper r rows in
       let os = offsetsOf (dimsOf (r .grid)) (r .window) in
       let n = length-falling os in
       record {
-        falls = falling-falls (dims (groundOf (r .grid) numbers)) os (p .entries) (no-repeats (trimmedRequest r numbers) ok) k (omega (arith, p .references));
+        falls = falling-falls (dims (groundOf (r .grid) rows)) os (p .entries) (no-repeats (trimmedRequest r rows) ok) k (omega (arith, p .references));
         exact = getD-tabulate (r .window .count - 1) _ k 0 (omega arith);
       }
 
-  planned-right : PlanRight r numbers (sorted (trimmedRequest r numbers))
+  planned-right : PlanRight r rows (sorted (trimmedRequest r rows))
   unfolding trimmedRequest sorted
   planned-right =
-      let t = sorted (trimmedRequest r numbers) in
-      let proper = sorted-proper (trimmedRequest r numbers) (request-proper r numbers) in
-      let good = accepted t proper (planned-judged r numbers ok) in
+      let t = sorted (trimmedRequest r rows) in
+      let proper = sorted-proper (trimmedRequest r rows) (request-proper r rows) in
+      let good = accepted t proper (planned-judged r rows ok) in
       let os = offsetsOf (dimsOf (r .grid)) (r .window) in
       record {
         dims = refl;
@@ -87,21 +87,21 @@ module _ (r : Request) (numbers : List ℕ) (ok : judgeRequest r numbers ≡ ver
         each = falling-each os;
         no-other = falling-no-other os;
         ordered = refl;
-        terms = length-authors os ∙ request-proper r numbers .references;
-        holds = λ i h. let b : i < length os = omega (arith, request-proper r numbers .references) in (omega (arith, authors-below os i b, request-proper r numbers .references), authors-hold os i b);
+        terms = length-authors os ∙ request-proper r rows .references;
+        holds = λ i h. let b : i < length os = omega (arith, request-proper r rows .references) in (omega (arith, authors-below os i b, request-proper r rows .references), authors-hold os i b);
         planned = planned-pairs;
         most = no-more t proper good planned-pairs;
         reached = one-has t proper good planned-pairs;
         every = every-iteration t proper good planned-pairs;
         total = total-distance t proper good planned-pairs;
-        least = λ c ns same right.
-            fewest-places t (trimmed c ns) (same .ground) (same .each) (same .no-other) (same .part) proper (trimmed-proper c ns) (fitting-of t proper good) (good .iterates) planned-pairs right;
+        least = λ c rows same right.
+            fewest-places t (trimmed c rows) (same .ground) (same .each) (same .no-other) (same .part) proper (trimmed-proper c rows) (fitting-of t proper good) (good .iterates) planned-pairs right;
       }
 
 pub plan-demand : PlanDemand
 unfolding planOf judgeChain
-plan-demand r numbers ok = record {
+plan-demand r rows ok = record {
   answer = rw ok;
-  accepted = plan-accepted r numbers ok;
-  right = rw (ok, planned-lists r numbers ok) (planned-right r numbers ok);
+  accepted = plan-accepted r rows ok;
+  right = rw (ok, planned-lists r rows ok) (planned-right r rows ok);
 }

@@ -10,9 +10,9 @@ use lib.Seq.{drop-at}
 use Rattle.model.specs.Values.{Trimmed, trimmed}
 use Rattle.model.specs.Answers.{noCounts, answerNumber, answerCounts, numberOf, byVerdict}
 use Rattle.model.specs.Judging.{judgeChain, judged}
-use Rattle.model.specs.Clock.{Counters, fresh}
-use Rattle.model.specs.Running.{layout, countersOf, withCounters, outcomeOf, shortStore, judgeRun, ended, runTrimmed, runOf, Run}
-use Rattle.model.specs.CallLists.{clocksMade, firingsMade, firingsAmong, allWords}
+use Rattle.model_run.specs.Clock.{Counters, fresh}
+use Rattle.model_run.specs.Running.{layout, countersOf, withCounters, outcomeOf, shortStore, judgeRun, ended, runTrimmed, runOf, Run}
+use Rattle.model_run.specs.CallLists.{clocksMade, firingsMade, firingsAmong, allWords}
 use Rattle.model.specs.declared.CellsPassed.{CellsPassed}
 use Rattle.model.specs.declared.State.{State}
 use Rattle.model.specs.declared.Refusal.{Refusal}
@@ -20,8 +20,8 @@ use Rattle.model.specs.declared.Verdict.{Verdict}
 use Rattle.model.specs.declared.Verdict.the-variants as verdict
 use Rattle.model.specs.declared.Answer.the-variants as answer
 use Rattle.flow.proofs.Laws.{few-clocks}
-use Rattle.demands.specs.Demand3.{ListOfCalls, runsOf, eventsOf, handedOn}
-use Rattle.model.specs.Words.{wordsFrom}
+use Rattle.demands.specs.Demand3.{ListOfCalls, runsOf, eventsOf, handedOn, chainIn}
+use Rattle.model_run.specs.Words.{wordsFrom}
 use Rattle.demands.specs.Promises.{FewClocks, NeverStale, SameRun, Split, RefusedKeeps, PastCount, Alike}
 use Rattle.run_laws.proofs.Layouts.{lawful}
 use Rattle.run_laws.proofs.Lengths.{length-ended}
@@ -36,32 +36,32 @@ use Rattle.demands.proofs.Words.{demand-2}
 module _ (q : ListOfCalls) where
   pub clocks-few : FewClocks q
   unfolding layout
-  clocks-few = omega (arith, few-clocks (layout (trimmed (q .chain) (q .numbers))) (lawful (trimmed (q .chain) (q .numbers)) (setting q .proper) (setting q .accepted)) (traced-ran (layout (trimmed (q .chain) (q .numbers))) (reached q .traced)), numbered q .clocks)
+  clocks-few = omega (arith, few-clocks (layout (chainIn q)) (lawful (chainIn q) (setting q .proper) (setting q .accepted)) (traced-ran (layout (chainIn q)) (reached q .traced)), numbered q .clocks)
 
   pub never-stale : NeverStale q
   unfolding refused ran answerNumber numberOf
   never-stale l =
       by-call (setting q) l (handedOn q) (reached q)
-      (λ x _. (answerNumber (x .answer) ≡ 0) ⊎ ((answerNumber (x .answer) ≡ 10) × (shortStore (trimmed (q .chain) (q .numbers)) (take (l .front) (handedOn q .store)) ≡ true)))
+      (λ x _. (answerNumber (x .answer) ≡ 0) ⊎ ((answerNumber (x .answer) ≡ 10) × (shortStore (chainIn q) (take (l .front) (handedOn q .store)) ≡ true)))
       (λ s. inr (refl, s)) (λ _. inl refl)
 
 -- Two lists on one chain and one stream.
 module _ (p q : ListOfCalls) (same : SameRun p q) where
   -- The second list's clocks, on the first one's layout.
-  other : Traced (layout (trimmed (p .chain) (p .numbers))) (fresh (layout (trimmed (p .chain) (p .numbers)))) (eventsOf q) (countersOf (trimmed (q .chain) (q .numbers) .count) (handedOn q .state))
-  other = subst (λ (t : Trimmed). Traced (layout t) (fresh (layout t)) (eventsOf q) (countersOf (trimmed (q .chain) (q .numbers) .count) (handedOn q .state))) (sym (same .chain)) (reached q .traced)
+  other : Traced (layout (chainIn p)) (fresh (layout (chainIn p))) (eventsOf q) (countersOf (chainIn q .count) (handedOn q .state))
+  other = subst (λ (t : Trimmed). Traced (layout t) (fresh (layout t)) (eventsOf q) (countersOf (chainIn q .count) (handedOn q .state))) (sym (same .chain)) (reached q .traced)
 
   same-clocks : clocksMade (runsOf p) ≡ clocksMade (runsOf q)
-      → (eventsOf p ≡ eventsOf q) × (countersOf (trimmed (p .chain) (p .numbers) .count) (handedOn p .state) ≡ countersOf (trimmed (q .chain) (q .numbers) .count) (handedOn q .state))
-  same-clocks e = traced-same (layout (trimmed (p .chain) (p .numbers))) (reached p .traced) other (numbered p .clocks ∙ e ∙ sym (numbered q .clocks))
+      → (eventsOf p ≡ eventsOf q) × (countersOf (chainIn p .count) (handedOn p .state) ≡ countersOf (chainIn q .count) (handedOn q .state))
+  same-clocks e = traced-same (layout (chainIn p)) (reached p .traced) other (numbered p .clocks ∙ e ∙ sym (numbered q .clocks))
 
   same-firings : clocksMade (runsOf p) ≡ clocksMade (runsOf q) → firingsMade (runsOf p) ≡ firingsMade (runsOf q)
   same-firings e = sym (numbered p .firings) ∙ ap firingsAmong (same-clocks e .0) ∙ numbered q .firings
 
   same-words : clocksMade (runsOf p) ≡ clocksMade (runsOf q)
-      → allWords (trimmed (p .chain) (p .numbers)) (p .stream) (p .calls) (p .start) ≡ allWords (trimmed (q .chain) (q .numbers)) (q .stream) (q .calls) (q .start)
+      → allWords (chainIn p) (p .stream) (p .calls) (p .start) ≡ allWords (chainIn q) (q .stream) (q .calls) (q .start)
   same-words e =
-      demand-2 p .words ∙ ap (λ (n : ℕ). wordsFrom (trimmed (p .chain) (p .numbers)) (p .stream) 0 n) (same-firings e)
+      demand-2 p .words ∙ ap (λ (n : ℕ). wordsFrom (chainIn p) (p .stream) 0 n) (same-firings e)
       ∙ ap₂ (λ (t : Trimmed) (s : ℕ → ℕ). wordsFrom t s 0 (firingsMade (runsOf q))) (same .chain) (same .stream) ∙ sym (demand-2 q .words)
 
 pub split : (p q : ListOfCalls) → Split p q
@@ -96,24 +96,24 @@ module _ (t : Trimmed) (s : State) (store lent output : List ℕ) (allowance : �
 
 pub refused-keeps : RefusedKeeps
 unfolding runOf answerCounts
-refused-keeps c numbers s store lent output allowance x =
-    by-run (trimmed c numbers) s store lent output allowance
+refused-keeps c rows s store lent output allowance x =
+    by-run (trimmed c rows) s store lent output allowance
     (λ r. r .answer ≡ answer.Refused x → (r .state ≡ s) × (r .store ≡ store) × (r .output ≡ output) × (answerCounts (r .answer) ≡ noCounts))
     (λ e. absurd (let z : _≡_ {A = ℕ} 0 1 = cc in omega arith)) (λ y e. (refl, refl, refl, refl))
 
 pub past-count : PastCount
 unfolding runOf withCounters trimmed
-past-count c numbers s store lent output allowance =
-    by-run (trimmed c numbers) s store lent output allowance (λ r. drop (c .window .count) (r .state .passed) ≡ drop (c .window .count) (s .passed))
+past-count c rows s store lent output allowance =
+    by-run (trimmed c rows) s store lent output allowance (λ r. drop (c .window .count) (r .state .passed) ≡ drop (c .window .count) (s .passed))
     (rw n (drop-at (map (λ (p : ℕ). let passed : CellsPassed = record { 0 = p } in passed) (last .passed)) (drop (c .window .count) (s .passed)) (c .window .count)
     (length-map (last .passed) _ ∙ n))) (λ y. refl)
   where
     last : Counters
-    last = ended (trimmed c numbers) s store lent output allowance .standing .counters
+    last = ended (trimmed c rows) s store lent output allowance .standing .counters
 
     n : length (last .passed) ≡ c .window .count
-    n = length-ended (trimmed c numbers) s store lent output allowance
+    n = length-ended (trimmed c rows) s store lent output allowance
 
 pub alike : Alike
 unfolding judgeChain runOf
-alike c d ns ms e = (ap judged e, λ s store lent output allowance. ap (λ (t : Trimmed). runTrimmed t s store lent output allowance) e)
+alike c d rows rows′ e = (ap judged e, λ s store lent output allowance. ap (λ (t : Trimmed). runTrimmed t s store lent output allowance) e)

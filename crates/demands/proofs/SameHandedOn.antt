@@ -8,17 +8,17 @@ use lib.ListN.{length, getD, take, drop, take-append-drop, length-append, length
 use lib.Seq.{drop-at}
 use Rattle.model.specs.Lists.{tabulate}
 use Rattle.model.specs.Values.{Trimmed, trimmed}
-use Rattle.model.specs.Clock.{Layout, Counters, first, next}
-use Rattle.model.specs.Store.{firstPlace, stored}
-use Rattle.model.specs.Running.{layout, countersOf, withCounters, Standing, goes, call, events, clocked, shortStore, begun, writtenBy, widthOf}
-use Rattle.model.specs.CallLists.{Lending, Between, lentCells, callEvents, after, afterAll, runs, allEvents, clocksMade}
+use Rattle.model_run.specs.Clock.{Layout, Counters, first, next}
+use Rattle.model_run.specs.Store.{firstPlace, stored}
+use Rattle.model_run.specs.Running.{layout, countersOf, withCounters, Standing, goes, call, events, clocked, shortStore, begun, writtenBy, widthOf}
+use Rattle.model_run.specs.CallLists.{Lending, Between, lentCells, callEvents, after, afterAll, runs, allEvents, clocksMade}
 use Rattle.model.specs.declared.CellsPassed.{CellsPassed}
 use Rattle.model.specs.declared.State.{State}
-use Rattle.model.proofs.ListLaws.{length-tabulate}
+use Rattle.grid_laws.proofs.ListLaws.{length-tabulate}
 use Rattle.flow.specs.Machine.{Lawful, Invariant}
 use Rattle.flow.proofs.Laws.{live-yes}
 use Rattle.flow.proofs.Invariant.{next-invariant}
-use Rattle.demands.specs.Demand3.{ListOfCalls, runsOf, handedOn}
+use Rattle.demands.specs.Demand3.{ListOfCalls, runsOf, handedOn, chainIn}
 use Rattle.demands.specs.Promises.{SameRun, SameStart}
 use Rattle.run_laws.proofs.Layouts.{lawful, all-places}
 use Rattle.run_laws.proofs.Looks.{Looked, is-going, along-call}
@@ -180,7 +180,7 @@ same-handed p q same begin e =
     ∙ moved afterAll
   where
     -- The second list's calls, on the first one's chain, stream and start.
-    moved : {A : Type 0} (f : Trimmed → (ℕ → ℕ) → List Lending → Between → A) → f (trimmed (p .chain) (p .numbers)) (p .stream) (q .calls) (p .start) ≡ f (trimmed (q .chain) (q .numbers)) (q .stream) (q .calls) (q .start)
+    moved : {A : Type 0} (f : Trimmed → (ℕ → ℕ) → List Lending → Between → A) → f (chainIn p) (p .stream) (q .calls) (p .start) ≡ f (chainIn q) (q .stream) (q .calls) (q .start)
     moved f =
         ap₂ (λ (t : Trimmed) (s : ℕ → ℕ). f t s (q .calls) (p .start)) (same .chain) (same .stream)
-        ∙ ap (f (trimmed (q .chain) (q .numbers)) (q .stream) (q .calls)) (begin .start)
+        ∙ ap (f (chainIn q) (q .stream) (q .calls)) (begin .start)

@@ -7,12 +7,12 @@ use mathlib.Core.Path.{_≡_, refl, _∙_, ap}
 use native.Mathlib.Omega.{arith}
 use lib.Dec.{ltb}
 use lib.ListN.{take}
-use Rattle.model.specs.Clock.{Counters, moves}
-use Rattle.model.specs.Running.{layout, Run, Ending, Done, Stalled, ends, outcomeOf, shortStore, begun, writtenBy, widthOf}
-use Rattle.model.specs.CallLists.{Lending, Between, LentEnough, lentCells, callRun, callEvents, firingsAmong}
+use Rattle.model_run.specs.Clock.{Counters, moves}
+use Rattle.model_run.specs.Running.{layout, Run, Ending, Done, Stalled, ends, outcomeOf, shortStore, begun, writtenBy, widthOf}
+use Rattle.model_run.specs.CallLists.{Lending, Between, LentEnough, lentCells, callRun, callEvents, firingsAmong}
 use Rattle.model.specs.declared.Outcome.the-variants as outcome
 use Rattle.model.specs.declared.Answer.the-variants as answer
-use Rattle.model.specs.Reports.{Reports, firingsOf}
+use Rattle.model_run.specs.Reports.{Reports, firingsOf}
 use Rattle.flow.specs.Machine.{live, FlowsUpTo}
 use Rattle.flow.proofs.Laws.{no-more, stopped}
 use Rattle.run_laws.proofs.Layouts.{lawful}

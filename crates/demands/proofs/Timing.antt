@@ -12,20 +12,20 @@ use Rattle.model.specs.Grounds.{cellCount, position}
 use Rattle.model.specs.Grounds.Ground.{rectangle}
 use Rattle.model.specs.Courses.{count, vector}
 use Rattle.model.specs.Boxes.{course}
-use Rattle.model.specs.Values.{Trimmed, trimmed}
+use Rattle.model.specs.Values.{Trimmed}
 use Rattle.model.specs.Iterations.{cellsOf, positionOf, courseOf, iterationsOf, iterationOf, readsOf, newestOf}
-use Rattle.model.specs.Clock.{Layout, Counters, fires, fresh}
-use Rattle.model.specs.Running.{layout}
-use Rattle.model.specs.CallLists.{FiresIn}
-use Rattle.model.proofs.Iterations.{newest-most, newest-read}
-use Rattle.model.proofs.SameWindows.{same-count, same-iteration, same-order, same-newest}
+use Rattle.model_run.specs.Clock.{Layout, Counters, fires, fresh}
+use Rattle.model_run.specs.Running.{layout}
+use Rattle.model_run.specs.CallLists.{FiresIn}
+use Rattle.grid_laws.proofs.Iterations.{newest-most, newest-read}
+use Rattle.grid_laws.proofs.SameWindows.{same-count, same-iteration, same-order, same-newest}
 use Rattle.flow.specs.Machine.{clock, Lawful, Flows, Ran, Firing}
 use Rattle.flow.proofs.Blocked.{first-blocked}
 use Rattle.flow.proofs.Capacities.{withCapacities, same-firing, one-clock, reads-first}
 use Rattle.flow.proofs.Laws.{live-yes, ran-invariant, block, just-in-time, fires-when, newest-first}
-use Rattle.model.specs.Right.{Right, Planned}
+use Rattle.grid_laws.specs.Right.{Right, Planned}
 use Rattle.demands.specs.Plan.{SameWindow}
-use Rattle.demands.specs.Demand3.{ListOfCalls, eventsOf, Indexed, OnTime, NotEarlier}
+use Rattle.demands.specs.Demand3.{ListOfCalls, eventsOf, Indexed, OnTime, NotEarlier, chainIn}
 use Rattle.model.specs.Sized.{Proper}
 use Rattle.run_laws.specs.Accepted.{Accepted}
 use Rattle.run_laws.proofs.Accepts.{fitting-of}
@@ -108,22 +108,22 @@ module _ (t : Trimmed) (proper : Proper t) (ok : Accepted t) where
 
 module _ (q : ListOfCalls) where
   pub indexed : Indexed q
-  indexed j u f = left (trimmed (q .chain) (q .numbers)) (setting q .proper) (setting q .accepted) (reached q .traced) u j f
+  indexed j u f = left (chainIn q) (setting q .proper) (setting q .accepted) (reached q .traced) u j f
 
-  pub on-time : (sizes : List ℕ) (is : trimmed (q .chain) (q .numbers) .ground ≡ rectangle sizes) → OnTime q sizes is
+  pub on-time : (sizes : List ℕ) (is : chainIn q .ground ≡ rectangle sizes) → OnTime q sizes is
   on-time sizes is =
-      let t = trimmed (q .chain) (q .numbers) in
+      let t = chainIn q in
       let tr = reached q .traced in
       record {
         fired = λ planned j h. (
           λ f. omega (arith, fires-on-time t (setting q .proper) (setting q .accepted) tr sizes is planned (f .0) j (f .1), f .1 .made, numbered q .clocks),
-          λ due. (newestOf (trimmed (q .chain) (q .numbers)) j, due-fires t (setting q .proper) (setting q .accepted) tr sizes is planned j h (rw (numbered q .clocks) due)),
+          λ due. (newestOf (chainIn q) j, due-fires t (setting q .proper) (setting q .accepted) tr sizes is planned j h (rw (numbered q .clocks) due)),
         );
         clock = λ planned j u f. fires-on-time t (setting q .proper) (setting q .accepted) tr sizes is planned u j f;
       }
 
-  pub newest-not-early : (j u : ℕ) → FiresIn (eventsOf q) u j → newestOf (trimmed (q .chain) (q .numbers)) j ≤ u
-  newest-not-early j u f = newest-before (trimmed (q .chain) (q .numbers)) (setting q .proper) (setting q .accepted) (reached q .traced) u j f
+  pub newest-not-early : (j u : ℕ) → FiresIn (eventsOf q) u j → newestOf (chainIn q) j ≤ u
+  newest-not-early j u f = newest-before (chainIn q) (setting q .proper) (setting q .accepted) (reached q .traced) u j f
 
 -- The same cells, part and offsets give the same layout, but for the capacities.
 same-layout : (t u : Trimmed) → t .ground ≡ u .ground → t .part ≡ u .part → t .offsets ≡ u .offsets → t .count ≡ u .count
@@ -163,10 +163,10 @@ not-earlier p q = record {
 }
   where
     t : Trimmed
-    t = trimmed (p .chain) (p .numbers)
+    t = chainIn p
 
     u : Trimmed
-    u = trimmed (q .chain) (q .numbers)
+    u = chainIn q
 
     -- What the other fires, the planned one fires in the same clock.
     too : SameWindow t u → Planned t → (j v : ℕ) → FiresIn (eventsOf q) v j → Firing (layout t) v j

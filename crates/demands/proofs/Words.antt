@@ -5,13 +5,13 @@ use mathlib.Core.List.{List, [], _∷_, _++_}
 use mathlib.Core.Path.{_≡_, refl, _∙_, ap, ap₂}
 use Rattle.model.specs.Lists.{sum}
 use Rattle.model.specs.Values.{trimmed}
-use Rattle.model.specs.CallLists.{Lending, Between, callRun, after, runs, allWords, firingsMade, firingsAmong}
-use Rattle.model.specs.Reports.{firingsOf}
-use Rattle.demands.specs.Demand3.{ListOfCalls, runsOf}
-use Rattle.model.specs.Words.{wordsFrom}
+use Rattle.model_run.specs.CallLists.{Lending, Between, callRun, after, runs, allWords, firingsMade, firingsAmong}
+use Rattle.model_run.specs.Reports.{firingsOf}
+use Rattle.demands.specs.Demand3.{ListOfCalls, runsOf, chainIn}
+use Rattle.model_run.specs.Words.{wordsFrom}
 use Rattle.demands.specs.Demand2.{Kept, Demand2}
 use Rattle.run_laws.proofs.Between.{Setting, Reached, now, reached-fired, after-reached}
-use Rattle.model.proofs.WordLaws.{words-append}
+use Rattle.model_run.proofs.WordLaws.{words-append}
 use Rattle.run_laws.proofs.Words.{call-written, call-kept, fired-after}
 use Rattle.demands.proofs.Finishing.{setting, start}
 
@@ -34,7 +34,7 @@ module _ (S : Setting) where
 pub demand-2 : (q : ListOfCalls) → Demand2 q
 unfolding firingsAmong
 demand-2 q =
-    let t = trimmed (q .chain) (q .numbers) in
+    let t = chainIn q in
     record {
       words = list-words (setting q) (q .calls) (q .start) [] (start q)
           ∙ ap (λ (j : ℕ). wordsFrom t (q .stream) j (firingsMade (runsOf q))) (reached-fired (setting q) (start q));

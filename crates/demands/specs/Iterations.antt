@@ -14,7 +14,7 @@ use Rattle.model.specs.Iterations.{cellsOf, isCellOf, positionOf, isIterationOf
 use Rattle.model.specs.Answers.{verdictNumber}
 use Rattle.model.specs.Judging.{badGround, badCount, repeats, noIteration, judged, judgeChain}
 use Rattle.model.specs.Planning.{trimmedRequest}
-use Rattle.model.specs.Running.{runOf}
+use Rattle.model_run.specs.Running.{runOf}
 use Rattle.model.specs.declared.Bounds.{Bounds}
 use Rattle.model.specs.declared.Chain.{Chain}
 use Rattle.model.specs.declared.Request.{Request}
@@ -74,19 +74,19 @@ pub record Filling (c : Chain) (sizes : List ℕ) (b : Bounds) : Type 0 where
 
 -- On a rectangle a full box runs as none: an accepted chain is accepted with it too, and every call does the same in every word and clock.
 abbrev pub FullBoxRuns : Type 0
-FullBoxRuns = (c : Chain) (numbers sizes : List ℕ) → trimmed c numbers .ground ≡ rectangle sizes → (b : Bounds) → Filling c sizes b → judgeChain c numbers ≡ verdict.Accepted
-    → (judgeChain (setBounds b c) numbers ≡ verdict.Accepted)
-    × ((s : State) (store lent output : List ℕ) (allowance : ℕ) → runOf (setBounds b c) numbers s store lent output allowance ≡ runOf c numbers s store lent output allowance)
+FullBoxRuns = (c : Chain) (rows sizes : List ℕ) → trimmed c rows .ground ≡ rectangle sizes → (b : Bounds) → Filling c sizes b → judgeChain c rows ≡ verdict.Accepted
+    → (judgeChain (setBounds b c) rows ≡ verdict.Accepted)
+    × ((s : State) (store lent output : List ℕ) (allowance : ℕ) → runOf (setBounds b c) rows s store lent output allowance ≡ runOf c rows s store lent output allowance)
 
 -- Iterations and largest distances of every accepted chain, one distance on every rectangle that 4 and 15 let pass, cells of every chain, numbers 6 and 15 of every chain and every request.
 pub record Geometry : Type 0 where
-  pub iterations : (c : Chain) (numbers : List ℕ) → judgeChain c numbers ≡ verdict.Accepted → Enumerated (trimmed c numbers)
-  pub largest : (c : Chain) (numbers : List ℕ) → judgeChain c numbers ≡ verdict.Accepted → Largest (trimmed c numbers)
-  pub distances : (c : Chain) (numbers sizes : List ℕ) → trimmed c numbers .ground ≡ rectangle sizes → badCount (c .window .count) ≡ false
-      → badBox (trimmed c numbers .ground) (trimmed c numbers .offsets) (trimmed c numbers .part) ≡ false → SameDistance (trimmed c numbers)
-  pub cells : (c : Chain) (numbers : List ℕ) → Placed (trimmed c numbers)
-  pub chain-6 : (c : Chain) (numbers : List ℕ) → Number6 (trimmed c numbers)
-  pub request-6 : (r : Request) (numbers : List ℕ) → Number6 (trimmedRequest r numbers)
-  pub chain-15 : (c : Chain) (numbers : List ℕ) → Number15 (trimmed c numbers)
-  pub request-15 : (r : Request) (numbers : List ℕ) → Number15 (trimmedRequest r numbers)
+  pub iterations : (c : Chain) (rows : List ℕ) → judgeChain c rows ≡ verdict.Accepted → Enumerated (trimmed c rows)
+  pub largest : (c : Chain) (rows : List ℕ) → judgeChain c rows ≡ verdict.Accepted → Largest (trimmed c rows)
+  pub distances : (c : Chain) (rows sizes : List ℕ) → trimmed c rows .ground ≡ rectangle sizes → badCount (c .window .count) ≡ false
+      → badBox (trimmed c rows .ground) (trimmed c rows .offsets) (trimmed c rows .part) ≡ false → SameDistance (trimmed c rows)
+  pub cells : (c : Chain) (rows : List ℕ) → Placed (trimmed c rows)
+  pub chain-6 : (c : Chain) (rows : List ℕ) → Number6 (trimmed c rows)
+  pub request-6 : (r : Request) (rows : List ℕ) → Number6 (trimmedRequest r rows)
+  pub chain-15 : (c : Chain) (rows : List ℕ) → Number15 (trimmed c rows)
+  pub request-15 : (r : Request) (rows : List ℕ) → Number15 (trimmedRequest r rows)
   pub full-box : FullBoxRuns

@@ -1,6 +1,6 @@
 pub mod Iterations
 pub mod Plan
-pub mod Steps
+pub mod PlanSteps
 pub mod Demand3
 pub mod Demand2
 pub mod Promises

@@ -14,7 +14,7 @@ use Rattle.model.specs.Planning.{judgeRequest, planOf}
 use Rattle.model.specs.declared.Chain.{Chain}
 use Rattle.model.specs.declared.Request.{Request}
 use Rattle.model.specs.declared.Verdict.the-variants as verdict
-use Rattle.model.specs.Right.{Right, Planned}
+use Rattle.grid_laws.specs.Right.{Right, Planned}
 
 -- Values of the same grid, box and window: the same cells, the same box or none, and the same offsets in any order; capacities, orders and kernels as they like.
 pub record SameWindow (t u : Trimmed) : Type 0 where
@@ -24,10 +24,10 @@ pub record SameWindow (t u : Trimmed) : Type 0 where
   pub no-other : Members (u .offsets) (t .offsets)
 
 -- t: the planned chain of the request r, trimmed.
-pub record PlanRight (r : Request) (numbers : List ℕ) (t : Trimmed) : Type 0 where
+pub record PlanRight (r : Request) (rows : List ℕ) (t : Trimmed) : Type 0 where
   -- The grid, the box and the kernel are the request's: "Planning copies it", and where none stood there is none.
   pub dims : t .dims ≡ dimsOf (r .grid)
-  pub ground : t .ground ≡ groundOf (r .grid) numbers
+  pub ground : t .ground ≡ groundOf (r .grid) rows
   pub part : t .part ≡ partOf (dimsOf (r .grid)) (r .bounds)
   pub kernel : t .kernel ≡ r .kernel
   -- The offsets are the request's, as many, each once.
@@ -51,14 +51,14 @@ pub record PlanRight (r : Request) (numbers : List ℕ) (t : Trimmed) : Type 0 w
   pub total : (sizes : List ℕ) → t .ground ≡ rectangle sizes → (j : ℕ) → j < iterationsOf t
       → readsOf t j 0 ≡ readsOf t j (t .count - 1) + sum (t .capacities)
   -- No chain of the same grid, box and window, accepted or not, whose order and capacities are right has fewer places.
-  pub least : (c : Chain) (ns : List ℕ) → SameWindow t (trimmed c ns) → Right (trimmed c ns) → sum (t .capacities) ≤ sum (trimmed c ns .capacities)
+  pub least : (c : Chain) (rows : List ℕ) → SameWindow t (trimmed c rows) → Right (trimmed c rows) → sum (t .capacities) ≤ sum (trimmed c rows .capacities)
 
 -- What planning gives.
-pub record PlanGives (r : Request) (numbers : List ℕ) : Type 0 where
-  pub answer : planOf r numbers .verdict ≡ verdict.Accepted
-  pub accepted : judgeChain (planOf r numbers .chain) numbers ≡ verdict.Accepted
-  pub right : PlanRight r numbers (trimmed (planOf r numbers .chain) numbers)
+pub record PlanGives (r : Request) (rows : List ℕ) : Type 0 where
+  pub answer : planOf r rows .verdict ≡ verdict.Accepted
+  pub accepted : judgeChain (planOf r rows .chain) rows ≡ verdict.Accepted
+  pub right : PlanRight r rows (trimmed (planOf r rows .chain) rows)
 
 -- A request that no number turns back is planned, and its chain is accepted.
 abbrev pub PlanDemand : Type 0
-PlanDemand = (r : Request) (numbers : List ℕ) → judgeRequest r numbers ≡ verdict.Accepted → PlanGives r numbers
+PlanDemand = (r : Request) (rows : List ℕ) → judgeRequest r rows ≡ verdict.Accepted → PlanGives r rows

@@ -5,18 +5,18 @@ use mathlib.Core.List.{List, [], _∷_}
 use mathlib.Core.Logic.{_⊎_}
 use mathlib.Core.Path.{_≡_}
 use lib.ListN.{length, take, drop}
-use Rattle.model.specs.Values.{Trimmed, trimmed, Same}
+use Rattle.model.specs.Values.{Trimmed, Same}
 use Rattle.model.specs.Answers.{noCounts, answerNumber, answerCounts}
 use Rattle.model.specs.Judging.{judgeChain}
-use Rattle.model.specs.Running.{layout, countersOf, widthOf, shortStore, Ending, outcomeOf, Run, runOf}
-use Rattle.model.specs.CallLists.{Lending, Between, LentEnough, callRun, after, allWords, clocksMade, firingsMade}
+use Rattle.model_run.specs.Running.{layout, countersOf, widthOf, shortStore, Ending, outcomeOf, Run, runOf}
+use Rattle.model_run.specs.CallLists.{Lending, Between, LentEnough, callRun, after, allWords, clocksMade, firingsMade}
 use Rattle.model.specs.declared.Chain.{Chain}
 use Rattle.model.specs.declared.State.{State}
 use Rattle.model.specs.declared.Refusal.{Refusal}
 use Rattle.model.specs.declared.Outcome.the-variants as outcome
 use Rattle.model.specs.declared.Answer.the-variants as answer
-use Rattle.model.specs.Reports.{Reports, firingsOf, clocksOf}
-use Rattle.demands.specs.Demand3.{ListOfCalls, runsOf, handedOn, oneMore}
+use Rattle.model_run.specs.Reports.{Reports, firingsOf, clocksOf}
+use Rattle.demands.specs.Demand3.{ListOfCalls, runsOf, handedOn, oneMore, chainIn}
 
 -- A call's lending has a clock, a cell, places for a firing and a store that 10 does not refuse.
 pub record Piece (t : Trimmed) (l : Lending) (b : Between) : Type 0 where
@@ -32,38 +32,38 @@ Over r = Reports outcome.Done r ⊎ Reports outcome.Stalled r
 module _ (q : ListOfCalls) where
   -- Clocks made is "over a whole run at most n times the number of cells".
   abbrev pub FewClocks : Type 0
-  FewClocks = clocksMade (runsOf q) ≤ trimmed (q .chain) (q .numbers) .count * layout (trimmed (q .chain) (q .numbers)) .cells
+  FewClocks = clocksMade (runsOf q) ≤ chainIn q .count * layout (chainIn q) .cells
 
   -- A state that the list reaches is never refused by 11: of all numbers only 10 turns a call of it back, and only where the store that is lent is short.
   abbrev pub NeverStale : Type 0
   NeverStale = (l : Lending) → (answerNumber (oneMore q l .answer) ≡ 0)
-      ⊎ ((answerNumber (oneMore q l .answer) ≡ 10) × (shortStore (trimmed (q .chain) (q .numbers)) (take (l .front) (handedOn q .store)) ≡ true))
+      ⊎ ((answerNumber (oneMore q l .answer) ≡ 10) × (shortStore (chainIn q) (take (l .front) (handedOn q .store)) ≡ true))
 
   -- "A call lent a clock, a cell, places for a firing and such a store makes a clock unless it ends Done or Stalled".
   abbrev pub MakesClock : Type 0
-  MakesClock = (l : Lending) → Piece (trimmed (q .chain) (q .numbers)) l (handedOn q) → (0 < clocksOf (oneMore q l)) ⊎ Over (oneMore q l)
+  MakesClock = (l : Lending) → Piece (chainIn q) l (handedOn q) → (0 < clocksOf (oneMore q l)) ⊎ Over (oneMore q l)
 
   -- The call m after the call l.
   abbrev pub again : (l m : Lending) → Run
-  again l m = callRun (trimmed (q .chain) (q .numbers)) (q .stream) m (after (trimmed (q .chain) (q .numbers)) (q .stream) l (handedOn q))
+  again l m = callRun (chainIn q) (q .stream) m (after (chainIn q) (q .stream) l (handedOn q))
 
   abbrev pub againStore : (l m : Lending) → List ℕ
-  againStore l m = take (m .front) (after (trimmed (q .chain) (q .numbers)) (q .stream) l (handedOn q) .store)
+  againStore l m = take (m .front) (after (chainIn q) (q .stream) l (handedOn q) .store)
 
   -- "Calling again after Done or Stalled gives the same outcome with zeros, unless an earlier line of the list applies." The line before Stalled are Spent, with no clock allowed, and
   -- Starved, with no cell lent.
   pub record Again (l m : Lending) : Type 0 where
-    pub done : Reports outcome.Done (oneMore q l) → shortStore (trimmed (q .chain) (q .numbers)) (againStore l m) ≡ false → again l m .answer ≡ answer.Ended (outcome.Done noCounts)
-    pub stalled : Reports outcome.Stalled (oneMore q l) → shortStore (trimmed (q .chain) (q .numbers)) (againStore l m) ≡ false → 0 < m .allowance → 0 < m .cells
+    pub done : Reports outcome.Done (oneMore q l) → shortStore (chainIn q) (againStore l m) ≡ false → again l m .answer ≡ answer.Ended (outcome.Done noCounts)
+    pub stalled : Reports outcome.Stalled (oneMore q l) → shortStore (chainIn q) (againStore l m) ≡ false → 0 < m .allowance → 0 < m .cells
         → again l m .answer ≡ answer.Ended (outcome.Stalled noCounts)
-    pub spent : Reports outcome.Stalled (oneMore q l) → shortStore (trimmed (q .chain) (q .numbers)) (againStore l m) ≡ false → m .allowance ≡ 0
+    pub spent : Reports outcome.Stalled (oneMore q l) → shortStore (chainIn q) (againStore l m) ≡ false → m .allowance ≡ 0
         → again l m .answer ≡ answer.Ended (outcome.Spent noCounts)
-    pub starved : Reports outcome.Stalled (oneMore q l) → shortStore (trimmed (q .chain) (q .numbers)) (againStore l m) ≡ false → 0 < m .allowance → m .cells ≡ 0
+    pub starved : Reports outcome.Stalled (oneMore q l) → shortStore (chainIn q) (againStore l m) ≡ false → 0 < m .allowance → m .cells ≡ 0
         → again l m .answer ≡ answer.Ended (outcome.Starved noCounts)
 
 -- Two lists of calls on one chain and one stream.
 pub record SameRun (p q : ListOfCalls) : Type 0 where
-  pub chain : trimmed (p .chain) (p .numbers) ≡ trimmed (q .chain) (q .numbers)
+  pub chain : chainIn p ≡ chainIn q
   pub stream : p .stream ≡ q .stream
 
 -- Both report the same of the five outcomes.
@@ -76,25 +76,25 @@ pub record SameOutcome (r x : Run) : Type 0 where
 pub record EndAlike (p q : ListOfCalls) (l m : Lending) : Type 0 where
   pub clocks : clocksMade (runsOf p) + clocksOf (oneMore p l) ≡ clocksMade (runsOf q) + clocksOf (oneMore q m)
   pub firings : firingsMade (runsOf p) + firingsOf (oneMore p l) ≡ firingsMade (runsOf q) + firingsOf (oneMore q m)
-  pub counters : countersOf (trimmed (p .chain) (p .numbers) .count) (oneMore p l .state) ≡ countersOf (trimmed (q .chain) (q .numbers) .count) (oneMore q m .state)
+  pub counters : countersOf (chainIn p .count) (oneMore p l .state) ≡ countersOf (chainIn q .count) (oneMore q m .state)
   pub outcome : SameOutcome (oneMore p l) (oneMore q m)
 
 -- Two lists that start with the same state, which has a counter for each filter, and the same store.
 pub record SameStart (p q : ListOfCalls) : Type 0 where
   pub start : p .start ≡ q .start
-  pub long : trimmed (p .chain) (p .numbers) .count ≤ length (p .start .state .passed)
+  pub long : chainIn p .count ≤ length (p .start .state .passed)
 
 -- "A run split over calls makes the same firings, clocks and end state as one call": two lists that made equally many clocks stand at the same counters, and made the same firings and
 -- words; if they started alike, they hand on the same state, counters past n among it, and the same store; and two lists, each with one more call that is lent enough, end alike. (One of
 -- them may be empty, so that its one more call is the whole run.)
 pub record Split (p q : ListOfCalls) : Type 0 where
   pub counters : SameRun p q → clocksMade (runsOf p) ≡ clocksMade (runsOf q)
-      → countersOf (trimmed (p .chain) (p .numbers) .count) (handedOn p .state) ≡ countersOf (trimmed (q .chain) (q .numbers) .count) (handedOn q .state)
+      → countersOf (chainIn p .count) (handedOn p .state) ≡ countersOf (chainIn q .count) (handedOn q .state)
   pub firings : SameRun p q → clocksMade (runsOf p) ≡ clocksMade (runsOf q) → firingsMade (runsOf p) ≡ firingsMade (runsOf q)
   pub words : SameRun p q → clocksMade (runsOf p) ≡ clocksMade (runsOf q)
-      → allWords (trimmed (p .chain) (p .numbers)) (p .stream) (p .calls) (p .start) ≡ allWords (trimmed (q .chain) (q .numbers)) (q .stream) (q .calls) (q .start)
+      → allWords (chainIn p) (p .stream) (p .calls) (p .start) ≡ allWords (chainIn q) (q .stream) (q .calls) (q .start)
   pub handed-on : SameRun p q → SameStart p q → clocksMade (runsOf p) ≡ clocksMade (runsOf q) → handedOn p ≡ handedOn q
-  pub ends : SameRun p q → (l m : Lending) → LentEnough (trimmed (p .chain) (p .numbers)) l (handedOn p) → LentEnough (trimmed (q .chain) (q .numbers)) m (handedOn q) → EndAlike p q l m
+  pub ends : SameRun p q → (l m : Lending) → LentEnough (chainIn p) l (handedOn p) → LentEnough (chainIn q) m (handedOn q) → EndAlike p q l m
 
 module _ (t : Trimmed) (stream : ℕ → ℕ) where
   -- Each call of a list has such a lending.
@@ -105,27 +105,27 @@ module _ (t : Trimmed) (stream : ℕ → ℕ) where
 -- "so runs fed in small pieces end alike": two lists, each with one more call that ends Done or Stalled, end alike; and after n times the number of cells such calls one more does end so.
 pub record SmallPieces : Type 0 where
   pub alike : (p q : ListOfCalls) → SameRun p q → (l m : Lending) → Over (oneMore p l) → Over (oneMore q m) → EndAlike p q l m
-  pub over : (q : ListOfCalls) → Pieces (trimmed (q .chain) (q .numbers)) (q .stream) (q .calls) (q .start) → trimmed (q .chain) (q .numbers) .count * layout (trimmed (q .chain) (q .numbers)) .cells ≤ length (q .calls)
-      → (l : Lending) → Piece (trimmed (q .chain) (q .numbers)) l (handedOn q) → Over (oneMore q l)
+  pub over : (q : ListOfCalls) → Pieces (chainIn q) (q .stream) (q .calls) (q .start) → chainIn q .count * layout (chainIn q) .cells ≤ length (q .calls)
+      → (l : Lending) → Piece (chainIn q) l (handedOn q) → Over (oneMore q l)
 
 -- A refused call, of any chain and any state, changes nothing and counts 0.
 abbrev pub RefusedKeeps : Type 0
-RefusedKeeps = (c : Chain) (numbers : List ℕ) (s : State) (store lent output : List ℕ) (allowance : ℕ) (x : Refusal) → runOf c numbers s store lent output allowance .answer ≡ answer.Refused x
-    → (runOf c numbers s store lent output allowance .state ≡ s)
-    × (runOf c numbers s store lent output allowance .store ≡ store)
-    × (runOf c numbers s store lent output allowance .output ≡ output)
-    × (answerCounts (runOf c numbers s store lent output allowance .answer) ≡ noCounts)
+RefusedKeeps = (c : Chain) (rows : List ℕ) (s : State) (store lent output : List ℕ) (allowance : ℕ) (x : Refusal) → runOf c rows s store lent output allowance .answer ≡ answer.Refused x
+    → (runOf c rows s store lent output allowance .state ≡ s)
+    × (runOf c rows s store lent output allowance .store ≡ store)
+    × (runOf c rows s store lent output allowance .output ≡ output)
+    × (answerCounts (runOf c rows s store lent output allowance .answer) ≡ noCounts)
 
 -- "input counters past n play no part and are handed back as they came"
 abbrev pub PastCount : Type 0
-PastCount = (c : Chain) (numbers : List ℕ) (s : State) (store lent output : List ℕ) (allowance : ℕ)
-    → drop (c .window .count) (runOf c numbers s store lent output allowance .state .passed) ≡ drop (c .window .count) (s .passed)
+PastCount = (c : Chain) (rows : List ℕ) (s : State) (store lent output : List ℕ) (allowance : ℕ)
+    → drop (c .window .count) (runOf c rows s store lent output allowance .state .passed) ≡ drop (c .window .count) (s .passed)
 
 -- "chains that differ only there are the same": they are judged and run alike.
 abbrev pub Alike : Type 0
-Alike = (c d : Chain) (ns ms : List ℕ) → Same c ns d ms
-    → (judgeChain c ns ≡ judgeChain d ms)
-    × ((s : State) (store lent output : List ℕ) (allowance : ℕ) → runOf c ns s store lent output allowance ≡ runOf d ms s store lent output allowance)
+Alike = (c d : Chain) (rows rows′ : List ℕ) → Same c rows d rows′
+    → (judgeChain c rows ≡ judgeChain d rows′)
+    × ((s : State) (store lent output : List ℕ) (allowance : ℕ) → runOf c rows s store lent output allowance ≡ runOf d rows′ s store lent output allowance)
 
 -- All of them.
 pub record Promises : Type 0 where

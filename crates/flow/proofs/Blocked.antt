@@ -4,7 +4,7 @@ use mathlib.Core.Logic.{_⊎_, inl, inr}
 use mathlib.Core.Path.{_≡_}
 use native.Mathlib.Omega.{arith}
 use native.Mathlib.Decide.{ℕ-discrete, decLt, decLe}
-use Rattle.model.specs.Clock.{Layout}
+use Rattle.model_run.specs.Clock.{Layout}
 use Rattle.flow.specs.Machine.{Spans, Flows, FlowsUpTo}
 
 -- The first number below n that fails a test, if one does.

@@ -5,7 +5,7 @@ use mathlib.Core.Path.{_≡_}
 use native.Mathlib.Omega.{arith}
 use native.Mathlib.Decide.{ℕ-discrete}
 use Rattle.model.specs.Lists.{sum}
-use Rattle.model.specs.Clock.{Layout, Counters, next}
+use Rattle.model_run.specs.Clock.{Layout, Counters, next}
 use Rattle.flow.specs.Machine.{first, Ran, Lawful, FlowsUpTo, Holds, Invariant, Fires}
 use Rattle.flow.proofs.Tests.{moves-yes, live-yes, by-next}
 use Rattle.flow.proofs.Runs.{along}

@@ -9,7 +9,7 @@ use native.Mathlib.Decide.{ℕ-discrete, decLt}
 use lib.Dec.{ltb, eqb}
 use borrow.Author.Tests.{lt-ltb, le-ltb, eq-eqb}
 use Rattle.model.specs.Lists.{sum}
-use Rattle.model.specs.Clock.{Layout, Counters, turn, limit, turns, fires, next, moves, fresh}
+use Rattle.model_run.specs.Clock.{Layout, Counters, turn, limit, turns, fires, next, moves, fresh}
 use Rattle.flow.specs.Machine.{live, clock, run, Ran, Firing, Lawful, Flows, FlowsUpTo, Holds, Invariant}
 use Rattle.flow.proofs.Tests.{live-yes, fires-yes, by-next, clock-live}
 use Rattle.flow.proofs.Runs.{still, step, join, along}

@@ -4,7 +4,7 @@ use mathlib.Core.List.{List, [], _∷_, map}
 use mathlib.Core.Path.{_≡_}
 use native.Mathlib.Omega.{arith}
 use lib.ListN.{replicate}
-use Rattle.model.specs.Clock.{Layout, Counters, limit, turns, next, fresh}
+use Rattle.model_run.specs.Clock.{Layout, Counters, limit, turns, next, fresh}
 use Rattle.flow.specs.Machine.{first, Ran, Lawful, Holds, Invariant, Ready}
 use Rattle.flow.proofs.Tests.{live-yes, by-next}
 use Rattle.flow.proofs.Runs.{along}

@@ -5,7 +5,7 @@ use mathlib.Core.Logic.{_↔_}
 use mathlib.Core.Path.{_≡_, sym, _∙_}
 use native.Mathlib.Omega.{arith}
 use Rattle.model.specs.Lists.{sum}
-use Rattle.model.specs.Clock.{Layout, Counters, fires, moves, fresh}
+use Rattle.model_run.specs.Clock.{Layout, Counters, fires, moves, fresh}
 use Rattle.flow.specs.Machine.{first, live, run, made, Ran, Lawful, Flows, FlowsUpTo, Planned, Invariant}
 use Rattle.flow.proofs.Tests.{fires-yes, yes-fires, yes-moves}
 use Rattle.flow.proofs.Invariant.{fresh-invariant, ran-keeps, first-below}

@@ -4,7 +4,7 @@ use mathlib.Core.List.{List, [], _∷_, map}
 use mathlib.Core.Logic.{_≢_}
 use mathlib.Core.Path.{_≡_, refl}
 use native.Mathlib.Omega.{arith}
-use Rattle.model.specs.Clock.{Layout, Counters, turns, next}
+use Rattle.model_run.specs.Clock.{Layout, Counters, turns, next}
 use Rattle.flow.specs.Machine.{first, Ran, Lawful, Flows, Planned, Holds, Invariant, Ready, Fires}
 use Rattle.flow.proofs.Tests.{live-yes, by-next}
 use Rattle.flow.proofs.Runs.{along}

@@ -6,7 +6,7 @@ use mathlib.Core.Path.{_≡_}
 use native.Mathlib.Omega.{arith}
 use native.Mathlib.Decide.{ℕ-discrete, decLt}
 use Rattle.model.specs.Lists.{sum}
-use Rattle.model.specs.Clock.{Layout, Counters, limit, turns, next}
+use Rattle.model_run.specs.Clock.{Layout, Counters, limit, turns, next}
 use Rattle.flow.specs.Machine.{first, Lawful, Spans, Flows, Holds, Invariant, Ready, Fires}
 use Rattle.flow.proofs.Tests.{by-next}
 use Rattle.flow.proofs.Turns.{goes, moved, moved-turned, sum-turns}

@@ -4,7 +4,7 @@ use mathlib.Core.Bool.{Bool, true, false, cond, false≢true}
 use mathlib.Core.Path.{_≡_, refl, sym, _∙_, ap}
 use native.Mathlib.Nat.{zero-add, suc-add}
 use native.Mathlib.Omega.{arith}
-use Rattle.model.specs.Clock.{Layout, Counters, next}
+use Rattle.model_run.specs.Clock.{Layout, Counters, next}
 use Rattle.flow.specs.Machine.{live, clock, run, made, Ran}
 use Rattle.flow.proofs.Tests.{clock-live, clock-still}
 

@@ -6,7 +6,7 @@ use mathlib.Core.Path.{_≡_, refl, sym, _∙_}
 use lib.Dec.{ltb, eqb}
 use borrow.Author.Tests.{ltb-true, eqb-true, lt-ltb, eq-eqb}
 use Rattle.model.specs.Lists.{sum}
-use Rattle.model.specs.Clock.{Layout, Counters, turns, ready, fires, next, moves}
+use Rattle.model_run.specs.Clock.{Layout, Counters, turns, ready, fires, next, moves}
 use Rattle.flow.specs.Machine.{live, clock, Ready, Fires}
 
 module _ (L : Layout) where

@@ -5,7 +5,7 @@ use mathlib.Core.Path.{_≡_, refl}
 use native.Mathlib.Omega.{arith}
 use native.Mathlib.Decide.{ℕ-discrete, le-ind}
 use lib.ListN.{replicate}
-use Rattle.model.specs.Clock.{Layout, Counters, turns, next, fresh}
+use Rattle.model_run.specs.Clock.{Layout, Counters, turns, next, fresh}
 use Rattle.flow.specs.Machine.{first, Ran, Lawful, past, Holds, Invariant, Ready, Fires}
 use Rattle.flow.proofs.Tests.{live-yes, by-next}
 use Rattle.flow.proofs.Runs.{along}

@@ -8,7 +8,7 @@ use native.Mathlib.Omega.{arith}
 use lib.Dec.{ltb, eqb}
 use borrow.Author.Tests.{ltb-true, eqb-false, lt-ltb, ne-eqb}
 use Rattle.model.specs.Lists.{sum}
-use Rattle.model.specs.Clock.{Layout, turn, limit, turns}
+use Rattle.model_run.specs.Clock.{Layout, turn, limit, turns}
 
 -- A splitter that is presented an unwanted cell and has a place goes on.
 pub goes : (source wanted limit p : ℕ) → p < source → p ≢ wanted → p < limit → turn source wanted limit p ≡ suc p

@@ -4,8 +4,8 @@ use mathlib.Core.Bool.{Bool, true, cond, _&&_}
 use mathlib.Core.List.{List, [], _∷_}
 use mathlib.Core.Path.{_≡_}
 use lib.Dec.{ltb}
-use Rattle.model.specs.Clock.{Layout, Counters, fires, next, moves, fresh}
-pub use Rattle.model.specs.Clock.{first}
+use Rattle.model_run.specs.Clock.{Layout, Counters, fires, next, moves, fresh}
+pub use Rattle.model_run.specs.Clock.{first}
 
 module _ (L : Layout) where
   open Layout L using (wants, capacity, filters, cells, iterations)

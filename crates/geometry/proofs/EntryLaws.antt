@@ -10,7 +10,7 @@ use mir.Val.{toZ, ofZ}
 use mir.Facts.{toZ-ofZ}
 use borrow.Author.Tests.{ltb-true, eq-eqb, ne-eqb}
 use Rattle.model.specs.Vectors.{same, above}
-use Rattle.model.proofs.IntegerLaws.{not-ltZ, above-sum}
+use Rattle.grid_laws.proofs.IntegerLaws.{not-ltZ, above-sum}
 
 -- An entry is read back from its bits.
 pub entry-back : (x : ℤ) → mag x < 32768 → toZ w16 (ofZ w16 x) ≡ x

@@ -7,7 +7,7 @@ use native.Mathlib.Omega.{arith}
 use lib.ListN.{getD, set, replicate, length-replicate, length-set, getD-replicate, List·getD-eq-default}
 use lib.Seq.{getD-set-same, getD-set-other, ext-getD}
 use Rattle.model.specs.Lists.{tabulate}
-use Rattle.model.proofs.ListLaws.{length-tabulate, getD-tabulate}
+use Rattle.grid_laws.proofs.ListLaws.{length-tabulate, getD-tabulate}
 use Rattle.geometry.specs.Parts.{Filled}
 
 module _ {A : Type 0} (size : ℕ) (rest : A) (f : ℕ → A) where

@@ -11,10 +11,10 @@ use Rattle.model.specs.Lists.{tabulate, product, any}
 use Rattle.model.specs.Geometry.{cellCount}
 use Rattle.model.specs.Grounds.Ground.{rectangle}
 use Rattle.model.specs.Values.{sizesOf}
-use Rattle.model.proofs.Tests.{neither}
-use Rattle.model.proofs.ChainLaws.{sizes-count}
-use Rattle.model.proofs.CheckLaws.{few-dims}
-use Rattle.model.proofs.CheckLaws as counts
+use Rattle.grid_laws.proofs.Tests.{neither}
+use Rattle.grid_laws.proofs.ChainLaws.{sizes-count}
+use Rattle.grid_laws.proofs.CheckLaws.{few-dims}
+use Rattle.grid_laws.proofs.CheckLaws as counts
 use Rattle.model.specs.Judging.{mostCells, badDims, badSizes, badGrid, badCount}
 use Rattle.model.specs.declared.Grid.{Grid}
 use Rattle.model.specs.declared.Window.{Window}

@@ -12,9 +12,9 @@ use Rattle.model.specs.Lists.{tabulate, any}
 use Rattle.model.specs.Vectors.{same, equal, isZero}
 use Rattle.model.specs.Values.{offsetOf, offsetsOf}
 use Rattle.model.specs.Judging.{repeats}
-use Rattle.model.specs.Kernels.{centreOf}
+use Rattle.model.specs.Windows.{centreOf}
 use Rattle.model.specs.declared.Window.{Window}
-use Rattle.model.proofs.ListLaws.{length-tabulate}
+use Rattle.grid_laws.proofs.ListLaws.{length-tabulate}
 use Rattle.geometry.specs.Parts.{part, offsetAt}
 use Rattle.geometry.specs.Windows.{held, repeatsIn, centreIn, hasCentre}
 use Rattle.geometry.proofs.PartLaws.{part-none, part-more}

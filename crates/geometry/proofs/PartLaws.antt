@@ -5,7 +5,7 @@ use mathlib.Core.Path.{_≡_, refl, sym, _∙_, ap, ap₂}
 use native.Mathlib.Nat.{suc-inj}
 use native.Mathlib.Omega.{arith}
 use Rattle.model.specs.Lists.{tabulate}
-use Rattle.model.proofs.ListLaws.{tabulate-same}
+use Rattle.grid_laws.proofs.ListLaws.{tabulate-same}
 use Rattle.geometry.specs.Parts.{part}
 
 module _ {A : Type 0} where

@@ -6,7 +6,7 @@ use Rattle.model.specs.Lists.{any}
 use Rattle.model.specs.Vectors.{isZero}
 use Rattle.model.specs.Values.{offsetsOf}
 use Rattle.model.specs.Judging.{repeats}
-use Rattle.model.specs.Kernels.{centreOf}
+use Rattle.model.specs.Windows.{centreOf}
 use Rattle.model.specs.declared.Window.{Window}
 
 -- The arrays have as many entries as the counts say. A window of which they have not has no equal offsets and no centre.

@@ -8,7 +8,7 @@ ghost use Rattle.model.specs.Lists.{tabulate, any};
 ghost use Rattle.model.specs.Vectors.{equal, isZero};
 ghost use Rattle.model.specs.Values.{sizesOf};
 ghost use Rattle.model.specs.Judging.{badGrid, badCount, repeats as repeatsOf};
-ghost use Rattle.model.specs.Kernels.{centreOf};
+ghost use Rattle.model.specs.Windows.{centreOf};
 ghost use Rattle.geometry.specs.Parts.{part, offsetAt};
 ghost use Rattle.geometry.specs.Windows.{repeatsIn, centreIn, hasCentre};
 

@@ -5,7 +5,7 @@ use mathlib.Core.List.{List, [], _∷_, _++_}
 use mathlib.Core.Path.{_≡_, refl, sym, _∙_, ap, ap₂}
 use lib.Dec.{ltb}
 use Rattle.model.specs.Lists.{sum}
-use Rattle.model.specs.Kernels.{centreOf}
+use Rattle.model.specs.Windows.{centreOf}
 use Rattle.model.specs.Values.{Trimmed, dimsOf, offsetOf, offsetsOf, onRectangle, onRows, capacitiesOf, orderOf, trimmed}
 use Rattle.model.specs.Answers.{check, firstOf, byVerdict}
 use Rattle.model.specs.Judging.{mostPlaces, badCount, tooLarge, badOrder, windowChecks, kernelChecks, chainChecks, valueChecks, judged, judgeWindow, judgeRectangle, judgeRows, judgeBehind, judgeChain}
@@ -18,9 +18,9 @@ use Rattle.model.specs.declared.Refusal.{Refusal}
 use Rattle.model.specs.declared.Refusal.the-variants as refusal
 use Rattle.model.specs.declared.Verdict.{Verdict}
 use Rattle.model.specs.declared.Verdict.the-variants as verdict
-use Rattle.model.proofs.ListLaws.{length-tabulate}
-use Rattle.model.proofs.ChainLaws.{dims-flat, on-flat, dims-skewed, on-skewed}
-use Rattle.model.proofs.CheckLaws.{then-checks, both-pass, WindowPasses, window-passes}
+use Rattle.grid_laws.proofs.ListLaws.{length-tabulate}
+use Rattle.grid_laws.proofs.ChainLaws.{dims-flat, on-flat, dims-skewed, on-skewed}
+use Rattle.grid_laws.proofs.CheckLaws.{then-checks, both-pass, WindowPasses, window-passes}
 use Rattle.geometry.specs.Windows.{centreIn}
 use Rattle.shape.specs.Shapes.{surveyOf, chainShape}
 use Rattle.shape.specs.declared.Survey.{Survey}
@@ -56,13 +56,13 @@ behind c dims verdict.Accepted m is =
 behind c dims (verdict.Refused x) m is = refl
 
 -- A chain: its window is judged, then the rest.
-by-rest : (c : Chain) (numbers : List ℕ) → judgedBehind (judgeWindow (c .grid) numbers (c .window) (c .bounds)) (dimsOf (c .grid)) c ≡ judgeChain c numbers
+by-rest : (c : Chain) (rows : List ℕ) → judgedBehind (judgeWindow (c .grid) rows (c .window) (c .bounds)) (dimsOf (c .grid)) c ≡ judgeChain c rows
 unfolding judgeChain judged valueChecks windowChecks trimmed judgedRest judgedBehind
-by-rest c numbers = sym (then-checks (windowChecks (trimmed c numbers)) _)
+by-rest c rows = sym (then-checks (windowChecks (trimmed c rows)) _)
 
-window-clear : (c : Chain) (numbers : List ℕ) → judgeChain c numbers ≡ verdict.Accepted → judgeWindow (c .grid) numbers (c .window) (c .bounds) ≡ verdict.Accepted
+window-clear : (c : Chain) (rows : List ℕ) → judgeChain c rows ≡ verdict.Accepted → judgeWindow (c .grid) rows (c .window) (c .bounds) ≡ verdict.Accepted
 unfolding judgeChain judged valueChecks windowChecks trimmed
-window-clear c numbers e = both-pass (windowChecks (trimmed c numbers)) _ e .0
+window-clear c rows e = both-pass (windowChecks (trimmed c rows)) _ e .0
 
 -- ---- a chain on a rectangle
 
@@ -86,19 +86,19 @@ examined c s d v q =
     there : Survey
     there = surveyOf (c .grid) (c .window) (c .bounds)
 
-module _ (c : Chain) (flat : c .grid .skewed ≡ false) (numbers : List ℕ) where
-  flatly : judgeWindow (c .grid) numbers (c .window) (c .bounds) ≡ judgeRectangle (c .grid) (c .window) (c .bounds)
-  flatly = ap (λ (t : Trimmed). firstOf (windowChecks t)) (on-flat (c .grid) flat numbers (c .window) (c .bounds))
+module _ (c : Chain) (flat : c .grid .skewed ≡ false) (rows : List ℕ) where
+  flatly : judgeWindow (c .grid) rows (c .window) (c .bounds) ≡ judgeRectangle (c .grid) (c .window) (c .bounds)
+  flatly = ap (λ (t : Trimmed). firstOf (windowChecks t)) (on-flat (c .grid) flat rows (c .window) (c .bounds))
 
-  pub examined-verdict : examinedOf c .verdict ≡ judgeChain c numbers
+  pub examined-verdict : examinedOf c .verdict ≡ judgeChain c rows
   unfolding examinedOf
   examined-verdict =
-      ap₂ (λ (v : Verdict) (n : ℕ). judgedBehind v n c) (survey-verdict (c .grid) (c .window) (c .bounds) ∙ sym flatly) (sym (dims-flat (c .grid) flat)) ∙ by-rest c numbers
+      ap₂ (λ (v : Verdict) (n : ℕ). judgedBehind v n c) (survey-verdict (c .grid) (c .window) (c .bounds) ∙ sym flatly) (sym (dims-flat (c .grid) flat)) ∙ by-rest c rows
 
   -- Of an accepted chain it finds the centre and the shape.
-  module _ (e : judgeChain c numbers ≡ verdict.Accepted) where
+  module _ (e : judgeChain c rows ≡ verdict.Accepted) where
     clear : judgeRectangle (c .grid) (c .window) (c .bounds) ≡ verdict.Accepted
-    clear = sym flatly ∙ window-clear c numbers e
+    clear = sym flatly ∙ window-clear c rows e
 
     parts-clear : WindowPasses (onRectangle (c .grid) (c .window) (c .bounds))
     parts-clear = window-passes (onRectangle (c .grid) (c .window) (c .bounds)) clear
@@ -113,30 +113,30 @@ module _ (c : Chain) (flat : c .grid .skewed ≡ false) (numbers : List ℕ) whe
 
 -- ---- a chain on rows
 
-module _ (n : ℕ) (numbers : List ℕ) (w : Window) (x : Bounds) where
-  pub rows-count : rowSurveyOf n numbers w x .verdict ≡ verdict.Accepted → badCount (w .count) ≡ false
-  rows-count e = window-passes (onRows n numbers w x) (sym (rows-verdict n numbers w x) ∙ e) .count
+module _ (n : ℕ) (rows : List ℕ) (w : Window) (x : Bounds) where
+  pub rows-count : rowSurveyOf n rows w x .verdict ≡ verdict.Accepted → badCount (w .count) ≡ false
+  rows-count e = window-passes (onRows n rows w x) (sym (rows-verdict n rows w x) ∙ e) .count
 
-  pub rows-centre : rowSurveyOf n numbers w x .verdict ≡ verdict.Accepted → rowSurveyOf n numbers w x .centre ≡ centreOf (offsetsOf 2 w)
+  pub rows-centre : rowSurveyOf n rows w x .verdict ≡ verdict.Accepted → rowSurveyOf n rows w x .centre ≡ centreOf (offsetsOf 2 w)
   unfolding rowSurveyOf
-  rows-centre e = rw (sym (rows-verdict n numbers w x) ∙ e)
+  rows-centre e = rw (sym (rows-verdict n rows w x) ∙ e)
 
-pub examined-rows : (c : Chain) (numbers : List ℕ) (s : RowSurvey) → s ≡ rowSurveyOf (c .grid .rows) numbers (c .window) (c .bounds) → (v : Verdict)
+pub examined-rows : (c : Chain) (rows : List ℕ) (s : RowSurvey) → s ≡ rowSurveyOf (c .grid .rows) rows (c .window) (c .bounds) → (v : Verdict)
     → v ≡ byVerdict (s .verdict) (judgedRest (c .kernel) (ltb (s .centre) (c .window .count)) (capacitiesOf c) (c .window .count) (orderOf (c .window .count) (c .order))) verdict.Refused
-    → record { verdict = v; centre = s .centre; cells = s .cells; iterations = s .iterations; course = s .course } ≡ examinedRows c numbers
+    → record { verdict = v; centre = s .centre; cells = s .cells; iterations = s .iterations; course = s .course } ≡ examinedRows c rows
 unfolding examinedRows
-examined-rows c numbers s d v q =
+examined-rows c rows s d v q =
     rw (q, d) (ap (λ (v : Verdict). record { verdict = v; centre = there .centre; cells = there .cells; iterations = there .iterations; course = there .course })
-    (behind c 2 (there .verdict) (there .centre) (rows-centre (c .grid .rows) numbers (c .window) (c .bounds))))
+    (behind c 2 (there .verdict) (there .centre) (rows-centre (c .grid .rows) rows (c .window) (c .bounds))))
   where
     there : RowSurvey
-    there = rowSurveyOf (c .grid .rows) numbers (c .window) (c .bounds)
+    there = rowSurveyOf (c .grid .rows) rows (c .window) (c .bounds)
 
-module _ (c : Chain) (skewed : c .grid .skewed ≡ true) (numbers : List ℕ) where
-  skewedly : judgeWindow (c .grid) numbers (c .window) (c .bounds) ≡ judgeRows (c .grid .rows) numbers (c .window) (c .bounds)
-  skewedly = ap (λ (t : Trimmed). firstOf (windowChecks t)) (on-skewed (c .grid) skewed numbers (c .window) (c .bounds))
+module _ (c : Chain) (skewed : c .grid .skewed ≡ true) (rows : List ℕ) where
+  skewedly : judgeWindow (c .grid) rows (c .window) (c .bounds) ≡ judgeRows (c .grid .rows) rows (c .window) (c .bounds)
+  skewedly = ap (λ (t : Trimmed). firstOf (windowChecks t)) (on-skewed (c .grid) skewed rows (c .window) (c .bounds))
 
-  pub rows-examined : examinedRows c numbers .verdict ≡ judgeChain c numbers
+  pub rows-examined : examinedRows c rows .verdict ≡ judgeChain c rows
   unfolding examinedRows
   rows-examined =
-      ap₂ (λ (v : Verdict) (n : ℕ). judgedBehind v n c) (rows-verdict (c .grid .rows) numbers (c .window) (c .bounds) ∙ sym skewedly) (sym (dims-skewed (c .grid) skewed)) ∙ by-rest c numbers
+      ap₂ (λ (v : Verdict) (n : ℕ). judgedBehind v n c) (rows-verdict (c .grid .rows) rows (c .window) (c .bounds) ∙ sym skewedly) (sym (dims-skewed (c .grid) skewed)) ∙ by-rest c rows

@@ -9,8 +9,8 @@ use lib.ListN.{length, getD, set, replicate, length-set}
 use lib.Seq.{getD-set-same, getD-set-other}
 use Rattle.model.specs.Lists.{tabulate}
 use Rattle.model.specs.Judging.{badOrder}
-use Rattle.model.proofs.ListLaws.{length-tabulate, getD-tabulate}
-use Rattle.model.proofs.TermLaws.{order-below, order-once, good-order}
+use Rattle.grid_laws.proofs.ListLaws.{length-tabulate, getD-tabulate}
+use Rattle.grid_laws.proofs.TermLaws.{order-below, order-once, good-order}
 
 blank : (m k : ℕ) → getD (replicate m false) k false ≡ false
 blank zero k = refl

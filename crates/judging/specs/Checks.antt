@@ -31,7 +31,7 @@ examinedOf c =
     let survey = surveyOf (c .grid) (c .window) (c .bounds) in
     record { verdict = judgedBehind (survey .verdict) (c .grid .dims) c; centre = survey .centre; shape = survey .shape }
 
-unfoldable pub examinedRows : Chain → (numbers : List ℕ) → RowSurvey
-examinedRows c numbers =
-    let survey = rowSurveyOf (c .grid .rows) numbers (c .window) (c .bounds) in
+unfoldable pub examinedRows : Chain → (rows : List ℕ) → RowSurvey
+examinedRows c rows =
+    let survey = rowSurveyOf (c .grid .rows) rows (c .window) (c .bounds) in
     record { verdict = judgedBehind (survey .verdict) 2 c; centre = survey .centre; cells = survey .cells; iterations = survey .iterations; course = survey .course }

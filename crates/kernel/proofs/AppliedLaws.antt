@@ -8,7 +8,7 @@ use native.Mathlib.Omega.{arith}
 use lib.ListN.{length, drop, getD, set, drop-of-length-le}
 use lib.Seq.{sets, drop-cons}
 use borrow.Author.Tests.{le-leb, lt-leb}
-use Rattle.model.specs.Kernels.{wordsAt, written, width}
+use Rattle.model_run.specs.Kernels.{wordsAt, written, width}
 use Rattle.model.specs.declared.Kernel.{Kernel}
 use Rattle.kernel.specs.Applied.{applied}
 use Rattle.kernel.proofs.SumLaws.{words-count}

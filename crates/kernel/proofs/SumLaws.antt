@@ -8,7 +8,7 @@ use native.Mathlib.Omega.{arith}
 use lib.Ieee.{Float, add, binary32}
 use lib.ListN.{length, drop, getD, drop-of-length-le, length-map, List·getD-eq-default}
 use lib.Seq.{drop-cons}
-use Rattle.model.specs.Kernels.{float, sumFrom, sumOf, wordsAt}
+use Rattle.model_run.specs.Kernels.{float, sumFrom, sumOf, wordsAt}
 
 none : (ws : List ℕ) → length ws ≡ 0 → ws ≡ []
 none [] e = refl

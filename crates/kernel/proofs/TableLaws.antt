@@ -12,13 +12,13 @@ use lib.Seq.{ext-getD, getD-set-same, getD-set-other, getD-append-seam, getD-tak
 use borrow.Author.Tests.{eq-eqb, ne-eqb}
 use Rattle.model.specs.Lists.{tabulate, upTo, without}
 use Rattle.model.specs.Values.{orderOf}
-use Rattle.model.specs.Kernels.{terms}
+use Rattle.model_run.specs.Kernels.{terms}
 use Rattle.model.specs.declared.Kernel.{Kernel}
 use Rattle.model.specs.declared.Kernel.the-variants as kernel
 use Rattle.model.specs.declared.Order.{Order}
-use Rattle.model.proofs.ListLaws.{length-tabulate, getD-tabulate}
+use Rattle.grid_laws.proofs.ListLaws.{length-tabulate, getD-tabulate}
 use Rattle.kernel.specs.declared.Terms.{Terms}
-use Rattle.kernel.specs.Tables.{tableOf, termOf, filtersFor}
+use Rattle.kernel.specs.FilterTables.{tableOf, termOf, filtersFor}
 
 -- One number more.
 tabulate-snoc : (n : ℕ) (f : ℕ → ℕ) → tabulate (suc n) f ≡ tabulate n f ++ (f n ∷ [])

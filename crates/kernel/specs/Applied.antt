@@ -5,7 +5,7 @@ use mathlib.Core.List.{List}
 use lib.Dec.{leb}
 use lib.ListN.{length}
 use lib.Seq.{sets}
-use Rattle.model.specs.Kernels.{written, width}
+use Rattle.model_run.specs.Kernels.{written, width}
 use Rattle.model.specs.declared.Kernel.{Kernel}
 
 -- A firing whose cells have the words `ws` in chain order, its result written from place `at` on; where it does not fit, nothing changes.

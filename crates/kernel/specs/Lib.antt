@@ -1,3 +1,3 @@
-pub mod Tables
+pub mod FilterTables
 pub mod Sums
 pub mod Applied

@@ -3,7 +3,7 @@ use Prim.Native.Nat.{ℕ}
 use mathlib.Core.List.{List, map}
 use lib.Ieee.{Float}
 use lib.ListN.{getD}
-use Rattle.model.specs.Kernels.{float, sumOf, wordsAt, squared}
+use Rattle.model_run.specs.Kernels.{float, sumOf, wordsAt, squared}
 
 unfoldable pub sumOfTerms : (terms : List ℕ) → List ℕ → Float
 sumOfTerms ks ws = sumOf (map float (wordsAt ks ws))

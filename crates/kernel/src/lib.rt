@@ -11,8 +11,8 @@ ghost use lib.ListN.{length, getD};
 ghost use lib.Seq.{sets};
 ghost use Rattle.model.specs.Lists.{tabulate, without};
 ghost use Rattle.model.specs.Judging.{notFinite, badFactor, needsCentre};
-ghost use Rattle.model.specs.Kernels.{float, word, width as widthOf, wordsAt, terms as termsOf, squared as squaredOf, difference as differenceOf, scaled as scaledOf, blend as blendOf};
-ghost use Rattle.kernel.specs.Tables.{tableOf, termOf, filtersFor};
+ghost use Rattle.model_run.specs.Kernels.{float, word, width as widthOf, wordsAt, terms as termsOf, squared as squaredOf, difference as differenceOf, scaled as scaledOf, blend as blendOf};
+ghost use Rattle.kernel.specs.FilterTables.{tableOf, termOf, filtersFor};
 ghost use Rattle.kernel.specs.Sums.{sumOfTerms, sumOfSquares};
 ghost use Rattle.kernel.specs.Applied.{applied};
 

@@ -9,7 +9,7 @@ use native.Mathlib.Omega.{arith}
 use lib.ListN.{length, getD, drop, take-append-drop}
 use lib.Seq.{slice, slice-cons, slice-empty}
 use borrow.Author.Tests.{lt-ltb, le-ltb}
-use Rattle.model.specs.Clock.{turn, limit, turns}
+use Rattle.model_run.specs.Clock.{turn, limit, turns}
 use Rattle.loop_laws.specs.Passes.{of}
 use Rattle.loop_laws.specs.Sweeps.{source, swept, roomFor, roomAt, roomGoes, before, goesBefore, Goes, Again, Keeps, KeepsAt}
 use Rattle.loop_laws.proofs.SweepLaws.{turn-absent, turn-wanted, turn-full, turn-goes, turn-most, limit-inner, limit-last}

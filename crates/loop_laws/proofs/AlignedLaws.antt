@@ -8,7 +8,7 @@ use lib.Dec.{ltb}
 use lib.ListN.{length}
 use borrow.Author.Tests.{lt-ltb, eq-eqb, ne-eqb}
 use Rattle.model.specs.Lists.{sum}
-use Rattle.model.specs.Clock.{Layout, turn, limit, turns, ready, fires, next, moves}
+use Rattle.model_run.specs.Clock.{Layout, turn, limit, turns, ready, fires, next, moves}
 use Rattle.flow.proofs.Turns.{goes}
 use Rattle.flow.specs.Machine.{Holds, Ready}
 use Rattle.loop_laws.specs.Passes.{Aligned}

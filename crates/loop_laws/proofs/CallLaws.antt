@@ -9,9 +9,9 @@ use lib.Dec.{ltb, leb, eqb}
 use lib.ListN.{length, getD, take, drop, set, length-drop, length-append, take-append-drop}
 use lib.Seq.{sets, length-sets, getD-drop, take-at, drop-at, take-set-le, drop-set-add}
 use borrow.Author.Tests.{lt-ltb, le-ltb, le-leb, lt-leb, ne-eqb, ltb-true, ltb-false, leb-true, leb-false}
-use Rattle.model.specs.Clock.{Layout, first, fires, next, moves}
-use Rattle.model.specs.Store.{presented, stored}
-use Rattle.model.specs.Running.{Standing, Done, Spent, Starved, Stalled, Full, Look, goes, ends, Ended, byLook, words, clocked, look, call}
+use Rattle.model_run.specs.Clock.{Layout, first, fires, next, moves}
+use Rattle.model_run.specs.Store.{presented, stored}
+use Rattle.model_run.specs.Running.{Standing, Done, Spent, Starved, Stalled, Full, Look, goes, ends, Ended, byLook, words, clocked, look, call}
 use Rattle.run_laws.proofs.Looks.{Looked, is-going, along-call}
 use Rattle.loop_laws.specs.Passes.{Aligned, Places, flow, flowed, gets, puts}
 use Rattle.loop_laws.specs.Standings.{counting, stand, endedAt}

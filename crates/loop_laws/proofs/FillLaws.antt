@@ -11,8 +11,8 @@ use lib.ListN.{length, getD, take, drop, length-append, length-drop}
 use lib.Seq.{length-take-le, take-at, drop-at, getD-take}
 use borrow.Author.Tests.{lt-ltb, le-ltb}
 use Rattle.model.specs.Lists.{sum}
-use Rattle.model.specs.Clock.{Layout, first, turns, fires, next, moves}
-use Rattle.model.specs.Running.{Spent, Starved, Stalled, call}
+use Rattle.model_run.specs.Clock.{Layout, first, turns, fires, next, moves}
+use Rattle.model_run.specs.Running.{Spent, Starved, Stalled, call}
 use Rattle.flow.specs.Machine.{Invariant, Ready}
 use Rattle.flow.proofs.Tests.{fires-yes}
 use Rattle.flow.proofs.Invariant.{next-invariant}
@@ -21,7 +21,7 @@ use Rattle.run_laws.proofs.Lengths.{length-turns}
 use Rattle.loop_laws.specs.Passes.{of, Aligned}
 use Rattle.loop_laws.specs.Sweeps.{before, swept, Lined, Ringed, Turns, Turned, InPlace, Goes, Gone}
 use Rattle.loop_laws.specs.Standings.{counting, stand, endedAt}
-use Rattle.loop_laws.specs.Tables.{Fills}
+use Rattle.loop_laws.specs.LoopTables.{Fills}
 use Rattle.loop_laws.proofs.AlignedLaws.{ready-aligned}
 use Rattle.loop_laws.proofs.SweepLaws.{turns-same}
 use Rattle.loop_laws.proofs.AgainLaws.{goes-unwanted}

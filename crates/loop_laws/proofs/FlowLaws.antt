@@ -9,7 +9,7 @@ use lib.Dec.{eqb}
 use lib.ListN.{length, getD, set, length-set}
 use lib.Seq.{getD-set-other}
 use borrow.Author.Tests.{eqb-true, eqb-false, lt-ltb}
-use Rattle.model.specs.Store.{placeIn, presented, stored}
+use Rattle.model_run.specs.Store.{placeIn, presented, stored}
 use Rattle.run_laws.proofs.Held.{first-place-suc}
 use Rattle.loop_laws.specs.Passes.{Places, Aligned, step, flow, flowed, placeOf, gets, puts, steps}
 

@@ -9,11 +9,11 @@ use native.Mathlib.Omega.{arith}
 use native.Mathlib.Decide.{ℕ-discrete}
 use lib.ListN.{length, getD, take, length-map}
 use lib.Seq.{slice, sets, length-sets, take-suc, take-suc-set, length-take-le, getD-take}
-use Rattle.model.specs.Clock.{Layout, first}
-use Rattle.model.specs.Running.{Done, Spent, Starved, Full, call}
+use Rattle.model_run.specs.Clock.{Layout, first}
+use Rattle.model_run.specs.Running.{Done, Spent, Starved, Full, call}
 use Rattle.loop_laws.specs.Passes.{of, Aligned, ahead, step, flow, flowed, gets, puts, steps, stepped, passing, heads, FullFifos, InStore}
 use Rattle.loop_laws.specs.Standings.{stand, endedAt}
-use Rattle.loop_laws.specs.Tables.{Tables, Stands, Rows, Rings}
+use Rattle.loop_laws.specs.LoopTables.{Tables, Stands, Rows, Rings}
 use Rattle.loop_laws.proofs.AlignedLaws.{aligned-on, aligned-same}
 use Rattle.loop_laws.proofs.FlowLaws.{gets-on, puts-on, full-places, length-flow}
 use Rattle.loop_laws.proofs.PassLaws.{length-stepped}

@@ -7,7 +7,7 @@ use native.Mathlib.Decide.{ℕ-discrete}
 use native.Mathlib.Omega.{arith}
 use lib.ListN.{length, getD, set}
 use lib.Seq.{slice, getD-set-same, getD-set-other}
-use Rattle.model.specs.Clock.{turn, limit}
+use Rattle.model_run.specs.Clock.{turn, limit}
 use Rattle.loop_laws.specs.Passes.{of}
 use Rattle.loop_laws.specs.Sweeps.{source, wordAt, getsOn, PutOn, Turns, Goes, Gone}
 use Rattle.loop_laws.proofs.AgainLaws.{goes-most, turn-by}

@@ -6,7 +6,7 @@ use native.Mathlib.Decide.{ℕ-discrete, decLt}
 use native.Mathlib.Omega.{arith}
 use lib.ListN.{length, getD, set, length-set}
 use lib.Seq.{getD-set-same, getD-set-other}
-use Rattle.model.specs.Clock.{turn}
+use Rattle.model_run.specs.Clock.{turn}
 use Rattle.loop_laws.specs.Passes.{of}
 use Rattle.loop_laws.specs.Sweeps.{before, roomFor, Goes, Movers}
 use Rattle.loop_laws.proofs.SweepLaws.{turn-most, turn-least}

@@ -8,7 +8,7 @@ use native.Mathlib.Decide.{ℕ-discrete}
 use lib.ListN.{length, getD, drop}
 use Rattle.model.specs.Lists.{product}
 use Rattle.model.specs.Geometry.{cellCount, place, indices}
-use Rattle.loop_laws.specs.Tables.{walked}
+use Rattle.loop_laws.specs.LoopTables.{walked}
 
 -- Tables of m dimensions from d on.
 pub walked-place : (ss es spans strides : List ℕ) (m d j : ℕ) → length ss ≡ m → length es ≡ m → ((i : ℕ) → i < m → getD spans (d + i) 0 ≡ product (drop (suc i) es))

@@ -4,7 +4,7 @@ use mathlib.Core.Path.{_≡_, refl, _∙_}
 use native.Mathlib.Decide.{ℕ-discrete, decLt}
 use native.Mathlib.Numerals.{add-one}
 use native.Mathlib.Omega.{arith}
-use Rattle.model.specs.Clock.{turn}
+use Rattle.model_run.specs.Clock.{turn}
 use Rattle.loop_laws.specs.Sweeps.{before, goesBefore, roomFor, roomAt, roomGoes, Goes, Again, Keeps, KeepsAt, InPlace}
 use Rattle.loop_laws.proofs.SweepLaws.{turn-most, turn-wanted, turn-went}
 use Rattle.loop_laws.proofs.AgainLaws.{

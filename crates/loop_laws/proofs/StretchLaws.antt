@@ -7,8 +7,8 @@ use native.Mathlib.Nat.{add-zero}
 use native.Mathlib.Omega.{arith}
 use lib.ListN.{length, take, drop, take-append-drop}
 use lib.Seq.{length-take-le}
-use Rattle.model.specs.Clock.{Layout, Counters, fires, next, moves}
-use Rattle.model.specs.Running.{Standing, Ending, Done, Spent, Starved, Stalled, Full, goes, ends, Ended, words, clocked, call}
+use Rattle.model_run.specs.Clock.{Layout, Counters, fires, next, moves}
+use Rattle.model_run.specs.Running.{Standing, Ending, Done, Spent, Starved, Stalled, Full, goes, ends, Ended, words, clocked, call}
 use Rattle.flow.specs.Machine.{Lawful, past, Holds, Invariant}
 use Rattle.flow.proofs.Invariant.{next-invariant}
 use Rattle.run_laws.proofs.Looks.{Looked, is-done, is-spent, is-starved, is-stalled, is-full, is-going, along-call}

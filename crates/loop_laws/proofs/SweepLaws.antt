@@ -10,7 +10,7 @@ use lib.Dec.{ltb, eqb}
 use lib.ListN.{length, getD, take, drop, set, length-set, take-append-drop}
 use lib.Seq.{slice, slice-cons, slice-empty, getD-set-same, getD-set-other, take-set-lt, drop-set-lt}
 use borrow.Author.Tests.{lt-ltb, le-ltb, ltb-true, eq-eqb, ne-eqb}
-use Rattle.model.specs.Clock.{turn, limit, turns}
+use Rattle.model_run.specs.Clock.{turn, limit, turns}
 use Rattle.loop_laws.specs.Passes.{of}
 use Rattle.loop_laws.specs.Sweeps.{before, source, swept}
 

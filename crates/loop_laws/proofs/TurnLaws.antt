@@ -12,8 +12,8 @@ use lib.ListN.{length, getD, take, set, length-set}
 use lib.Seq.{slice, getD-set-same, getD-set-other, take-set-lt, drop-set-lt, set-getD, length-take-le, getD-take}
 use borrow.Author.Tests.{lt-ltb, le-ltb}
 use Rattle.model.specs.Lists.{sum}
-use Rattle.model.specs.Clock.{turn, limit}
-use Rattle.model.specs.Store.{firstPlace, placeIn, stored}
+use Rattle.model_run.specs.Clock.{turn, limit}
+use Rattle.model_run.specs.Store.{firstPlace, placeIn, stored}
 use Rattle.run_laws.proofs.Held.{first-place-suc, place-before, stored-before}
 use Rattle.loop_laws.specs.Passes.{of, step}
 use Rattle.loop_laws.specs.Sweeps.{source, Ringed, wordAt, getsOn, PutOn, Turns, Turned}

@@ -6,7 +6,7 @@ use native.Mathlib.Nat.{sub-zero}
 use native.Mathlib.Numerals.{add-one}
 use native.Mathlib.Omega.{arith}
 use lib.ListN.{getD}
-use Rattle.loop_laws.specs.Tables.{walked}
+use Rattle.loop_laws.specs.LoopTables.{walked}
 
 module _ (spans strides : List ℕ) (dims j : ℕ) where
   -- The loop has come to dimension d: what remains gives what the whole does.

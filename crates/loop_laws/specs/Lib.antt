@@ -1,5 +1,5 @@
 pub mod Passes
 pub mod Sweeps
 pub mod Standings
-pub mod Tables
+pub mod LoopTables
 pub mod Stretches

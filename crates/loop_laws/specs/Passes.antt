@@ -6,7 +6,7 @@ use mathlib.Core.Path.{_≡_}
 use lib.Dec.{eqb}
 use lib.ListN.{length, getD, set}
 use lib.Seq.{slice, sets}
-use Rattle.model.specs.Store.{firstPlace}
+use Rattle.model_run.specs.Store.{firstPlace}
 
 -- A table as a function.
 abbrev pub of : List ℕ → ℕ → ℕ

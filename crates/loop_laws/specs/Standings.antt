@@ -1,8 +1,8 @@
 -- Where a call stands, by its numbers and lists.
 use Prim.Native.Nat.{ℕ}
 use mathlib.Core.List.{List}
-use Rattle.model.specs.Clock.{Counters}
-use Rattle.model.specs.Running.{Standing, Ending, Ended}
+use Rattle.model_run.specs.Clock.{Counters}
+use Rattle.model_run.specs.Running.{Standing, Ending, Ended}
 
 abbrev pub counting : (fired : ℕ) (passed : List ℕ) → Counters
 counting fired passed = record { fired = fired; passed = passed }

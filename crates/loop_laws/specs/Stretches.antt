@@ -1,7 +1,7 @@
 -- A stretch of a layout's iterations is a layout of its own.
 use Prim.Native.Nat.{ℕ, _+_, _-_}
-use Rattle.model.specs.Clock.{Layout}
-use Rattle.model.specs.Running.{Standing, Ending, Done, Spent, Starved, Stalled, Full, Ended}
+use Rattle.model_run.specs.Clock.{Layout}
+use Rattle.model_run.specs.Running.{Standing, Ending, Done, Spent, Starved, Stalled, Full, Ended}
 use Rattle.loop_laws.specs.Standings.{counting}
 
 -- The iterations from number `from` on, up to below `until`.

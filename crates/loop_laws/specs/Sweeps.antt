@@ -7,8 +7,8 @@ use lib.Dec.{ltb}
 use lib.ListN.{length, getD, drop, set}
 use lib.Seq.{slice}
 use Rattle.model.specs.Lists.{sum}
-use Rattle.model.specs.Clock.{turn, turns}
-use Rattle.model.specs.Store.{stored}
+use Rattle.model_run.specs.Clock.{turn, turns}
+use Rattle.model_run.specs.Store.{stored}
 use Rattle.loop_laws.specs.Passes.{of, step, Places}
 
 -- What filter k is presented ends here, where the filters stand at f: at the cells' count, or where the filter before it is.

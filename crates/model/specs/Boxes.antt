@@ -8,7 +8,7 @@ use Rattle.model.specs.Lists.{tabulate, someBelow}
 use Rattle.model.specs.Vectors.{above}
 use Rattle.model.specs.Geometry.{lows, extents, countedFrom}
 use Rattle.model.specs.Grounds.{Row, Ground, isIteration}
-use Rattle.model.specs.Grounds.Ground.{rectangle, rows}
+use Rattle.model.specs.Grounds.Ground.{rectangle, skewed}
 use Rattle.model.specs.Courses.{Course, count, vector, allIterations}
 
 -- Which iterations a run covers: all of them, or those of a box, given by "the lowest, then the highest index of the iterations" in each dimension.
@@ -47,7 +47,7 @@ equalRows (n ∷ w ∷ ws) = tabulate n (λ _. record { start = 0; length = w })
 -- A box of these widths: a rectangle, which on rows is taken row by row.
 unfoldable pub boxShape : Ground → List ℕ → Ground
 boxShape (rectangle sizes) ws = rectangle ws
-boxShape (rows rs) ws = rows (equalRows ws)
+boxShape (skewed rs) ws = skewed (equalRows ws)
 
 -- The vectors of a box.
 unfoldable pub boxCourse : Ground → (lowest highest : List ℤ) → Course

@@ -7,7 +7,7 @@ use Rattle.model.specs.Lists.{tabulate, greatest}
 use Rattle.model.specs.Vectors.{above}
 use Rattle.model.specs.Geometry.{firstEntry, otherEntries, least, lows, extents, countedFrom}
 use Rattle.model.specs.Grounds.{Row, Ground, row, end, cellCount, cellAt}
-use Rattle.model.specs.Grounds.Ground.{rectangle, rows}
+use Rattle.model.specs.Grounds.Ground.{rectangle, skewed}
 
 pub record Course : Type 0 where
   pub first : List ℤ
@@ -56,7 +56,7 @@ commonRow rs offsets u = record { start = commonStart rs offsets u; length = com
 -- All iterations: counted from the negated lows.
 unfoldable pub allIterations : Ground → List (List ℤ) → Course
 allIterations (rectangle sizes) offsets = record { first = map negℤ (lows sizes offsets); shape = rectangle (extents sizes offsets) }
-allIterations (rows rs) offsets = record {
+allIterations (skewed rs) offsets = record {
   first = negℤ (lowRow offsets) ∷ negℤ (lowColumn offsets) ∷ [];
-  shape = rows (tabulate (length rs) (commonRow rs offsets));
+  shape = skewed (tabulate (length rs) (commonRow rs offsets));
 }

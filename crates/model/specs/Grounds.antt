@@ -18,17 +18,17 @@ pub record Row : Type 0 where
 
 pub data Ground : Type 0 where
   rectangle : List ℕ → Ground
-  rows : List Row → Ground
+  skewed : List Row → Ground
 
 -- The sizes of a rectangle; rows have none.
 abbrev pub groundSizes : Ground → List ℕ
 groundSizes (rectangle sizes) = sizes
-groundSizes (rows rs) = []
+groundSizes (skewed rs) = []
 
 -- How many entries an index vector has. "The grid has two dimensions."
 abbrev pub dims : Ground → ℕ
 dims (rectangle sizes) = length sizes
-dims (rows rs) = 2
+dims (skewed rs) = 2
 
 -- Row i; past the last one a row without cells.
 abbrev pub noRow : Row
@@ -54,7 +54,7 @@ rowCells (r ∷ rs) = r .length + rowCells rs
 -- How many cells there are: "only those cells are streamed".
 unfoldable pub cellCount : Ground → ℕ
 cellCount (rectangle sizes) = rectangular.cellCount sizes
-cellCount (rows rs) = rowCells rs
+cellCount (skewed rs) = rowCells rs
 
 -- Row x of the rows has column y.
 unfoldable pub hasColumn : List Row → (x y : ℤ) → Bool
@@ -71,7 +71,7 @@ insideRows rs (x ∷ y ∷ z ∷ zs) = false
 -- The vector is the index of a cell.
 unfoldable pub inside : Ground → List ℤ → Bool
 inside (rectangle sizes) v = rectangular.inside sizes v
-inside (rows rs) v = insideRows rs v
+inside (skewed rs) v = insideRows rs v
 
 -- The lengths of the rows above, and how far the column lies behind the row's start.
 unfoldable pub rowPlace : List Row → List ℕ → ℕ
@@ -82,7 +82,7 @@ rowPlace rs (i ∷ c ∷ u) = cellsAbove rs i + (c - row rs i .start)
 -- The place of a cell that is given by its indices,
 unfoldable pub cellPlace : Ground → List ℕ → ℕ
 cellPlace (rectangle sizes) u = place sizes u
-cellPlace (rows rs) u = rowPlace rs u
+cellPlace (skewed rs) u = rowPlace rs u
 
 -- and the position of one that is given by its index vector.
 unfoldable pub position : Ground → List ℤ → ℕ
@@ -104,7 +104,7 @@ columnAt (r ∷ rs) j =
 -- The indices of the cell at position j.
 unfoldable pub cellAt : Ground → ℕ → List ℕ
 cellAt (rectangle sizes) j = indices sizes j
-cellAt (rows rs) j = rowAt rs j ∷ columnAt rs j ∷ []
+cellAt (skewed rs) j = rowAt rs j ∷ columnAt rs j ∷ []
 
 -- "An iteration is every whole-number vector, negative entries allowed, that added to each offset stays inside the grid."
 unfoldable pub isIteration : Ground → List (List ℤ) → List ℤ → Bool

@@ -8,7 +8,7 @@ use lib.ListN.{length, getD}
 use Rattle.model.specs.Lists.{tabulate, greatest}
 use Rattle.model.specs.Vectors.{plus}
 use Rattle.model.specs.Grounds.{Row, Ground, groundSizes, cellCount, position, inside, isIteration}
-use Rattle.model.specs.Grounds.Ground.{rectangle, rows}
+use Rattle.model.specs.Grounds.Ground.{rectangle, skewed}
 use Rattle.model.specs.Courses.{Course, count, vector}
 use Rattle.model.specs.Boxes.{inPart, course}
 use Rattle.model.specs.Values.{Trimmed}
@@ -23,7 +23,7 @@ firstsFrom from (r ∷ rs) =
 -- Iterations among which every distance occurs: on a rectangle the first, on rows the first of each row that has any.
 unfoldable pub firsts : Ground → List ℕ
 firsts (rectangle sizes) = 0 ∷ []
-firsts (rows rs) = firstsFrom 0 rs
+firsts (skewed rs) = firstsFrom 0 rs
 
 module _ (t : Trimmed) where
   -- "Its cells are .. streamed in lexicographic order": how many there are.

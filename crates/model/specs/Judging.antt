@@ -10,7 +10,7 @@ use Rattle.model.specs.Lists.{sum, any}
 use Rattle.model.specs.Vectors.{equal, isZero}
 use Rattle.model.specs.Geometry.{cellCount}
 use Rattle.model.specs.Grounds.{Row, Ground}
-use Rattle.model.specs.Grounds.Ground.{rectangle, rows}
+use Rattle.model.specs.Grounds.Ground.{rectangle, skewed}
 use Rattle.model.specs.Courses.{count, allIterations}
 use Rattle.model.specs.Boxes.{badBox}
 use Rattle.model.specs.Values.{Trimmed, trimmed, onGrid, onRectangle, onRows}
@@ -54,11 +54,11 @@ badRows rs = badRowCount (length rs) || any badRow rs
 -- "in a value 16 stands where 3 does": what is looked at of a grid, and which number says it.
 abbrev pub badGround : (dims : ℕ) → Ground → Bool
 badGround dims (rectangle sizes) = badGrid dims sizes
-badGround dims (rows rs) = badRows rs
+badGround dims (skewed rs) = badRows rs
 
 abbrev pub groundRefusal : Ground → Refusal
 groundRefusal (rectangle sizes) = refusal.BadGrid
-groundRefusal (rows rs) = refusal.BadRows
+groundRefusal (skewed rs) = refusal.BadRows
 
 -- 4: n outside 1 to 32
 unfoldable pub badCount : ℕ → Bool
@@ -122,15 +122,15 @@ windowChecks t =
     ∷ []
 
 -- (what they answer by themselves)
-abbrev pub judgeWindow : Grid → (numbers : List ℕ) → Window → Bounds → Verdict
-judgeWindow g numbers w b = firstOf (windowChecks (onGrid g numbers w b))
+abbrev pub judgeWindow : Grid → (rows : List ℕ) → Window → Bounds → Verdict
+judgeWindow g rows w b = firstOf (windowChecks (onGrid g rows w b))
 
 -- (on a rectangle, and on rows)
 abbrev pub judgeRectangle : Grid → Window → Bounds → Verdict
 judgeRectangle g w b = firstOf (windowChecks (onRectangle g w b))
 
-abbrev pub judgeRows : (count : ℕ) (numbers : List ℕ) → Window → Bounds → Verdict
-judgeRows count numbers w b = firstOf (windowChecks (onRows count numbers w b))
+abbrev pub judgeRows : (count : ℕ) (rows : List ℕ) → Window → Bounds → Verdict
+judgeRows count rows w b = firstOf (windowChecks (onRows count rows w b))
 
 -- 7 and 8, of a kernel, where the window has a centre or has none,
 unfoldable pub kernelChecks : Kernel → (centred : Bool) → List Check
@@ -152,5 +152,5 @@ judged t = firstOf (valueChecks t)
 unfoldable pub judgeBehind : Kernel → (centred : Bool) → (total : ℕ) → Verdict
 judgeBehind k centred total = firstOf (kernelChecks k centred ++ (check (ltb mostPlaces total) refusal.TooLarge ∷ []))
 
-unfoldable pub judgeChain : Chain → (numbers : List ℕ) → Verdict
-judgeChain c numbers = judged (trimmed c numbers)
+unfoldable pub judgeChain : Chain → (rows : List ℕ) → Verdict
+judgeChain c rows = judged (trimmed c rows)

@@ -4,7 +4,7 @@ use mathlib.Core.Bool.{Bool, true, false}
 use mathlib.Core.List.{List, [], _∷_, map, flatMap}
 use mathlib.Core.Path.{_≡_, refl}
 use lib.IntN.{ℤ, pos, negsuc}
-use lib.Ieee.{ofBits}
+use lib.Ieee.{Float, binary32, ofBits}
 use Rattle.model.specs.Lists.{tabulate, sum, product, greatest, all, any, someBelow}
 use Rattle.model.specs.Vectors.{same, above, plus, equal, before, isZero}
 use Rattle.model.specs.Geometry.{place, natural, firstEntry, otherEntries, leastFrom, least, lows, extent, extents, indices}
@@ -18,13 +18,16 @@ use Rattle.model.specs.Answers.{numberOf, verdictNumber, firstOf}
 use Rattle.model.specs.Judging.{badDims, badSizes, badGrid, badCount, repeats, noIteration, needsCentre, lacksCentre, notFinite, badFactor, tooLarge, twice, badOrder, windowChecks, kernelChecks, chainChecks, valueChecks, judged, judgeChain}
 use Rattle.model.specs.Steps.{insert, falling, whichOf, authorsOrder, sorted, distances}
 use Rattle.model.specs.Planning.{trimmedRequest, judgeRequest}
-use Rattle.model.specs.Kernels.{float}
 use Rattle.model.specs.declared.Bounds.{Bounds}
 use Rattle.model.specs.declared.Chain.{Chain}
 use Rattle.model.specs.declared.Grid.{Grid}
 use Rattle.model.specs.declared.Kernel.{Kernel}
 use Rattle.model.specs.declared.Kernel.the-variants as kernel
 use Rattle.model.specs.declared.Order.{Order}
+
+-- A factor by its bits.
+abbrev float : ℕ → Float
+float w = ofBits binary32 w
 
 -- The number that turns a chain back, and the one that turns back the request which the chain without its capacities is; 0 for none.
 pub record Numbers : Type 0 where
@@ -33,13 +36,13 @@ pub record Numbers : Type 0 where
 
 pub record Case : Type 0 where
   pub value : Chain
-  pub numbers : Numbers
+  pub rows : Numbers
 
 unfoldable pub answered : Case → Numbers
 answered c = record { chain = verdictNumber (judgeChain (c .value) []); request = verdictNumber (judgeRequest (requestOf (c .value)) []) }
 
 unfoldable pub expected : Case → Numbers
-expected c = c .numbers
+expected c = c .rows
 
 -- A value with bounds and an order.
 abbrev valued : Grid → (count : ℕ) (offsets : List ℤ) → Bounds → (capacities : List ℕ) → Order → Kernel → (chain request : ℕ) → Case
@@ -52,7 +55,7 @@ valued g count offsets b capacities o k chain request = record {
     order = o;
     kernel = k;
   };
-  numbers = record { chain = chain; request = request };
+  rows = record { chain = chain; request = request };
 }
 
 -- With an order, whose line stood or did not; with bounds, likewise; and without both.

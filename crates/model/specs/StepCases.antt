@@ -4,7 +4,7 @@ use mathlib.Core.Bool.{false}
 use mathlib.Core.List.{List, [], _∷_, map}
 use mathlib.Core.Path.{_≡_, refl}
 use lib.IntN.{ℤ, pos}
-use lib.Ieee.{ofBits}
+use lib.Ieee.{Float, binary32, ofBits}
 use lib.ListN.{length, getD}
 use Rattle.model.specs.Lists.{tabulate, sum, product, greatest, all, any, someBelow}
 use Rattle.model.specs.Vectors.{−1, same, above, plus, equal, before, isZero}
@@ -20,11 +20,14 @@ use Rattle.model.specs.Answers.{numberOf, verdictNumber, firstOf}
 use Rattle.model.specs.Judging.{badDims, badSizes, badGrid, badCount, repeats, noIteration, needsCentre, lacksCentre, notFinite, badFactor, tooLarge, twice, badOrder, windowChecks, kernelChecks, chainChecks, valueChecks, judged}
 use Rattle.model.specs.Steps.{insert, falling, whichOf, authorsOrder, sorted, distances, total, stepsOf}
 use Rattle.model.specs.Planning.{trimmedRequest, judgeRequest}
-use Rattle.model.specs.Kernels.{float}
 use Rattle.model.specs.declared.Grid.{Grid}
 use Rattle.model.specs.declared.Window.{Window}
 use Rattle.model.specs.declared.Kernel.{Kernel}
 use Rattle.model.specs.declared.Kernel.the-variants as kernel
+
+-- A factor by its bits.
+abbrev float : ℕ → Float
+float w = ofBits binary32 w
 
 -- The number that turns the steps back, 0 for none; the sorted offsets, the filter of each of the author's references, the distances and their sum.
 pub record Results : Type 0 where

@@ -8,7 +8,7 @@ use lib.ListN.{length, getD, replicate}
 use lib.Seq.{sets}
 use Rattle.model.specs.Lists.{tabulate}
 use Rattle.model.specs.Grounds.{Row, Ground}
-use Rattle.model.specs.Grounds.Ground.{rectangle, rows}
+use Rattle.model.specs.Grounds.Ground.{rectangle, skewed}
 use Rattle.model.specs.Boxes.{Part}
 use Rattle.model.specs.Boxes.Part.{whole, box}
 use Rattle.model.specs.declared.Grid.{Grid}
@@ -25,11 +25,11 @@ sizesOf g = tabulate (g .dims) (λ d. getD (g .sizes) d 0)
 
 -- Rows that are lent beside a value, so many of them: row i's start is number 2 i and its length number 2 i + 1; where there are too few numbers, a row has no cells.
 unfoldable pub rowsOf : (count : ℕ) → List ℕ → List Row
-rowsOf count numbers = tabulate count (λ i. record { start = getD numbers (2 * i) 0; length = getD numbers (2 * i + 1) 0 })
+rowsOf count rows = tabulate count (λ i. record { start = getD rows (2 * i) 0; length = getD rows (2 * i + 1) 0 })
 
 -- The cells of a grid, whose rows, where it is skewed, are lent beside it; and how many dimensions it has.
-unfoldable pub groundOf : Grid → (numbers : List ℕ) → Ground
-groundOf g numbers = cond (g .skewed) (rows (rowsOf (g .rows) numbers)) (rectangle (sizesOf g))
+unfoldable pub groundOf : Grid → (rows : List ℕ) → Ground
+groundOf g rows = cond (g .skewed) (skewed (rowsOf (g .rows) rows)) (rectangle (sizesOf g))
 
 unfoldable pub dimsOf : Grid → ℕ
 dimsOf g = cond (g .skewed) 2 (g .dims)
@@ -72,10 +72,10 @@ pub record Trimmed : Type 0 where
   pub kernel : Kernel
 
 -- A grid, a window, bounds, capacities, an order, which stood or did not, and a kernel: what of them plays a part.
-abbrev pub trimmedOf : Grid → (numbers : List ℕ) → Window → Bounds → (capacities : List ℕ) → (ordered : Bool) (order : List ℕ) → Kernel → Trimmed
-trimmedOf g numbers w b capacities ordered order k = record {
+abbrev pub trimmedOf : Grid → (rows : List ℕ) → Window → Bounds → (capacities : List ℕ) → (ordered : Bool) (order : List ℕ) → Kernel → Trimmed
+trimmedOf g rows w b capacities ordered order k = record {
   dims = dimsOf g;
-  ground = groundOf g numbers;
+  ground = groundOf g rows;
   count = w .count;
   offsets = offsetsOf (dimsOf g) w;
   part = partOf (dimsOf g) b;
@@ -85,16 +85,16 @@ trimmedOf g numbers w b capacities ordered order k = record {
   kernel = k;
 }
 
-unfoldable pub trimmed : Chain → (numbers : List ℕ) → Trimmed
-trimmed c numbers = trimmedOf (c .grid) numbers (c .window) (c .bounds) (capacitiesOf c) (c .order .stood) (orderOf (c .window .count) (c .order)) (c .kernel)
+unfoldable pub trimmed : Chain → (rows : List ℕ) → Trimmed
+trimmed c rows = trimmedOf (c .grid) rows (c .window) (c .bounds) (capacitiesOf c) (c .order .stood) (orderOf (c .window .count) (c .order)) (c .kernel)
 
 -- Two chains, each with its rows, are the same.
-abbrev pub Same : Chain → (numbers : List ℕ) → Chain → (numbers : List ℕ) → Type 0
-Same c ns d ms = trimmed c ns ≡ trimmed d ms
+abbrev pub Same : Chain → (rows : List ℕ) → Chain → (rows : List ℕ) → Type 0
+Same c rows d rows′ = trimmed c rows ≡ trimmed d rows′
 
 -- A window on a grid as a value, with no capacities and no order, and raw.
-abbrev pub onGrid : Grid → (numbers : List ℕ) → Window → Bounds → Trimmed
-onGrid g numbers w b = trimmedOf g numbers w b [] false [] kernel.Raw
+abbrev pub onGrid : Grid → (rows : List ℕ) → Window → Bounds → Trimmed
+onGrid g rows w b = trimmedOf g rows w b [] false [] kernel.Raw
 
 -- The same on a rectangle, and on rows.
 abbrev pub onRectangle : Grid → Window → Bounds → Trimmed
@@ -110,10 +110,10 @@ onRectangle g w b = record {
   kernel = kernel.Raw;
 }
 
-abbrev pub onRows : (count : ℕ) → (numbers : List ℕ) → Window → Bounds → Trimmed
-onRows count numbers w b = record {
+abbrev pub onRows : (count : ℕ) → (rows : List ℕ) → Window → Bounds → Trimmed
+onRows count rows w b = record {
   dims = 2;
-  ground = rows (rowsOf count numbers);
+  ground = skewed (rowsOf count rows);
   count = w .count;
   offsets = offsetsOf 2 w;
   part = partOf 2 b;
@@ -150,7 +150,7 @@ sizeArray sizes = tabulate 4 (λ d. getD sizes d 0)
 
 unfoldable pub gridOf : (dims : ℕ) → Ground → Grid
 gridOf dims (rectangle sizes) = record { skewed = false; rows = 0; dims = dims; sizes = sizeArray sizes }
-gridOf dims (rows rs) = record { skewed = true; rows = length rs; dims = dims; sizes = sizeArray [] }
+gridOf dims (skewed rs) = record { skewed = true; rows = length rs; dims = dims; sizes = sizeArray [] }
 
 abbrev pub normalGrid : Grid → Grid
 normalGrid g = record { skewed = g .skewed; rows = cond (g .skewed) (g .rows) 0; dims = dimsOf g; sizes = sizeArray (cond (g .skewed) [] (sizesOf g)) }

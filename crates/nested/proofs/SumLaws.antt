@@ -5,7 +5,7 @@ use borrow.Author.Tests.{eq-eqb, ne-eqb}
 use native.Mathlib.Numerals.{add-one}
 use native.Mathlib.Omega.{arith}
 use lib.Ieee.{Float, binary32, sub, mul}
-use Rattle.model.specs.Kernels.{float, squared}
+use Rattle.model_run.specs.Kernels.{float, squared}
 use Rattle.nested.specs.declared.Sum.{Sum}
 use Rattle.nested.specs.Nested.{added, sumBut}
 

@@ -6,7 +6,7 @@ use lib.Dec.{eqb, ltb, leb}
 use lib.Ieee.{Float, binary32, add, mul}
 use lib.IntN.{ℤ, pos, negsuc}
 use lib.ListN.{length, getD, set, replicate}
-use Rattle.model.specs.Kernels.{float, word, squared}
+use Rattle.model_run.specs.Kernels.{float, word, squared}
 use Rattle.model.specs.declared.Bounds.{Bounds}
 use Rattle.model.specs.declared.Grid.{Grid}
 use Rattle.model.specs.declared.Window.{Window}

@@ -5,7 +5,7 @@ pub mod windows;
 use crate::windows::Loops;
 use model::Kernel;
 ghost use mathlib.Core.Path.{_≡_};
-ghost use Rattle.model.specs.Kernels.{float, word as wordOf, width as widthOf};
+ghost use Rattle.model_run.specs.Kernels.{float, word as wordOf, width as widthOf};
 ghost use Rattle.nested.specs.Nested.{noTerms, added, wordIn, values, squares, fired, movedBy, indexIn, cellOf, gathered, agreed};
 
 // The value of a word.

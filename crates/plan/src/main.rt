@@ -7,7 +7,7 @@ use model::PLAN_TEXT_PLACES;
 use model::Verdict;
 ghost use mathlib.Core.Path.{_≡_};
 ghost use lib.ListN.{replicate};
-ghost use Rattle.model.specs.Frames.{rowNumbers};
+ghost use Rattle.model_sheet.specs.Frames.{rowNumbers};
 ghost use Rattle.program_laws.specs.Loops.{TakenUnless, PlanDue};
 
 // A start and a length of each of 512 rows.

@@ -17,12 +17,12 @@ use Rattle.model.specs.declared.Bounds.{Bounds}
 use Rattle.model.specs.declared.Grid.{Grid}
 use Rattle.model.specs.declared.Window.{Window}
 use Rattle.model.specs.declared.Verdict.the-variants as verdict
-use Rattle.model.proofs.ListLaws.{length-tabulate, getD-tabulate}
-use Rattle.model.proofs.ChainLaws.{ground-flat, on-flat}
-use Rattle.model.proofs.SortLaws.{falling-each, falling-no-other}
-use Rattle.model.proofs.Iterations.{falls, same-distance}
-use Rattle.model.proofs.SameWindows.{same-iteration}
-use Rattle.model.proofs.StepLaws.{arranged-fits, arranged-falls, some-arranged}
+use Rattle.grid_laws.proofs.ListLaws.{length-tabulate, getD-tabulate}
+use Rattle.grid_laws.proofs.ChainLaws.{ground-flat, on-flat}
+use Rattle.grid_laws.proofs.SortLaws.{falling-each, falling-no-other}
+use Rattle.grid_laws.proofs.Iterations.{falls, same-distance}
+use Rattle.grid_laws.proofs.SameWindows.{same-iteration}
+use Rattle.grid_laws.proofs.StepLaws.{arranged-fits, arranged-falls, some-arranged}
 use Rattle.geometry.specs.Parts.{numberAt, Filled}
 use Rattle.geometry.proofs.FillLaws.{filled-all}
 use Rattle.shape.specs.Shapes.{shapeFor, surveyOf}

@@ -13,15 +13,15 @@ use Rattle.model.specs.declared.Bounds.{Bounds}
 use Rattle.model.specs.declared.Grid.{Grid}
 use Rattle.model.specs.declared.Window.{Window}
 use Rattle.model.specs.declared.Verdict.the-variants as verdict
-use Rattle.model.proofs.ListLaws.{length-tabulate, getD-tabulate}
-use Rattle.model.proofs.ChainLaws.{dims-skewed}
-use Rattle.model.proofs.StepLaws.{arranged-judged, arranged-back, arranged-falls}
+use Rattle.grid_laws.proofs.ListLaws.{length-tabulate, getD-tabulate}
+use Rattle.grid_laws.proofs.ChainLaws.{dims-skewed}
+use Rattle.grid_laws.proofs.StepLaws.{arranged-judged, arranged-back, arranged-falls}
 use Rattle.geometry.specs.Parts.{Filled}
 use Rattle.geometry.proofs.FillLaws.{filled-all}
 
-module _ (g : Grid) (skewed : g .skewed ≡ true) (numbers : List ℕ) (w : Window) (x : Bounds) (e : judgeWindow g numbers w x ≡ verdict.Accepted) where
+module _ (g : Grid) (skewed : g .skewed ≡ true) (rows : List ℕ) (w : Window) (x : Bounds) (e : judgeWindow g rows w x ≡ verdict.Accepted) where
   abbrev arranged : Trimmed
-  arranged = sorted (onGrid g numbers w x)
+  arranged = sorted (onGrid g rows w x)
 
   -- The sorted window.
   abbrev pub sortedWindow : Window
@@ -29,29 +29,29 @@ module _ (g : Grid) (skewed : g .skewed ≡ true) (numbers : List ℕ) (w : Wind
 
   offsets-are : offsetsOf 2 sortedWindow ≡ falling (offsetsOf 2 w)
   offsets-are =
-      subst (λ (n : ℕ). offsetsOf n (windowOf (w .count) (falling (offsetsOf n w))) ≡ falling (offsetsOf n w)) (dims-skewed g skewed) (arranged-back g numbers w x e)
+      subst (λ (n : ℕ). offsetsOf n (windowOf (w .count) (falling (offsetsOf n w))) ≡ falling (offsetsOf n w)) (dims-skewed g skewed) (arranged-back g rows w x e)
 
-  pub sorted-judged : judgeRows (g .rows) numbers sortedWindow x ≡ verdict.Accepted
+  pub sorted-judged : judgeRows (g .rows) rows sortedWindow x ≡ verdict.Accepted
   unfolding windowChecks sorted groundOf dimsOf
-  sorted-judged = rw offsets-are (rw skewed at (arranged-judged g numbers w x e))
+  sorted-judged = rw offsets-are (rw skewed at (arranged-judged g rows w x e))
 
   pub sorted-falls : (k : ℕ) → suc k < w .count → before (getD (offsetsOf 2 sortedWindow) (suc k) []) (getD (offsetsOf 2 sortedWindow) k []) ≡ true
   unfolding dimsOf
-  sorted-falls k h = rw offsets-are (rw skewed at (arranged-falls g numbers w x e k h))
+  sorted-falls k h = rw offsets-are (rw skewed at (arranged-falls g rows w x e k h))
 
-  same-distance : (k : ℕ) → distanceOf (onRows (g .rows) numbers sortedWindow x) k ≡ distanceOf arranged k
+  same-distance : (k : ℕ) → distanceOf (onRows (g .rows) rows sortedWindow x) k ≡ distanceOf arranged k
   unfolding distanceOf distanceIn readsOf positionOf iterationOf courseOf sorted groundOf dimsOf
   same-distance k = rw (skewed, offsets-are)
 
-  pub row-distances : (xs : List ℕ) → w .count ≤ 32 → Filled 31 0 (distanceOf (onRows (g .rows) numbers sortedWindow x)) (w .count - 1) xs → xs ≡ capacityArray (distances (sorted (onGrid g numbers w x)))
+  pub row-distances : (xs : List ℕ) → w .count ≤ 32 → Filled 31 0 (distanceOf (onRows (g .rows) rows sortedWindow x)) (w .count - 1) xs → xs ≡ capacityArray (distances (sorted (onGrid g rows w x)))
   unfolding distances sorted
-  row-distances xs few f = filled-all 31 0 (distanceOf (onRows (g .rows) numbers sortedWindow x)) capacity (w .count - 1) xs here past f
+  row-distances xs few f = filled-all 31 0 (distanceOf (onRows (g .rows) rows sortedWindow x)) capacity (w .count - 1) xs here past f
     where
       capacity : ℕ → ℕ
-      capacity k = getD (distances (sorted (onGrid g numbers w x))) k 0
+      capacity k = getD (distances (sorted (onGrid g rows w x))) k 0
 
-      here : (k : ℕ) → k < w .count - 1 → distanceOf (onRows (g .rows) numbers sortedWindow x) k ≡ capacity k
+      here : (k : ℕ) → k < w .count - 1 → distanceOf (onRows (g .rows) rows sortedWindow x) k ≡ capacity k
       here k h = same-distance k ∙ sym (getD-tabulate (w .count - 1) (distanceOf arranged) k 0 h)
 
       past : (k : ℕ) → w .count - 1 ≤ k → capacity k ≡ 0
-      past k h = List·getD-eq-default (distances (sorted (onGrid g numbers w x))) 0 (rw length-tabulate h)
+      past k h = List·getD-eq-default (distances (sorted (onGrid g rows w x))) 0 (rw length-tabulate h)

@@ -20,10 +20,10 @@ use Rattle.model.specs.declared.Request.{Request}
 use Rattle.model.specs.declared.Steps.{Steps}
 use Rattle.model.specs.declared.Verdict.{Verdict}
 use Rattle.model.specs.declared.Verdict.the-variants as verdict
-use Rattle.model.proofs.ListLaws.{length-tabulate, getD-tabulate}
-use Rattle.model.proofs.ChainLaws.{ground-dims}
-use Rattle.model.proofs.CheckLaws.{WindowPasses, few-dims, few-references}
-use Rattle.model.proofs.StepLaws.{steps-verdict, passed, judged-by-steps, request-passes, chain-by-steps}
+use Rattle.grid_laws.proofs.ListLaws.{length-tabulate, getD-tabulate}
+use Rattle.grid_laws.proofs.ChainLaws.{ground-dims}
+use Rattle.grid_laws.proofs.CheckLaws.{WindowPasses, few-dims, few-references}
+use Rattle.grid_laws.proofs.StepLaws.{steps-verdict, passed, judged-by-steps, request-passes, chain-by-steps}
 use Rattle.geometry.specs.Parts.{numberAt, Filled}
 use Rattle.geometry.specs.Windows.{hasCentre}
 use Rattle.geometry.proofs.FillLaws.{filled-all}
@@ -62,39 +62,39 @@ pub skewed-grid : (g : Grid) → g .skewed ≡ true → record { skewed = true; 
 unfolding dimsOf tabulate
 skewed-grid g skewed = rw skewed
 
-module _ (r : Request) (numbers : List ℕ) (s : Steps) (d : s ≡ stepsOf (r .grid) numbers (r .window) (r .bounds)) where
+module _ (r : Request) (rows : List ℕ) (s : Steps) (d : s ≡ stepsOf (r .grid) rows (r .window) (r .bounds)) where
   -- What is found before the steps, then 7 and 8, then 9 by their total.
   abbrev judged : Verdict
   judged = byVerdict (s .verdict) (judgeBehind (r .kernel) (hasCentre (dimsOf (r .grid)) (r .window)) (s .total)) verdict.Refused
 
-  found : s .verdict ≡ judgeWindow (r .grid) numbers (r .window) (r .bounds)
-  found = ap (λ (t : Steps). t .verdict) d ∙ steps-verdict (r .grid) numbers (r .window) (r .bounds)
+  found : s .verdict ≡ judgeWindow (r .grid) rows (r .window) (r .bounds)
+  found = ap (λ (t : Steps). t .verdict) d ∙ steps-verdict (r .grid) rows (r .window) (r .bounds)
 
-  low : WindowPasses (onGrid (r .grid) numbers (r .window) (r .bounds)) → dimsOf (r .grid) ≤ 4
-  low p = few-dims (dimsOf (r .grid)) (groundOf (r .grid) numbers) (ground-dims (r .grid) numbers) (p .grid)
+  low : WindowPasses (onGrid (r .grid) rows (r .window) (r .bounds)) → dimsOf (r .grid) ≤ 4
+  low p = few-dims (dimsOf (r .grid)) (groundOf (r .grid) rows) (ground-dims (r .grid) rows) (p .grid)
 
-  pub verdict-is : judged ≡ judgeRequest r numbers
-  verdict-is = go (s .verdict) refl ∙ ap (λ (t : Steps). byVerdict (t .verdict) (judgeBehind (r .kernel) (centred (offsetsOf (dimsOf (r .grid)) (r .window))) (t .total)) verdict.Refused) d ∙ sym (judged-by-steps r numbers)
+  pub verdict-is : judged ≡ judgeRequest r rows
+  verdict-is = go (s .verdict) refl ∙ ap (λ (t : Steps). byVerdict (t .verdict) (judgeBehind (r .kernel) (centred (offsetsOf (dimsOf (r .grid)) (r .window))) (t .total)) verdict.Refused) d ∙ sym (judged-by-steps r rows)
     where
       go : (v : Verdict) → s .verdict ≡ v → judged ≡ byVerdict (s .verdict) (judgeBehind (r .kernel) (centred (offsetsOf (dimsOf (r .grid)) (r .window))) (s .total)) verdict.Refused
       go verdict.Accepted e =
-          let p = passed (r .grid) numbers (r .window) (r .bounds) (sym found ∙ e) in
+          let p = passed (r .grid) rows (r .window) (r .bounds) (sym found ∙ e) in
           ap (λ (b : Bool). byVerdict (s .verdict) (judgeBehind (r .kernel) b (s .total)) verdict.Refused) (has-centre-is (dimsOf (r .grid)) (r .window) (low p) (few-references (r .window .count) (p .count)))
       go (verdict.Refused x) e = rw e
 
-  pub refused-plan : (x : Refusal) → judged ≡ verdict.Refused x → refusedPlan x ≡ planOf r numbers
+  pub refused-plan : (x : Refusal) → judged ≡ verdict.Refused x → refusedPlan x ≡ planOf r rows
   unfolding planOf
   refused-plan x e = sym (rw (sym verdict-is ∙ e))
 
   module _ (e : judged ≡ verdict.Accepted) where
-    let-pass : judgeWindow (r .grid) numbers (r .window) (r .bounds) ≡ verdict.Accepted
-    let-pass = request-passes r numbers (sym verdict-is ∙ e)
+    let-pass : judgeWindow (r .grid) rows (r .window) (r .bounds) ≡ verdict.Accepted
+    let-pass = request-passes r rows (sym verdict-is ∙ e)
 
     pub few-dimensions : dimsOf (r .grid) ≤ 4
-    few-dimensions = low (passed (r .grid) numbers (r .window) (r .bounds) let-pass)
+    few-dimensions = low (passed (r .grid) rows (r .window) (r .bounds) let-pass)
 
-    pub planned-by : (c : Chain) → c ≡ chainBy (r .grid) (r .bounds) (r .kernel) s → _≡_ {A = Planned} (record { verdict = verdict.Accepted; chain = c }) (planOf r numbers)
+    pub planned-by : (c : Chain) → c ≡ chainBy (r .grid) (r .bounds) (r .kernel) s → _≡_ {A = Planned} (record { verdict = verdict.Accepted; chain = c }) (planOf r rows)
     unfolding planOf
     planned-by c f =
-        ap (λ (c : Chain). record { verdict = verdict.Accepted; chain = c }) (f ∙ ap (chainBy (r .grid) (r .bounds) (r .kernel)) d ∙ sym (chain-by-steps r numbers let-pass))
-        ∙ ap (λ (v : Verdict). byVerdict v (record { verdict = verdict.Accepted; chain = plannedChain r numbers }) (λ x. refusedPlan x)) (sym e ∙ verdict-is)
+        ap (λ (c : Chain). record { verdict = verdict.Accepted; chain = c }) (f ∙ ap (chainBy (r .grid) (r .bounds) (r .kernel)) d ∙ sym (chain-by-steps r rows let-pass))
+        ∙ ap (λ (v : Verdict). byVerdict v (record { verdict = verdict.Accepted; chain = plannedChain r rows }) (λ x. refusedPlan x)) (sym e ∙ verdict-is)

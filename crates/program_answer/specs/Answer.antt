@@ -5,15 +5,15 @@ use Rattle.model.specs.declared.Arriving.{Arriving}
 use Rattle.model.specs.Answers.{byVerdict}
 use Rattle.model.specs.Planning.{judgeRequest, plannedChain}
 use Rattle.model.specs.Values.{requestOf}
-use Rattle.model.specs.Reading.{endVerdict}
-use Rattle.model.specs.Writing.{sheetOf}
-use Rattle.model.specs.Arriving.{finished}
-use Rattle.model.specs.Programs.{refusalText}
+use Rattle.model_sheet.specs.Reading.{endVerdict}
+use Rattle.model_sheet.specs.Writing.{sheetOf}
+use Rattle.model_sheet.specs.Arriving.{finished}
+use Rattle.model_program.specs.Programs.{refusalText}
 
 -- What `plan` writes of what arrived, with the rows' numbers beside it, at the end of its input.
-unfoldable pub planAnswer : Arriving → (numbers : List ℕ) → List ℕ
-planAnswer a numbers =
+unfoldable pub planAnswer : Arriving → (rows : List ℕ) → List ℕ
+planAnswer a rows =
     let s = finished a in
     let request = requestOf (s .reading .chain) in
-    let sheet = sheetOf (plannedChain request numbers) numbers in
-    byVerdict (endVerdict s (judgeRequest request numbers)) sheet refusalText
+    let sheet = sheetOf (plannedChain request rows) rows in
+    byVerdict (endVerdict s (judgeRequest request rows)) sheet refusalText

@@ -11,9 +11,9 @@ use Rattle.model.specs.declared.Verdict.{Verdict}
 use Rattle.model.specs.declared.Verdict.the-variants as verdict
 use Rattle.model.specs.declared.Chain.{Chain}
 use Rattle.model.specs.Answers.{answerCounts, outcomeCounts}
-use Rattle.model.specs.Clock.{Layout, Counters, first, turns, next}
+use Rattle.model_run.specs.Clock.{Layout, Counters, first, turns, next}
 use Rattle.model.specs.Values.{trimmed}
-use Rattle.model.specs.Running.{Standing, Ended, Ending, Done, Spent, Starved, Stalled, Full, goes, outcomeOf, clocked, call, layout, writtenBy, widthOf, begun, ended, judgeRun, runTrimmed, runOf}
+use Rattle.model_run.specs.Running.{Standing, Ended, Ending, Done, Spent, Starved, Stalled, Full, goes, outcomeOf, clocked, call, layout, writtenBy, widthOf, begun, ended, judgeRun, runTrimmed, runOf}
 use Rattle.flow.proofs.Tests.{by-next}
 use Rattle.flow.proofs.Turns.{moved-turned}
 use Rattle.run_laws.proofs.Looks.{Looked, is-going, along-call}

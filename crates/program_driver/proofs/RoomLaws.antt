@@ -4,13 +4,13 @@ use mathlib.Core.List.{List}
 use mathlib.Core.Path.{_≡_, sym, subst}
 use native.Mathlib.Omega.{arith}
 use lib.ListN.{length}
-use Rattle.program_lines.specs.Texts.{firingsLaid, Within}
-use Rattle.program_lines.proofs.WithinLaws.{there, over-within, if-within}
+use Rattle.program_writer.specs.Texts.{firingsLaid, Within}
+use Rattle.program_writer.proofs.WithinLaws.{there, over-within, if-within}
 use Rattle.program_stages.specs.declared.Job.{Job}
 use Rattle.program_stages.specs.declared.Stage.{Stage}
 use Rattle.program_stages.specs.declared.Stage.the-variants as stage
 use Rattle.program_driver.specs.declared.Step.{Step}
-use Rattle.program_driver.specs.Steps.{Left, left, sheetRead, cellsRead, ranOn, lastLine, advancedBy, advanced}
+use Rattle.program_driver.specs.RunSteps.{Left, left, sheetRead, cellsRead, ranOn, lastLine, advancedBy, advanced}
 
 -- What a step of `run` writes.
 pub step-within : (s : Step) (rows store cells words text : List ℕ) (j : Job) (block : List ℕ) (at : ℕ) (rows₀ store₀ cells₀ words₀ text₀ : List ℕ)

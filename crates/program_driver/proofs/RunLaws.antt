@@ -11,12 +11,12 @@ use Rattle.model.specs.declared.Counts.{Counts}
 use Rattle.model.specs.declared.Ran.{Ran}
 use Rattle.model.specs.declared.State.{State}
 use Rattle.model.specs.Answers.{answerCounts}
-use Rattle.model.specs.Kernels.{width}
-use Rattle.model.specs.Running.{Run, runOf}
+use Rattle.model_run.specs.Kernels.{width}
+use Rattle.model_run.specs.Running.{Run, runOf}
 use Rattle.runner.specs.Runs.{ranOf}
-use Rattle.program_lines.specs.Texts.{laid, roomFor, firingsLaid}
+use Rattle.program_writer.specs.Texts.{laid, roomFor, firingsLaid}
 use Rattle.program_stages.specs.declared.Job.{Job}
-use Rattle.program_driver.specs.Steps.{left, partRun, partLeft, KeptBehind, jobAfter, ranOn}
+use Rattle.program_driver.specs.RunSteps.{left, partRun, partLeft, KeptBehind, jobAfter, ranOn}
 use Rattle.program_driver.proofs.CellLaws.{lent-at-most}
 
 -- A part of a list, said twice.

@@ -9,9 +9,9 @@ ghost use mathlib.Core.Path.{_≡_};
 ghost use Prim.Native.Nat.{_+_, _≤_};
 ghost use lib.ListN.{length};
 ghost use Rattle.model.specs.Answers.{answerCounts};
-ghost use Rattle.model.specs.Kernels.{width};
-ghost use Rattle.program_lines.specs.Texts.{Within};
-ghost use Rattle.program_driver.specs.Steps.{left, LeavesRows, LeavesCells, partRun, partLeft, KeptBehind, jobAfter, ranOn, advanced};
+ghost use Rattle.model_run.specs.Kernels.{width};
+ghost use Rattle.program_writer.specs.Texts.{Within};
+ghost use Rattle.program_driver.specs.RunSteps.{left, LeavesRows, LeavesCells, partRun, partLeft, KeptBehind, jobAfter, ranOn, advanced};
 
 // What a step leaves: the job, the place in the block behind what was looked at, and how many characters of text are to be written.
 pub struct Step {
@@ -141,14 +141,14 @@ fn run_on(
     let chain = reading.chain;
     let state = j.state;
     let size = firing_size(chain);
-    let places = lesser(words.len(), program_lines::room_for(size, text.len()));
+    let places = lesser(words.len(), program_writer::room_for(size, text.len()));
     let to = lesser(j.count, cells.len());
     let from = lesser(j.from, to);
     let ran = run_part(chain, rows, state, store, cells, from, to, words, places);
     let fired = state.fired;
     let answer = ran.answer;
     let c = program_stages::counts_of(answer);
-    let bytes = program_lines::put_firings(size, fired.0, c.firings, words, text);
+    let bytes = program_writer::put_firings(size, fired.0, c.firings, words, text);
     Step {
         job: ran_on(j, ran, from, to),
         at,
@@ -176,7 +176,7 @@ pub fn advance(
         Stage::Cells => read_cells(j, block, at, cells),
         Stage::Clocks => run_on(j, at, rows, store, cells, words, text),
         Stage::Ending(way) => {
-            let bytes = program_lines::put_end(way, j.clocks, text);
+            let bytes = program_writer::put_end(way, j.clocks, text);
             Step {
                 job: program_stages::staged(j, Stage::Over),
                 at,
@@ -184,7 +184,7 @@ pub fn advance(
             }
         }
         Stage::Refusing(n) => {
-            let bytes = program_lines::put_refusal(n, text);
+            let bytes = program_writer::put_refusal(n, text);
             Step {
                 job: program_stages::staged(j, Stage::Over),
                 at,

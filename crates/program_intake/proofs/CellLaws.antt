@@ -10,10 +10,10 @@ use Rattle.model.specs.declared.CellLine.{CellLine}
 use Rattle.model.specs.declared.Frame.{Frame}
 use Rattle.model.specs.declared.Refusal.{Refusal}
 use Rattle.model.specs.declared.Verdict.the-variants as verdict
-use Rattle.model.specs.Lines.{lineFeed, lineOf}
-use Rattle.model.specs.Frames.{emptyFrame, fed, feeds, shown}
-use Rattle.model.specs.Reading.{cellVerdict, cellIn}
-use Rattle.model.specs.Arriving.{newLine, CellsRead, none, oneMore, readCells}
+use Rattle.model_sheet.specs.Lines.{lineFeed, lineOf}
+use Rattle.model_sheet.specs.Frames.{emptyFrame, fed, feeds, shown}
+use Rattle.model_sheet.specs.Reading.{cellVerdict, cellIn}
+use Rattle.model_sheet.specs.Arriving.{newLine, CellsRead, none, oneMore, readCells}
 use Rattle.sheet_laws.proofs.Cases.{by-eq}
 use Rattle.program_intake.specs.Taken.{started}
 use Rattle.program_intake.proofs.PieceLaws.{ends-behind, open-behind, ends-here, started-none, started-some}

@@ -5,7 +5,7 @@ use Rattle.model.specs.declared.Arriving.{Arriving}
 use Rattle.model.specs.declared.Refusal.{Refusal}
 use Rattle.model.specs.declared.Refusal.the-variants as refusal
 use Rattle.model.specs.declared.Verdict.the-variants as verdict
-use Rattle.model.specs.Arriving.{finished}
+use Rattle.model_sheet.specs.Arriving.{finished}
 
 module _ (a : Arriving) where
   pub turned-back : (x : Refusal) → a .verdict ≡ verdict.Refused x → record { verdict = verdict.Refused x; reading = a .reading } ≡ finished a

@@ -6,8 +6,8 @@ use mathlib.Core.Path.{_≡_, refl, ap}
 use native.Mathlib.Omega.{arith}
 use lib.ListN.{length}
 use borrow.Author.Tests.{eq-eqb, ne-eqb, lt-ltb}
-use Rattle.model.specs.Lines.{lineFeed, lineOf}
-use Rattle.model.specs.Arriving.{throughFeed}
+use Rattle.model_sheet.specs.Lines.{lineFeed, lineOf}
+use Rattle.model_sheet.specs.Arriving.{throughFeed}
 use Rattle.sheet_laws.proofs.Cases.{by-eq}
 use Rattle.program_intake.specs.Taken.{started}
 

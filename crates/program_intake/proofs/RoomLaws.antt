@@ -13,11 +13,11 @@ use Rattle.model.specs.declared.Frame.{Frame}
 use Rattle.model.specs.declared.Refusal.{Refusal}
 use Rattle.model.specs.declared.Verdict.{Verdict}
 use Rattle.model.specs.declared.Verdict.the-variants as verdict
-use Rattle.model.specs.Lines.{lineOf}
-use Rattle.model.specs.Numbers.{wordAt}
-use Rattle.model.specs.Frames.{emptyFrame, feeds, shown}
-use Rattle.model.specs.Reading.{cellVerdict}
-use Rattle.model.specs.Arriving.{newLine, CellsRead, readCells}
+use Rattle.model_sheet.specs.Lines.{lineOf}
+use Rattle.model_sheet.specs.Numbers.{wordAt}
+use Rattle.model_sheet.specs.Frames.{emptyFrame, feeds, shown}
+use Rattle.model_sheet.specs.Reading.{cellVerdict}
+use Rattle.model_sheet.specs.Arriving.{newLine, CellsRead, readCells}
 use Rattle.program_intake.specs.Taken.{started, Took, took, cellsTaken}
 use Rattle.program_intake.proofs.CellLaws.{midLine, turnedLine, noCell, oneCell, cell-line-open, cell-line-refused, cell-line-accepted, none-refused}
 

@@ -8,9 +8,9 @@ use model::Refusal;
 use model::Verdict;
 ghost use mathlib.Core.Path.{_≡_};
 ghost use Rattle.model.specs.declared.Verdict.the-variants.{Accepted};
-ghost use Rattle.model.specs.Arriving.{opened, closed, stoodFirst, arrive, finished, newLine};
-ghost use Rattle.model.specs.Frames.{shown};
-ghost use Rattle.model.specs.Reading.{stepOf};
+ghost use Rattle.model_sheet.specs.Arriving.{opened, closed, stoodFirst, arrive, finished, newLine};
+ghost use Rattle.model_sheet.specs.Frames.{shown};
+ghost use Rattle.model_sheet.specs.Reading.{stepOf};
 ghost use Rattle.program_intake.specs.Taken.{started, longer, numbersTaken, beside, tookLine, lineTaken, took, cellsTaken};
 
 // A line taken from a block, or as much of it as the block has, and the place behind it.
@@ -32,7 +32,7 @@ pub fn open() -> Arriving
 {
     Arriving {
         verdict: Verdict::Accepted,
-        reading: sheet_lines::begin(),
+        reading: sheet_reader::begin(),
         frame: sheet_frames::empty_frame(),
         begun: false,
     }
@@ -87,11 +87,11 @@ fn take_numbers(last: Last, f: Frame, piece: &[u8], rows: &mut [u32])
 }
 
 // The open line at its LF.
-fn close(chained: bool, a: Arriving, rows: &[u32], frame: Frame) -> Arriving
+fn close_line(chained: bool, a: Arriving, rows: &[u32], frame: Frame) -> Arriving
     ensures { λ r. ⌜ r ≡ closed (stepOf chained (now (rows .entry)) (a .reading) (shown frame)) ⌝ }
 {
     let r = a.reading;
-    let s = sheet_lines::step(chained, rows, r, frame);
+    let s = sheet_reader::step(chained, rows, r, frame);
     let verdict = s.verdict;
     let reading = s.reading;
     Arriving {
@@ -132,7 +132,7 @@ pub fn take_line(chained: bool, a: Arriving, rows: &mut [u32], block: &[u8], at:
             let open = sheet_frames::more(f, piece);
             if has_feed {
                 return LineTaken {
-                    arriving: close(chained, a, rows, open),
+                    arriving: close_line(chained, a, rows, open),
                     at: end + 1,
                 };
             }

@@ -6,11 +6,11 @@ use mathlib.Core.Path.{_≡_, refl, sym, _∙_, ap, subst}
 use native.Mathlib.Nat.{add-zero, zero-mul}
 use native.Mathlib.Omega.{arith}
 use lib.ListN.{length, take}
-use Rattle.model.specs.Clock.{Layout, first, next}
-use Rattle.model.specs.Running.{layout, Standing, Run, call, clocked, shortStore, begun, writtenBy, widthOf}
-use Rattle.model.specs.CallLists.{Lending, Between, lentCells, callRun, firingsAmong}
-use Rattle.model.specs.Words.{wordsFrom}
-use Rattle.model.specs.Reports.{firingsOf}
+use Rattle.model_run.specs.Clock.{Layout, first, next}
+use Rattle.model_run.specs.Running.{layout, Standing, Run, call, clocked, shortStore, begun, writtenBy, widthOf}
+use Rattle.model_run.specs.CallLists.{Lending, Between, lentCells, callRun, firingsAmong}
+use Rattle.model_run.specs.Words.{wordsFrom}
+use Rattle.model_run.specs.Reports.{firingsOf}
 use Rattle.run_laws.proofs.Layouts.{lawful}
 use Rattle.run_laws.proofs.Looks.{along-call}
 use Rattle.run_laws.proofs.Traces.{traced-fired}

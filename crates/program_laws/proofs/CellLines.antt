@@ -11,11 +11,11 @@ use Rattle.model.specs.declared.Refusal.{Refusal}
 use Rattle.model.specs.declared.Refusal.the-variants as refusal
 use Rattle.model.specs.declared.Verdict.{Verdict}
 use Rattle.model.specs.declared.Verdict.the-variants as verdict
-use Rattle.model.specs.Lines.{Line, lineFeed, linesOf}
-use Rattle.model.specs.Frames.{Seen, emptyFrame, feeds, shown, seenOf}
-use Rattle.model.specs.Reading.{cellVerdict, cellIn}
-use Rattle.model.specs.Arriving.{newLine, CellsRead, none, oneMore, withCell, readCells}
-use Rattle.model.specs.Programs.{cellsIn, behindCells}
+use Rattle.model_sheet.specs.Lines.{Line, lineFeed, linesOf}
+use Rattle.model_sheet.specs.Frames.{Seen, emptyFrame, feeds, shown, seenOf}
+use Rattle.model_sheet.specs.Reading.{cellVerdict, cellIn}
+use Rattle.model_sheet.specs.Arriving.{newLine, CellsRead, none, oneMore, withCell, readCells}
+use Rattle.model_program.specs.Programs.{cellsIn, behindCells}
 use Rattle.sheet_laws.proofs.Cases.{by-bool, by-eq}
 use Rattle.sheet_laws.proofs.FrameLaws.{seen-alike}
 use Rattle.sheet_laws.proofs.FixedMemory.{unsound-cell, fixed-memory-cell}

@@ -17,14 +17,14 @@ use Rattle.model.specs.declared.Verdict.the-variants as verdict
 use Rattle.model.specs.Answers.{byVerdict}
 use Rattle.model.specs.Values.{trimmed}
 use Rattle.model.specs.Judging.{mostPlaces, judgeChain}
-use Rattle.model.specs.Lines.{linesOf}
-use Rattle.model.specs.Frames.{framed, feeds}
-use Rattle.model.specs.Clock.{Counters, first}
-use Rattle.model.specs.Clock as clock
-use Rattle.model.specs.Running.{layout, countersOf, Starved, Ending, widthOf}
-use Rattle.model.specs.Reading.{complete, numbersIn}
-use Rattle.model.specs.Arriving.{newLine}
-use Rattle.model.specs.Programs.{Split, endLine, refusalText, firingsText, endText, cellsIn, behindCells, wholeRun, runText}
+use Rattle.model_sheet.specs.Lines.{linesOf}
+use Rattle.model_sheet.specs.Frames.{framed, feeds}
+use Rattle.model_run.specs.Clock.{Counters, first}
+use Rattle.model_run.specs.Clock as clock
+use Rattle.model_run.specs.Running.{layout, countersOf, Starved, Ending, widthOf}
+use Rattle.model_sheet.specs.Reading.{complete, numbersIn}
+use Rattle.model_sheet.specs.Arriving.{newLine}
+use Rattle.model_program.specs.Programs.{Split, endLine, refusalText, firingsText, endText, cellsIn, behindCells, wholeRun, runText}
 use Rattle.run_laws.proofs.Accepts.{accepted-chain}
 use Rattle.run_laws.proofs.Between.{fresh-reached}
 use Rattle.sheet_trips.proofs.AsItArrives.{infront, some}
@@ -45,7 +45,7 @@ module _ (input : List ℕ) where
   -- Behind the sheet, with these cells at hand: all cells, the verdict behind them, and where the run over them stands.
   pub record Runs (j : Job) (rows rest store written hand : List ℕ) : Type 0 where
     pub ok : judgeChain (chainOf j) rows ≡ verdict.Accepted
-    pub numbers : numbersIn input ≡ rows
+    pub told : numbersIn input ≡ rows
     pub all : List ℕ
     pub behind : Verdict
     pub later : List ℕ
@@ -143,7 +143,7 @@ module _ (input : List ℕ) (j : Job) (rows rest store cells written : List ℕ)
   run-begins ok s same due = record {
     run = record {
       ok = ok;
-      numbers = same;
+      told = same;
       all = cellsIn (linesOf rest);
       behind = behindCells (linesOf rest);
       later = cellsIn (linesOf rest);
@@ -188,7 +188,7 @@ module _ (input : List ℕ) (j : Job) (rows rest store written : List ℕ) (i : 
   pub starved-run : wholeRun (trimmed (splitOf input .step .reading .chain) (numbersIn input)) (cellsIn (splitOf input .behind)) .ending ≡ Starved
   starved-run =
       let r = i .run in
-      ap (λ (ns : List ℕ). wholeRun (trimmed (splitOf input .step .reading .chain) ns) (cellsIn (splitOf input .behind)) .ending) (r .numbers)
+      ap (λ (rows : List ℕ). wholeRun (trimmed (splitOf input .step .reading .chain) rows) (cellsIn (splitOf input .behind)) .ending) (r .told)
       ∙ ap₂ (λ (c : Chain) (cs : List ℕ). wholeRun (trimmed c rows) cs .ending) (r .chain) (r .cells)
       ∙ whole-ending (chainOf j) rows (r .ok) (r .all) (j .clocks) (countersOf (trimmed (chainOf j) rows .count) (j .state)) (r .stands .gone) (stops .0) ∙ stops .1
 
@@ -208,7 +208,7 @@ module _ (input : List ℕ) (j : Job) (rows rest store written : List ℕ) (i : 
       → Runs input (withLine j s line from count) rows rest′ store written hand
   runs-on s line from count rest′ hand later′ e g = record {
     ok = r .ok;
-    numbers = r .numbers;
+    told = r .told;
     all = r .all;
     behind = r .behind;
     later = later′;

@@ -9,8 +9,8 @@ use lib.Dec.{ltb, leb}
 use lib.ListN.{length, getD}
 use lib.Seq.{sets, length-sets}
 use borrow.Author.Tests.{lt-ltb, le-ltb, le-leb, lt-leb}
-use Rattle.model.specs.Clock.{Layout, Counters, first, fires, next, moves}
-use Rattle.model.specs.Running.{Standing, Ending, Done, Starved, Stalled, goes, Ended, words, clocked, call, events}
+use Rattle.model_run.specs.Clock.{Layout, Counters, first, fires, next, moves}
+use Rattle.model_run.specs.Running.{Standing, Ending, Done, Starved, Stalled, goes, Ended, words, clocked, call, events}
 use Rattle.flow.specs.Machine.{Lawful}
 use Rattle.run_laws.proofs.Looks.{Looked, is-going, along-call}
 use Rattle.run_laws.proofs.Held.{Steps, next-steps}

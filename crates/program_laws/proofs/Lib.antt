@@ -6,7 +6,7 @@ pub mod Calls
 pub mod WholeRun
 pub mod Runs
 pub mod Due
-pub mod Steps
+pub mod StageSteps
 pub mod RunStep
 pub mod Turns
 pub mod Plan

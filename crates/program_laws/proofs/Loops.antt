@@ -15,18 +15,18 @@ use Rattle.model.specs.declared.Refusal.the-variants as refusal
 use Rattle.model.specs.declared.Verdict.{Verdict}
 use Rattle.model.specs.declared.Verdict.the-variants as verdict
 use Rattle.model.specs.Answers.{starvedByte, byVerdict}
-use Rattle.model.specs.Arriving.{Arrived, opening, arrive}
-use Rattle.model.specs.Frames.{rowNumbers}
-use Rattle.model.specs.Writing.{longestSheet}
-use Rattle.model.specs.Programs.{storePlaces, cellPlaces, wordPlaces, runTextPlaces}
+use Rattle.model_sheet.specs.Arriving.{Arrived, opening, arrive}
+use Rattle.model_sheet.specs.Frames.{rowNumbers}
+use Rattle.model_sheet.specs.Writing.{longestSheet}
+use Rattle.model_program.specs.Programs.{storePlaces, cellPlaces, wordPlaces, runTextPlaces}
 use Rattle.sheet_laws.proofs.Cases.{never}
 use Rattle.program_stages.specs.declared.Job.{Job}
 use Rattle.program_stages.specs.declared.Stage.{Stage}
 use Rattle.program_stages.specs.declared.Stage.the-variants as stage
 use Rattle.program_stages.specs.Stages.{begun, staged, closedBy, closed, afterRead, wantsBy, wantsInput, over}
-use Rattle.program_lines.specs.Texts.{Laid, laid, laidIfFits}
+use Rattle.program_writer.specs.Texts.{Laid, laid, laidIfFits}
 use Rattle.program_answer.specs.Answer.{planAnswer}
-use Rattle.program_driver.specs.Steps.{Left, lastLine, advancedBy, advanced}
+use Rattle.program_driver.specs.RunSteps.{Left, lastLine, advancedBy, advanced}
 use Rattle.program_laws.specs.Whole.{Loop, received, supplied, stepped, turn, turns, Lent, NonEmpty, startOf, ReadFails, planTaken}
 use Rattle.program_laws.specs.Loops.{given, readDue, SuppliedBy, Supplied, loopOf, InLoop, going, ended, RunDue, turn-text, read-failed, Taking, Taken, PlanDue}
 use Rattle.program_laws.proofs.Plan.{plan-writes}
@@ -254,10 +254,10 @@ module _ (a : Arrived) (t : Taking a) where
   }
 
 -- The text that `plan` lays of what it took is due.
-pub plan-due : (a : Arriving) (rows : List ℕ) → Taken (record { sheet = a; numbers = rows }) → (before : List ℕ) → longestSheet ≤ length before → (chars : ℕ) (after : List ℕ)
+pub plan-due : (a : Arriving) (rows : List ℕ) → Taken (record { sheet = a; rows = rows }) → (before : List ℕ) → longestSheet ≤ length before → (chars : ℕ) (after : List ℕ)
     → laid chars after ≡ laidIfFits (planAnswer a rows) before → PlanDue a rows (take chars after)
 plan-due a rows t before room chars after e = record {
   blocks = t .blocks;
   same = t .same;
-  due = ap (λ (x : Laid). take (x .chars) (x .output)) (e ∙ ap (λ (y : Arrived). laidIfFits (planAnswer (y .sheet) (y .numbers)) before) (sym (t .same))) ∙ plan-writes (t .blocks) before room;
+  due = ap (λ (x : Laid). take (x .chars) (x .output)) (e ∙ ap (λ (y : Arrived). laidIfFits (planAnswer (y .sheet) (y .rows)) before) (sym (t .same))) ∙ plan-writes (t .blocks) before room;
 }

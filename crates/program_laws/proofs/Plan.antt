@@ -14,13 +14,13 @@ use Rattle.model.specs.declared.Verdict.{Verdict}
 use Rattle.model.specs.declared.Verdict.the-variants as verdict
 use Rattle.model.specs.Answers.{byVerdict}
 use Rattle.model.specs.Values.{blankChain, requestOf}
-use Rattle.model.specs.Lines.{linesOf}
+use Rattle.model_sheet.specs.Lines.{linesOf}
 use Rattle.model.specs.Judging.{judgeChain}
 use Rattle.model.specs.Planning.{judgeRequest, plannedChain, planOf}
-use Rattle.model.specs.Reading.{start, complete, readLines, endVerdict, numbersIn, readRequest}
-use Rattle.model.specs.Writing.{sheetOf, longestSheet}
-use Rattle.model.specs.Arriving.{Arrived, opening, arrive, finished}
-use Rattle.model.specs.Programs.{refusalText, planText}
+use Rattle.model_sheet.specs.Reading.{start, complete, readLines, endVerdict, numbersIn, readRequest}
+use Rattle.model_sheet.specs.Writing.{sheetOf, longestSheet}
+use Rattle.model_sheet.specs.Arriving.{Arrived, opening, arrive, finished}
+use Rattle.model_program.specs.Programs.{refusalText, planText}
 use Rattle.sheet_laws.proofs.SheetLength.{sheet-length}
 use Rattle.sheet_laws.proofs.AcceptedChains.{accepted-chain}
 use Rattle.run_laws.proofs.Plans.{plan-accepted}
@@ -56,12 +56,12 @@ answer-alike s rows other h = go (s .verdict) refl
     go (verdict.Refused x) e = rw e
 
 -- The answer is a function of the whole sheet's reading.
-answered : (input : List ℕ) → let a = arrive false opening input in planAnswer (a .sheet) (a .numbers) ≡ planText input
+answered : (input : List ℕ) → let a = arrive false opening input in planAnswer (a .sheet) (a .rows) ≡ planText input
 unfolding planAnswer planText readRequest
 answered input =
     let a = as-it-arrives false input in
-    ap (λ (s : LineStep). answerOf s (arrive false opening input .numbers)) (a .read)
-    ∙ answer-alike s (arrive false opening input .numbers) (numbersIn input) (a .numbers)
+    ap (λ (s : LineStep). answerOf s (arrive false opening input .rows)) (a .read)
+    ∙ answer-alike s (arrive false opening input .rows) (numbersIn input) (a .rows)
     ∙ go (endVerdict s (judgeRequest (requestOf (s .reading .chain)) (numbersIn input)))
   where
     s : LineStep
@@ -100,5 +100,5 @@ answer-fits a rows = text-fits (finished a) (requestOf (finished a .reading .cha
 pub plan-writes : PlanWrites
 plan-writes blocks text room =
     let a = planTaken opening blocks in
-    laid-fitting (planAnswer (a .sheet) (a .numbers)) text (omega (arith, answer-fits (a .sheet) (a .numbers))) .0
-    ∙ ap (λ (x : Arrived). planAnswer (x .sheet) (x .numbers)) (all-taken opening blocks) ∙ answered (flatten blocks)
+    laid-fitting (planAnswer (a .sheet) (a .rows)) text (omega (arith, answer-fits (a .sheet) (a .rows))) .0
+    ∙ ap (λ (x : Arrived). planAnswer (x .sheet) (x .rows)) (all-taken opening blocks) ∙ answered (flatten blocks)

@@ -13,23 +13,23 @@ use Rattle.model.specs.declared.Kernel.{Kernel}
 use Rattle.model.specs.declared.Kernel.the-variants as kernel
 use Rattle.model.specs.Answers.{doneByte, stalledByte, answerCounts}
 use Rattle.model.specs.Values.{Trimmed, trimmed}
-use Rattle.model.specs.Kernels.{width}
-use Rattle.model.specs.Running.{countersOf, Ending, Done, Spent, Starved, Stalled, Full, outcomeOf, Run, widthOf, runOf}
-use Rattle.model.specs.Programs.{firingsText, endText}
+use Rattle.model_run.specs.Kernels.{width}
+use Rattle.model_run.specs.Running.{countersOf, Ending, Done, Spent, Starved, Stalled, Full, outcomeOf, Run, widthOf, runOf}
+use Rattle.model_program.specs.Programs.{firingsText, endText}
 use Rattle.run_laws.specs.Accepted.{Accepted}
 use Rattle.run_laws.proofs.Accepts.{accepted-chain}
 use Rattle.run_laws.proofs.CallEnds.{outcome-counts}
-use Rattle.program_lines.specs.Texts.{roomFor, firingsLaid}
+use Rattle.program_writer.specs.Texts.{roomFor, firingsLaid}
 use Rattle.program_stages.specs.declared.Job.{Job}
 use Rattle.program_stages.specs.declared.Stage.{Stage}
 use Rattle.program_stages.specs.declared.Stage.the-variants as stage
 use Rattle.program_stages.specs.Stages.{outcomeStage, answerStage}
-use Rattle.program_driver.specs.Steps.{Left, left, ranOn}
+use Rattle.program_driver.specs.RunSteps.{Left, left, ranOn}
 use Rattle.program_laws.specs.Whole.{Loop}
 use Rattle.program_laws.proofs.Texts.{words-only, firings-laid, room-enough}
 use Rattle.program_laws.proofs.Runs.{Stands, Stopped, at-done, at-stalled, at-starved, at-spent, at-full, Went, went, clocks-few, fired-few}
 use Rattle.program_laws.proofs.Due.{chainOf, Runs, InClocks, Due, run-stops}
-use Rattle.program_laws.proofs.Steps.{restOf, Holds, rank, Advances, due-at}
+use Rattle.program_laws.proofs.StageSteps.{restOf, Holds, rank, Advances, due-at}
 
 -- What a call's answer says, by its ending.
 stageOf : Ending → Stage
@@ -133,7 +133,7 @@ module _ (input : List ℕ) (l : Loop) (h : Holds input l) (i : InClocks input (
       (drop (w .counts .cells) (drop (j .from) (take (j .count) (l .cells))))
   runs-on s = record {
     ok = i .run .ok;
-    numbers = i .run .numbers;
+    told = i .run .told;
     all = i .run .all;
     behind = i .run .behind;
     later = i .run .later;

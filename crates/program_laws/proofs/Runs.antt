@@ -10,19 +10,19 @@ use lib.Seq.{take-length, drop-length, length-take-le}
 use borrow.Author.Tests.{le-ltb}
 use Rattle.model.specs.Values.{Trimmed, trimmed}
 use Rattle.model.specs.Judging.{mostPlaces, judgeChain}
-use Rattle.model.specs.Clock.{Counters, first}
-use Rattle.model.specs.Clock as clock
-use Rattle.model.specs.Running.{layout, countersOf, withCounters, Ending, Done, Spent, Starved, Stalled, Full, Ended, ends, outcomeOf, Run, shortStore, writtenBy, widthOf, runTrimmed, runOf}
-use Rattle.model.specs.CallLists.{Lending, Between, lentCells, callRun, after, firingsAmong}
-use Rattle.model.specs.Programs.{firingsText}
+use Rattle.model_run.specs.Clock.{Counters, first}
+use Rattle.model_run.specs.Clock as clock
+use Rattle.model_run.specs.Running.{layout, countersOf, withCounters, Ending, Done, Spent, Starved, Stalled, Full, Ended, ends, outcomeOf, Run, shortStore, writtenBy, widthOf, runTrimmed, runOf}
+use Rattle.model_run.specs.CallLists.{Lending, Between, lentCells, callRun, after, firingsAmong}
+use Rattle.model_program.specs.Programs.{firingsText}
 use Rattle.model.specs.declared.Chain.{Chain}
 use Rattle.model.specs.declared.Counts.{Counts}
 use Rattle.model.specs.declared.State.{State}
 use Rattle.model.specs.declared.Answer.the-variants as answer
 use Rattle.model.specs.declared.Verdict.the-variants as verdict
-use Rattle.model.proofs.ListLaws.{length-tabulate}
+use Rattle.grid_laws.proofs.ListLaws.{length-tabulate}
 use Rattle.flow.proofs.Laws.{few-clocks}
-use Rattle.model.specs.Words.{wordsOf, wordsFrom}
+use Rattle.model_run.specs.Words.{wordsOf, wordsFrom}
 use Rattle.run_laws.specs.Accepted.{Accepted}
 use Rattle.run_laws.proofs.Accepts.{trimmed-proper, accepted-chain}
 use Rattle.run_laws.proofs.Layouts.{lawful}
@@ -32,7 +32,7 @@ use Rattle.run_laws.proofs.Between.{Setting, Reached, ending, ran, lent-length,
 use Rattle.run_laws.proofs.Between as between
 use Rattle.run_laws.proofs.CallEnds.{why, not-short, not-short-events}
 use Rattle.run_laws.proofs.Between.{reached-fired}
-use Rattle.model.proofs.WordLaws.{words-append}
+use Rattle.model_run.proofs.WordLaws.{words-append}
 use Rattle.program_laws.proofs.Going.{Gone, goesOn, endingAt, gone-join, done-stops, stalled-stops}
 use Rattle.program_laws.proofs.Texts.{words-only, text-joined}
 use Rattle.program_laws.proofs.Calls.{end-clocks, end-firings, end-gone, end-taken, end-within, end-fired, end-words, end-length, end-fits, end-store}

@@ -17,12 +17,12 @@ use Rattle.model.specs.declared.Verdict.the-variants as verdict
 use Rattle.model.specs.Answers.{byVerdict}
 use Rattle.model.specs.Values.{trimmed}
 use Rattle.model.specs.Judging.{judgeChain}
-use Rattle.model.specs.Lines.{Line, lineFeed, linesOf}
-use Rattle.model.specs.Frames.{emptyFrame, feeds, seenOf, rowNumbers, numbersFeeds}
-use Rattle.model.specs.Reading.{stepOf, start, closes, complete, endVerdict, firstNumbers, numbersIn}
-use Rattle.model.specs.Running.{widthOf}
-use Rattle.model.specs.Arriving.{opened, stoodFirst, Arrived, opening, arrive, throughFeed}
-use Rattle.model.specs.Programs.{Split, sheetAndBehind, cellsIn, behindCells, wholeRun, firingsText, endText, refusalText, runText}
+use Rattle.model_sheet.specs.Lines.{Line, lineFeed, linesOf}
+use Rattle.model_sheet.specs.Frames.{emptyFrame, feeds, seenOf, rowNumbers, numbersFeeds}
+use Rattle.model_sheet.specs.Reading.{stepOf, start, closes, complete, endVerdict, firstNumbers, numbersIn}
+use Rattle.model_run.specs.Running.{widthOf}
+use Rattle.model_sheet.specs.Arriving.{opened, stoodFirst, Arrived, opening, arrive, throughFeed}
+use Rattle.model_program.specs.Programs.{Split, sheetAndBehind, cellsIn, behindCells, wholeRun, firingsText, endText, refusalText, runText}
 use Rattle.sheet_laws.proofs.Cases.{by-bool, by-eq}
 use Rattle.sheet_laws.proofs.FixedMemory.{Bounded, start-bounded, no-line-feed, keeps-bounded}
 use Rattle.sheet_trips.proofs.AsItArrives.{more, infront, last-line, some, midway, held, standing, more-other, Own, more-feed, behind-first, more-accepted, Begins, behind-begins, front-feed, front-other}
@@ -46,7 +46,7 @@ unfolding runText textBehind
 run-text input p e = ap (textBehind (numbersIn input)) e
 
 pub text-with : (input rows : List ℕ) (p : Split) → numbersIn input ≡ rows → splitOf input ≡ p → runText input ≡ textBehind rows p
-text-with input rows p same e = run-text input p e ∙ ap (λ (ns : List ℕ). textBehind ns p) same
+text-with input rows p same e = run-text input p e ∙ ap (λ (rows : List ℕ). textBehind rows p) same
 
 -- A line that is turned back, the `04`, and any other.
 module _ (rows : List ℕ) (r : Reading) (l : Line) (ls : List Line) where
@@ -74,7 +74,7 @@ pub record Midway (input : List ℕ) (a : Arriving) (rows rest : List ℕ) : Typ
   pub reading : Reading
   pub chars : List ℕ
   pub arriving : a ≡ midway reading chars
-  pub numbers : rows ≡ held (numbersIn input) reading chars
+  pub told : rows ≡ held (numbersIn input) reading chars
   pub bounded : Bounded reading
   pub begins : Begins (numbersIn input) reading (infront chars (linesOf rest))
   pub unended : complete reading ≡ false
@@ -87,14 +87,14 @@ pub data Read (input : List ℕ) (a : Arriving) (rows rest : List ℕ) : Type 0 
   whole : a .verdict ≡ verdict.Accepted → complete (a .reading) ≡ true → numbersIn input ≡ rows
       → splitOf input ≡ record { step = record { verdict = verdict.Accepted; reading = a .reading }; behind = linesOf rest } → Read input a rows rest
 
-pub opened-midway : (input : List ℕ) → Midway input opened (opening .numbers) input
+pub opened-midway : (input : List ℕ) → Midway input opened (opening .rows) input
 unfolding feeds numbersFeeds some infront complete closes numbersIn stoodFirst
-opened-midway input = record { reading = start; chars = []; arriving = refl; numbers = refl; bounded = start-bounded; begins = λ _. refl; unended = refl; due = refl }
+opened-midway input = record { reading = start; chars = []; arriving = refl; told = refl; bounded = start-bounded; begins = λ _. refl; unended = refl; due = refl }
 
 -- At the LF.
 at-feed : (input : List ℕ) (r : Reading) (p : List ℕ) (c : ℕ) (rest : List ℕ) → c ≡ lineFeed → Bounded r → Own (numbersIn input) r p
     → splitOf input ≡ sheetAndBehind (numbersIn input) r (record { chars = p; ended = true } ∷ linesOf rest)
-    → let a = more true (standing (numbersIn input) r p) c in Read input (a .sheet) (a .numbers) rest
+    → let a = more true (standing (numbersIn input) r p) c in Read input (a .sheet) (a .rows) rest
 unfolding feeds some infront
 at-feed input r p c rest feed few own due = go (s .verdict) refl
   where
@@ -107,13 +107,13 @@ at-feed input r p c rest feed few own due = go (s .verdict) refl
     s : LineStep
     s = stepOf true all r (seenOf true p)
 
-    go : (v : Verdict) → s .verdict ≡ v → let a = more true (standing all r p) c in Read input (a .sheet) (a .numbers) rest
+    go : (v : Verdict) → s .verdict ≡ v → let a = more true (standing all r p) c in Read input (a .sheet) (a .rows) rest
     go (verdict.Refused x) e =
-        subst (λ (a : Arrived). Read input (a .sheet) (a .numbers) rest) (sym (more-feed true all r p c feed few own))
+        subst (λ (a : Arrived). Read input (a .sheet) (a .rows) rest) (sym (more-feed true all r p c feed few own))
         (back x e (run-text input _ (due ∙ line-back all r l (linesOf rest) x e) ∙ text-refused all _ x e))
     go verdict.Accepted e =
         let first = behind-first true all r (seenOf true p) e in
-        subst (λ (a : Arrived). Read input (a .sheet) (a .numbers) rest) (sym (more-accepted true all r p c feed few own e))
+        subst (λ (a : Arrived). Read input (a .sheet) (a .rows) rest) (sym (more-accepted true all r p c feed few own e))
         (by-bool (complete (s .reading))
         (λ t. whole refl t (sym (ap (λ (b : Bool). cond b (numbersFeeds (replicate rowNumbers 0) emptyFrame []) all) first))
         (due ∙ line-last all r l (linesOf rest) e t
@@ -122,7 +122,7 @@ at-feed input r p c rest feed few own due = go (s .verdict) refl
           reading = s .reading;
           chars = [];
           arriving = refl;
-          numbers = refl;
+          told = refl;
           bounded = keeps-bounded true all r (seenOf true p) few;
           begins = behind-begins true all r (seenOf true p) (linesOf rest) e;
           unended = t;
@@ -145,10 +145,10 @@ arrive-other all r p c cs n = ap (λ a. arrive true a cs) (more-other true all r
 line-from : (input cs more : List ℕ) (r : Reading) (p : List ℕ) → Bounded r → complete r ≡ false → Begins (numbersIn input) r (infront p (linesOf (cs ++ more)))
     → splitOf input ≡ sheetAndBehind (numbersIn input) r (infront p (linesOf (cs ++ more)))
     → let a = arrive true (standing (numbersIn input) r p) (throughFeed cs) in
-    Read input (a .sheet) (a .numbers) (drop (length (throughFeed cs)) cs ++ more)
+    Read input (a .sheet) (a .rows) (drop (length (throughFeed cs)) cs ++ more)
 unfolding arrive throughFeed
 line-from input [] more r p few st begins due =
-    further (record { reading = r; chars = p; arriving = refl; numbers = refl; bounded = few; begins = begins; unended = st; due = due })
+    further (record { reading = r; chars = p; arriving = refl; told = refl; bounded = few; begins = begins; unended = st; due = due })
 line-from input (c ∷ cs) more r p few st begins due =
     by-eq c lineFeed
     (λ e. let lines = front-feed p c (cs ++ more) e in
@@ -159,9 +159,9 @@ line-from input (c ∷ cs) more r p few st begins due =
     (line-from input cs more r (p ++ (c ∷ [])) few st (λ q. begins q ∙ ap firstNumbers lines) (due ∙ ap (sheetAndBehind (numbersIn input) r) lines)))
 
 pub line-read : (input cs more : List ℕ) (a : Arriving) (rows : List ℕ) → Midway input a rows (cs ++ more)
-    → let b = arrive true (record { sheet = a; numbers = rows }) (throughFeed cs) in Read input (b .sheet) (b .numbers) (drop (length (throughFeed cs)) cs ++ more)
+    → let b = arrive true (record { sheet = a; rows = rows }) (throughFeed cs) in Read input (b .sheet) (b .rows) (drop (length (throughFeed cs)) cs ++ more)
 line-read input cs more a rows m =
-    rw (m .arriving, m .numbers) (line-from input cs more (m .reading) (m .chars) (m .bounded) (m .unended) (m .begins) (m .due))
+    rw (m .arriving, m .told) (line-from input cs more (m .reading) (m .chars) (m .bounded) (m .unended) (m .begins) (m .due))
 
 -- At the end of the input, in the middle of a line or between two.
 cut-line : (rows : List ℕ) (r : Reading) (c : ℕ) (p : List ℕ) → textBehind rows (sheetAndBehind rows r (infront (c ∷ p) (linesOf []))) ≡ refusalText refusal.Malformed

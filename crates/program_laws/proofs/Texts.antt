@@ -8,10 +8,10 @@ use lib.ListN.{length, take, drop, length-append, length-drop}
 use lib.Seq.{take-take, take-append-le, drop-append-le, take-append-seam, take-nil}
 use borrow.Author.Tests.{ne-eqb, le-ltb}
 use Rattle.model.specs.declared.Refusal.{Refusal}
-use Rattle.model.specs.Frames.{framed, digitsOf}
-use Rattle.model.specs.Numbers.{wordBytes}
-use Rattle.model.specs.Programs.{firingLine, endLine, refusalLine, refusalText, firingsText, mostWords, longestFiring}
-use Rattle.program_lines.specs.Texts.{laidOver, laidIfFits, firingChars, roomFor, fitting, firingsLaid}
+use Rattle.model_sheet.specs.Frames.{framed, digitsOf}
+use Rattle.model_sheet.specs.Numbers.{wordBytes}
+use Rattle.model_program.specs.Programs.{firingLine, endLine, refusalLine, refusalText, firingsText, mostWords, longestFiring}
+use Rattle.program_writer.specs.Texts.{laidOver, laidIfFits, firingChars, roomFor, fitting, firingsLaid}
 
 pub drop-take : (n m : ℕ) (xs : List ℕ) → drop n (take (n + m) xs) ≡ take m (drop n xs)
 drop-take zero m xs = ap (λ (k : ℕ). take k xs) (zero-add m)

@@ -12,21 +12,21 @@ use Rattle.model.specs.declared.Refusal.the-variants as refusal
 use Rattle.model.specs.declared.Verdict.{Verdict}
 use Rattle.model.specs.declared.Verdict.the-variants as verdict
 use Rattle.model.specs.Answers.{starvedByte, byVerdict}
-use Rattle.model.specs.Frames.{framed}
-use Rattle.model.specs.Running.{Starved}
-use Rattle.model.specs.Programs.{endLine, refusalText, endText, runText}
+use Rattle.model_sheet.specs.Frames.{framed}
+use Rattle.model_run.specs.Running.{Starved}
+use Rattle.model_program.specs.Programs.{endLine, refusalText, endText, runText}
 use Rattle.sheet_laws.proofs.Cases.{by-bool, by-lt, never}
 use Rattle.program_stages.specs.declared.Job.{Job}
 use Rattle.program_stages.specs.declared.Stage.{Stage}
 use Rattle.program_stages.specs.declared.Stage.the-variants as stage
 use Rattle.program_stages.specs.Stages.{staged, closedBy, closed, wantsBy, wantsInput, over}
-use Rattle.program_driver.specs.Steps.{Left, advancedBy, advanced}
+use Rattle.program_driver.specs.RunSteps.{Left, advancedBy, advanced}
 use Rattle.program_laws.specs.Whole.{FirstPart, Loop, withBlock, received, supplied, stepped, turn, turns, Lent, NonEmpty, startOf}
 use Rattle.program_laws.proofs.Sheets.{opened-midway, sheet-cut}
 use Rattle.program_laws.proofs.CellLines.{input-ends}
 use Rattle.program_laws.proofs.Texts.{end-length, refusal-length}
 use Rattle.program_laws.proofs.Due.{InSheet, InCells, Due, starved-due}
-use Rattle.program_laws.proofs.Steps.{restOf, Holds, rank, weight, Advances, due-at, sheet-step, cells-step, last-step}
+use Rattle.program_laws.proofs.StageSteps.{restOf, Holds, rank, weight, Advances, due-at, sheet-step, cells-step, last-step}
 use Rattle.program_laws.proofs.RunStep.{run-step}
 
 -- The end of the input, where more is wanted.

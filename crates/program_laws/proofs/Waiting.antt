@@ -16,9 +16,9 @@ use Rattle.model.specs.declared.Verdict.{Verdict}
 use Rattle.model.specs.declared.Verdict.the-variants as verdict
 use Rattle.model.specs.declared.Refusal.the-variants as refusal
 use Rattle.model.specs.Answers.{starvedByte, byVerdict}
-use Rattle.model.specs.Arriving.{CellsRead}
-use Rattle.model.specs.Frames.{framed}
-use Rattle.model.specs.Programs.{endLine, refusalText, runText}
+use Rattle.model_sheet.specs.Arriving.{CellsRead}
+use Rattle.model_sheet.specs.Frames.{framed}
+use Rattle.model_program.specs.Programs.{endLine, refusalText, runText}
 use Rattle.sheet_laws.proofs.Cases.{never}
 use Rattle.program_stages.specs.declared.Job.{Job}
 use Rattle.program_stages.specs.declared.Stage.{Stage}
@@ -26,13 +26,13 @@ use Rattle.program_stages.specs.declared.Stage.the-variants as stage
 use Rattle.program_stages.specs.Stages.{staged, cellsStage, outcomeStage, answerStage, closedBy, wantsBy, wantsInput, over}
 use Rattle.program_driver.specs.declared.Step.{Step}
 use Rattle.program_intake.specs.Taken.{cellsTaken}
-use Rattle.program_driver.specs.Steps.{cellsRead, ranOn, lastLine, advancedBy, advanced}
+use Rattle.program_driver.specs.RunSteps.{cellsRead, ranOn, lastLine, advancedBy, advanced}
 use Rattle.program_laws.specs.Whole.{Loop, received, supplied, stepped, turn, turns, Lent, NonEmpty, startOf, Waits, no-cell, no-feed, no-line, Told, WritesFirst, StarvedAt, ReadsStarved, settled, StopsReading}
 use Rattle.program_laws.specs.Loops.{readDue, loopOf}
 use Rattle.program_laws.proofs.Sheets.{sheet-unended}
 use Rattle.program_laws.proofs.CellLines.{input-ends, none-behind}
 use Rattle.program_laws.proofs.Due.{InSheet, InCells, Due, starved-run}
-use Rattle.program_laws.proofs.Steps.{restOf, Holds, due-at}
+use Rattle.program_laws.proofs.StageSteps.{restOf, Holds, due-at}
 use Rattle.program_laws.proofs.Turns.{sheet-ends, cells-end, turns-hold, start-holds}
 use Rattle.program_laws.proofs.Loops.{turn-over, turn-kept, turn-read}
 

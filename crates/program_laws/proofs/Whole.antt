@@ -3,7 +3,7 @@ use mathlib.Core.List.{flatten}
 use mathlib.Core.Path.{_∙_}
 use native.Mathlib.Omega.{arith}
 use Rattle.program_laws.specs.Whole.{turns, startOf, Writes, Ends, NothingElse, Buffers, ProgramLaws}
-use Rattle.program_laws.proofs.Steps.{weight}
+use Rattle.program_laws.proofs.StageSteps.{weight}
 use Rattle.program_laws.proofs.Plan.{plan-writes}
 use Rattle.program_laws.proofs.Loops.{read-fails}
 use Rattle.program_laws.proofs.Waiting.{writes-first, reads-starved, stops-reading}

@@ -11,19 +11,19 @@ use borrow.Author.Tests.{le-ltb}
 use Rattle.model.specs.Lists.{tabulate, sum}
 use Rattle.model.specs.Values.{Trimmed, trimmed}
 use Rattle.model.specs.Judging.{judgeChain}
-use Rattle.model.specs.Clock.{Counters, first}
-use Rattle.model.specs.Clock as clock
-use Rattle.model.specs.Running.{layout, countersOf, Ending, Done, Spent, Starved, Stalled, Full, Ended, ends, shortStore, begun, writtenBy, widthOf}
-use Rattle.model.specs.CallLists.{Lending, Between, lentCells}
-use Rattle.model.specs.Programs.{firingsText, endText, wholeRun}
+use Rattle.model_run.specs.Clock.{Counters, first}
+use Rattle.model_run.specs.Clock as clock
+use Rattle.model_run.specs.Running.{layout, countersOf, Ending, Done, Spent, Starved, Stalled, Full, Ended, ends, shortStore, begun, writtenBy, widthOf}
+use Rattle.model_run.specs.CallLists.{Lending, Between, lentCells}
+use Rattle.model_program.specs.Programs.{firingsText, endText, wholeRun}
 use Rattle.model.specs.declared.CellsPassed.{CellsPassed}
 use Rattle.model.specs.declared.Chain.{Chain}
 use Rattle.model.specs.declared.Verdict.{Verdict}
 use Rattle.model.specs.declared.Verdict.the-variants as verdict
-use Rattle.model.proofs.ListLaws.{tabulate-back}
+use Rattle.grid_laws.proofs.ListLaws.{tabulate-back}
 use Rattle.flow.proofs.Laws.{fewer-clocks}
 use Rattle.flow.proofs.Timing.{fresh-first}
-use Rattle.model.specs.Words.{wordsFrom}
+use Rattle.model_run.specs.Words.{wordsFrom}
 use Rattle.run_laws.proofs.Accepts.{trimmed-proper, accepted-chain}
 use Rattle.run_laws.proofs.Layouts.{lawful}
 use Rattle.run_laws.proofs.Looks.{Looked, is-done, is-spent, is-starved, is-stalled, is-full}

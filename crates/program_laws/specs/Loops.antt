@@ -7,8 +7,8 @@ use lib.Dec.{eqb}
 use lib.IntN.{ℤ, pos, negsuc}
 use lib.ListN.{length}
 use Rattle.model.specs.declared.Arriving.{Arriving}
-use Rattle.model.specs.Arriving.{Arrived, opening}
-use Rattle.model.specs.Programs.{planText}
+use Rattle.model_sheet.specs.Arriving.{Arrived, opening}
+use Rattle.model_program.specs.Programs.{planText}
 use Rattle.program_stages.specs.declared.Job.{Job}
 use Rattle.program_stages.specs.Stages.{afterRead, wantsInput, over}
 use Rattle.program_laws.specs.Whole.{Loop, turns, Lent, NonEmpty, startOf, planTaken}
@@ -85,10 +85,10 @@ pub record Taken (a : Arrived) : Type 0 where
 
 abbrev pub TakenUnless : (failed : Bool) → Arriving → (rows : List ℕ) → Type 0
 TakenUnless true a rows = Unit {0}
-TakenUnless false a rows = Taken (record { sheet = a; numbers = rows })
+TakenUnless false a rows = Taken (record { sheet = a; rows = rows })
 
 -- A text that is due of this sheet: that of the blocks read.
 pub record PlanDue (a : Arriving) (rows text : List ℕ) : Type 0 where
   pub blocks : List (List ℕ)
-  pub same : planTaken opening blocks ≡ record { sheet = a; numbers = rows }
+  pub same : planTaken opening blocks ≡ record { sheet = a; rows = rows }
   pub due : text ≡ planText (flatten blocks)

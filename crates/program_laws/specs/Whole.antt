@@ -10,21 +10,21 @@ use Rattle.model.specs.declared.Refusal.the-variants as refusal
 use Rattle.model.specs.declared.Verdict.{Verdict}
 use Rattle.model.specs.Answers.{starvedByte, byVerdict}
 use Rattle.model.specs.Values.{trimmed}
-use Rattle.model.specs.Lines.{linesOf}
-use Rattle.model.specs.Frames.{framed}
-use Rattle.model.specs.Reading.{start, complete, numbersIn}
-use Rattle.model.specs.Running.{Starved}
-use Rattle.model.specs.Arriving.{Arrived, opening, arrive}
+use Rattle.model_sheet.specs.Lines.{linesOf}
+use Rattle.model_sheet.specs.Frames.{framed}
+use Rattle.model_sheet.specs.Reading.{start, complete, numbersIn}
+use Rattle.model_run.specs.Running.{Starved}
+use Rattle.model_sheet.specs.Arriving.{Arrived, opening, arrive}
 use Rattle.model.specs.Judging.{mostPlaces}
-use Rattle.model.specs.Writing.{longestSheet}
-use Rattle.model.specs.Programs.{sheetAndBehind, cellsIn, wholeRun, endLine, refusalText, planText, runText, mostWords, longestFiring, planTextPlaces, storePlaces, cellPlaces, wordPlaces, runTextPlaces}
-use Rattle.program_lines.specs.Texts.{laidIfFits}
+use Rattle.model_sheet.specs.Writing.{longestSheet}
+use Rattle.model_program.specs.Programs.{sheetAndBehind, cellsIn, wholeRun, endLine, refusalText, planText, runText, mostWords, longestFiring, planTextPlaces, storePlaces, cellPlaces, wordPlaces, runTextPlaces}
+use Rattle.program_writer.specs.Texts.{laidIfFits}
 use Rattle.program_stages.specs.declared.Job.{Job}
 use Rattle.program_stages.specs.declared.Stage.{Stage}
 use Rattle.program_stages.specs.declared.Stage.the-variants as stage
 use Rattle.program_stages.specs.Stages.{begun, closed, afterRead, wantsInput, over}
 use Rattle.program_answer.specs.Answer.{planAnswer}
-use Rattle.program_driver.specs.Steps.{advanced}
+use Rattle.program_driver.specs.RunSteps.{advanced}
 
 -- The loop of `run` before a turn: the block at hand, of which the characters before `at` were looked at; the blocks that further reads give; what was lent; and all
 -- that was written so far.
@@ -111,7 +111,7 @@ startOf blocks lent = record {
   block = [];
   at = 0;
   blocks = blocks;
-  rows = opening .numbers;
+  rows = opening .rows;
   store = lent .store;
   cells = lent .cells;
   words = lent .words;
@@ -207,7 +207,7 @@ planTaken a (b ∷ bs) =
 abbrev pub PlanWrites : Type 0
 PlanWrites = (blocks : List (List ℕ)) (text : List ℕ) → longestSheet ≤ length text
     → let a = planTaken opening blocks in
-    let t = laidIfFits (planAnswer (a .sheet) (a .numbers)) text in take (t .chars) (t .output) ≡ planText (flatten blocks)
+    let t = laidIfFits (planAnswer (a .sheet) (a .rows)) text in take (t .chars) (t .output) ≡ planText (flatten blocks)
 
 -- The buffers of the programs have places enough.
 pub record Buffers : Type 0 where

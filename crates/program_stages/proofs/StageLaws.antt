@@ -17,27 +17,27 @@ use Rattle.model.specs.declared.Verdict.{Verdict}
 use Rattle.model.specs.declared.Verdict.the-variants as verdict
 use Rattle.model.specs.Answers.{starvedByte}
 use Rattle.model.specs.Judging.{judgeChain}
-use Rattle.model.specs.Reading.{complete}
+use Rattle.model_sheet.specs.Reading.{complete}
 use Rattle.program_stages.specs.declared.Job.{Job}
 use Rattle.program_stages.specs.declared.Stage.the-variants as stage
 use Rattle.program_stages.specs.Stages.{staged, sheetStage, cellsStage, closedBy, closed, afterRead, wantsBy, wantsInput}
 
 -- After a line of the sheet.
-module _ (a : Arriving) (numbers : List ℕ) where
-  pub sheet-refused : (x : Refusal) → a .verdict ≡ verdict.Refused x → stage.Refusing x ≡ sheetStage a numbers
+module _ (a : Arriving) (rows : List ℕ) where
+  pub sheet-refused : (x : Refusal) → a .verdict ≡ verdict.Refused x → stage.Refusing x ≡ sheetStage a rows
   unfolding sheetStage
   sheet-refused x e = rw e
 
   module _ (e : a .verdict ≡ verdict.Accepted) where
-    pub sheet-open : complete (a .reading) ≡ false → stage.Sheet ≡ sheetStage a numbers
+    pub sheet-open : complete (a .reading) ≡ false → stage.Sheet ≡ sheetStage a rows
     unfolding sheetStage
     sheet-open d = rw (e, d)
 
-    pub chain-refused : complete (a .reading) ≡ true → (x : Refusal) → judgeChain (a .reading .chain) numbers ≡ verdict.Refused x → stage.Refusing x ≡ sheetStage a numbers
+    pub chain-refused : complete (a .reading) ≡ true → (x : Refusal) → judgeChain (a .reading .chain) rows ≡ verdict.Refused x → stage.Refusing x ≡ sheetStage a rows
     unfolding sheetStage
     chain-refused d x j = rw (e, d, j)
 
-    pub chain-accepted : complete (a .reading) ≡ true → judgeChain (a .reading .chain) numbers ≡ verdict.Accepted → stage.Cells ≡ sheetStage a numbers
+    pub chain-accepted : complete (a .reading) ≡ true → judgeChain (a .reading .chain) rows ≡ verdict.Accepted → stage.Cells ≡ sheetStage a rows
     unfolding sheetStage
     chain-accepted d j = rw (e, d, j)
 

@@ -15,8 +15,8 @@ use Rattle.model.specs.declared.State.{State}
 use Rattle.model.specs.declared.Verdict.{Verdict}
 use Rattle.model.specs.Answers.{doneByte, stalledByte, starvedByte, byVerdict}
 use Rattle.model.specs.Judging.{judgeChain}
-use Rattle.model.specs.Arriving.{opened, newLine}
-use Rattle.model.specs.Reading.{complete}
+use Rattle.model_sheet.specs.Arriving.{opened, newLine}
+use Rattle.model_sheet.specs.Reading.{complete}
 use Rattle.program_stages.specs.declared.Job.{Job}
 use Rattle.program_stages.specs.declared.Stage.{Stage}
 use Rattle.program_stages.specs.declared.Stage.the-variants as stage
@@ -34,9 +34,9 @@ staged j s =
     record { stage = s; arriving = j .arriving; state = j .state; clocks = j .clocks; line = j .line; from = j .from; count = j .count }
 
 -- After a line of the sheet: at its `04` the chain is judged, with the rows' numbers beside it.
-unfoldable pub sheetStage : Arriving → (numbers : List ℕ) → Stage
-sheetStage a numbers =
-    let whole = byVerdict (judgeChain (a .reading .chain) numbers) stage.Cells stage.Refusing in
+unfoldable pub sheetStage : Arriving → (rows : List ℕ) → Stage
+sheetStage a rows =
+    let whole = byVerdict (judgeChain (a .reading .chain) rows) stage.Cells stage.Refusing in
     byVerdict (a .verdict) (cond (complete (a .reading)) whole stage.Sheet) stage.Refusing
 
 -- After `05` lines: a line that is turned back answers only where no cell is left.

@@ -89,7 +89,7 @@ pub fn sheet_stage(a: Arriving, rows: &[u32]) -> Stage
         Verdict::Refused(n) => Stage::Refusing(n),
         Verdict::Accepted => {
             let r = a.reading;
-            if !sheet_lines::is_complete(r) {
+            if !sheet_reader::is_complete(r) {
                 return Stage::Sheet;
             }
             let chain = r.chain;
@@ -152,7 +152,7 @@ pub fn counts_of(a: Answer) -> Counts
 }
 
 // At the end of the input: a line that is open is turned back; so is a sheet that lacks lines; a run that wants cells is starved.
-pub fn close(j: Job) -> Job
+pub fn close_input(j: Job) -> Job
     ensures { λ r. ⌜ r ≡ closed j ⌝ }
 {
     let stage = j.stage;
@@ -186,7 +186,7 @@ pub fn after_read(j: Job, got: isize) -> Job
         return staged(j, Stage::Over);
     }
     if got == 0 {
-        return close(j);
+        return close_input(j);
     }
     j
 }

@@ -11,12 +11,12 @@ use Rattle.model.specs.Lists.{tabulate, greatest}
 use Rattle.model.specs.Grounds.{Row, row, cellsAbove}
 use Rattle.model.specs.Judging.{mostCells}
 use Rattle.model.specs.Iterations.{firstsFrom}
-use Rattle.model.proofs.ListLaws.{tabulate-same}
+use Rattle.grid_laws.proofs.ListLaws.{tabulate-same}
 use Rattle.geometry.specs.Parts.{numberAt, Filled}
 use Rattle.geometry.proofs.FillLaws.{filled-none}
 use Rattle.rows.specs.Courses.{looked, rowLength}
 use Rattle.rows.specs.declared.RowCourse.{RowCourse}
-use Rattle.row_courses.specs.Tables.{readAt, distanceAt, Near}
+use Rattle.row_courses.specs.CourseTables.{readAt, distanceAt, Near}
 
 -- A list that is filled with the same entries, and one of zeros.
 module _ (size : ℕ) (f g : ℕ → ℕ) where

@@ -12,18 +12,18 @@ use Rattle.model.specs.Vectors.{above, plus}
 use Rattle.model.specs.Geometry.{firstEntry, otherEntries, natural}
 use Rattle.model.specs.Sized.{Sized, Bounded}
 use Rattle.model.specs.Grounds.{Row, row, noRow, end, cellsAbove, rowPlace, cellPlace, cellAt, position}
-use Rattle.model.specs.Grounds.Ground.{rows}
+use Rattle.model.specs.Grounds.Ground.{skewed}
 use Rattle.model.specs.Courses.{lowRow, lowColumn, rowsDown, columnsOn, rowRead, commonStart, commonEnd, commonRow, vector, allIterations}
 use Rattle.model.specs.Boxes.{Part, indexCount, widths, equalRows, boxShape, boxCourse, course, badBox}
 use Rattle.model.specs.Boxes.Part.{whole, box}
 use Rattle.model.specs.Judging.{badRows}
-use Rattle.model.proofs.ListLaws.{getD-tabulate, greatest-above}
-use Rattle.model.proofs.IntegerLaws.{least-below, above-sum, above-back, above-chain}
-use Rattle.model.proofs.WindowLaws.{first-of, others-of}
-use Rattle.model.proofs.BoxLaws.{index-count}
-use Rattle.model.proofs.RowIterations.{smallest-below}
-use Rattle.model.proofs.RowLaws.{Holds}
-use Rattle.model.proofs.GroundLaws.{cell-at-place}
+use Rattle.grid_laws.proofs.ListLaws.{getD-tabulate, greatest-above}
+use Rattle.grid_laws.proofs.IntegerLaws.{least-below, above-sum, above-back, above-chain}
+use Rattle.grid_laws.proofs.WindowLaws.{first-of, others-of}
+use Rattle.grid_laws.proofs.BoxLaws.{index-count}
+use Rattle.grid_laws.proofs.RowIterations.{smallest-below}
+use Rattle.grid_laws.proofs.RowLaws.{Holds}
+use Rattle.grid_laws.proofs.GroundLaws.{cell-at-place}
 use Rattle.rows.specs.Courses.{startIn, lengthIn, downs, ons, wholeCourse, boxOn, courseFor, columnIn, rowLength}
 use Rattle.rows.specs.declared.RowCourse.{RowCourse}
 use Rattle.rows.proofs.CommonLaws.{start-common, length-common, row-short, column-boxed, column-whole, length-boxed, length-whole}
@@ -43,13 +43,13 @@ module _ (rs : List Row) (offsets : List (List ℤ)) (sized : Sized 2 offsets) w
   pub place-read : (k u w : ℕ) → k < length offsets →
       let o = getD offsets k [] in
       let i = rowsDown offsets o + u in
-      position (rows rs) (plus ((pos u -ℤ lowRow offsets) ∷ (pos w -ℤ lowColumn offsets) ∷ []) o) ≡ cellsAbove rs i + (columnsOn offsets o + w - row rs i .start)
+      position (skewed rs) (plus ((pos u -ℤ lowRow offsets) ∷ (pos w -ℤ lowColumn offsets) ∷ []) o) ≡ cellsAbove rs i + (columnsOn offsets o + w - row rs i .start)
   unfolding position cellPlace rowPlace natural
   place-read k u w h =
       let o = getD offsets k [] in
       let a = rw (first-of offsets k) at (least-below (map firstEntry offsets) k (pos 0) (rw length-map h)) in
       let b = rw (first-of (map otherEntries offsets) k, others-of offsets k) at (least-below (map firstEntry (map otherEntries offsets)) k (pos 0) (rw (length-map, length-map) h)) in
-      ap (λ (v : List ℤ). cellPlace (rows rs) (map natural v)) (cell-read o u w (sized k h) a b)
+      ap (λ (v : List ℤ). cellPlace (skewed rs) (map natural v)) (cell-read o u w (sized k h) a b)
 
   -- In a column of the common row no reference reads before the start of its row.
   pub starts-before : (k u w : ℕ) → k < length offsets → Holds (commonRow rs offsets u) w → rowRead rs offsets u (getD offsets k []) .start ≤ columnsOn offsets (getD offsets k []) + w
@@ -77,7 +77,7 @@ shapeRow rs offsets (box l h) v = record { start = 0; length = indexCount (first
 abbrev pub shapeRows : List Row → List (List ℤ) → Part → List Row
 shapeRows rs offsets p = tabulate (courseFor (length rs) offsets p .height) (shapeRow rs offsets p)
 
-pub shape-is : (rs : List Row) (offsets : List (List ℤ)) (p : Part) → Bounded 2 p → course (rows rs) offsets p .shape ≡ rows (shapeRows rs offsets p)
+pub shape-is : (rs : List Row) (offsets : List (List ℤ)) (p : Part) → Bounded 2 p → course (skewed rs) offsets p .shape ≡ skewed (shapeRows rs offsets p)
 unfolding course allIterations boxCourse boxShape widths equalRows wholeCourse boxOn firstEntry otherEntries
 shape-is rs offsets whole b = refl
 shape-is rs offsets (box (l ∷ k ∷ []) (h ∷ i ∷ [])) b = refl
@@ -93,14 +93,14 @@ pub record Row-of (rs : List Row) (offsets : List (List ℤ)) (p : Part) (c : Ro
   pub size : rowLength rs c v ≡ shapeRow rs offsets p v .length
   pub few : c .height ≤ length rs
   pub holds : (i : ℕ) → v < c .height → i < rowLength rs c v → Holds (commonRow rs offsets (c .top + v)) (columnIn rs c v + i)
-  pub vectors : (i : ℕ) → v < c .height → i < rowLength rs c v → vector (course (rows rs) offsets p) (cellsAbove (shapeRows rs offsets p) v + i)
+  pub vectors : (i : ℕ) → v < c .height → i < rowLength rs c v → vector (course (skewed rs) offsets p) (cellsAbove (shapeRows rs offsets p) v + i)
       ≡ (pos (c .top + v) -ℤ lowRow offsets) ∷ (pos (columnIn rs c v + i) -ℤ lowColumn offsets) ∷ []
 
 -- The cell behind i others in row v.
-cell-behind : (ss : List Row) (v i : ℕ) → i < row ss v .length → cellAt (rows ss) (cellsAbove ss v + i) ≡ v ∷ (row ss v .start + i) ∷ []
+cell-behind : (ss : List Row) (v i : ℕ) → i < row ss v .length → cellAt (skewed ss) (cellsAbove ss v + i) ≡ v ∷ (row ss v .start + i) ∷ []
 unfolding cellPlace rowPlace
 cell-behind ss v i h =
-    ap (cellAt (rows ss)) (omega arith) ∙ cell-at-place (rows ss) (v ∷ (row ss v .start + i) ∷ []) (record { from = omega arith; below = omega arith })
+    ap (cellAt (skewed ss)) (omega arith) ∙ cell-at-place (skewed ss) (v ∷ (row ss v .start + i) ∷ []) (record { from = omega arith; below = omega arith })
 
 module _ (rs : List Row) (offsets : List (List ℤ)) (sized : Sized 2 offsets) (good : badRows rs ≡ false) (some : 0 < length offsets) (few : length offsets ≤ 32) (v : ℕ) where
   abbrev all : RowCourse
@@ -182,7 +182,7 @@ module _ (rs : List Row) (offsets : List (List ℤ)) (sized : Sized 2 offsets) (
 
 -- What a course's row is, with a box or without one.
 pub course-row : (rs : List Row) (offsets : List (List ℤ)) → Sized 2 offsets → badRows rs ≡ false → 0 < length offsets → length offsets ≤ 32 → (v : ℕ)
-    → (p : Part) → Bounded 2 p → badBox (rows rs) offsets p ≡ false → Row-of rs offsets p (courseFor (length rs) offsets p) v
+    → (p : Part) → Bounded 2 p → badBox (skewed rs) offsets p ≡ false → Row-of rs offsets p (courseFor (length rs) offsets p) v
 course-row rs offsets sized good some few v whole b e = whole-row rs offsets sized good some few v
 course-row rs offsets sized good some few v (box (l ∷ k ∷ []) (h ∷ i ∷ [])) b e = box-row rs offsets sized good some few v l k h i (box-fits rs offsets sized l k h i good some e)
 course-row rs offsets sized good some few v (box [] h) b e = absurd (omega (arith, b .0))

@@ -17,7 +17,7 @@ use Rattle.rows.specs.Courses.{lengthIn, looked, columnIn, rowLength}
 use Rattle.rows.specs.declared.RowCourse.{RowCourse}
 use Rattle.rows.proofs.LentLaws.{rows-count}
 use Rattle.rows.proofs.CommonLaws.{few-rows, length-boxed, length-whole}
-use Rattle.row_courses.specs.Tables.{aboveCount, lengthsAbove, entryOf, readAt, RowOf}
+use Rattle.row_courses.specs.CourseTables.{aboveCount, lengthsAbove, entryOf, readAt, RowOf}
 
 -- One row further.
 row-next : (rs : List Row) (i : ℕ) → cellsAbove rs i + row rs i .length ≡ cellsAbove rs (suc i)
@@ -35,17 +35,17 @@ unfolding lengthsAbove
 lengths-next f v = rw (add-one v)
 
 -- How many entries the table of the cells above has.
-module _ (count : ℕ) (numbers : List ℕ) where
-  pub above-bad : badRows (rowsOf count numbers) ≡ true → 0 ≡ aboveCount count numbers
+module _ (count : ℕ) (rows : List ℕ) where
+  pub above-bad : badRows (rowsOf count rows) ≡ true → 0 ≡ aboveCount count rows
   unfolding aboveCount
   above-bad e = rw e
 
-  pub above-good : badRows (rowsOf count numbers) ≡ false → count + 1 ≡ aboveCount count numbers
+  pub above-good : badRows (rowsOf count rows) ≡ false → count + 1 ≡ aboveCount count rows
   unfolding aboveCount
   above-good e = rw e
 
-  pub few-count : badRows (rowsOf count numbers) ≡ false → count ≤ 512
-  few-count e = omega (arith, few-rows (rowsOf count numbers) e, rows-count count numbers)
+  pub few-count : badRows (rowsOf count rows) ≡ false → count ≤ 512
+  few-count e = omega (arith, few-rows (rowsOf count rows) e, rows-count count rows)
 
 -- No row of a course has more than 1,024 iterations.
 pub row-most : (rs : List Row) (c : RowCourse) (v : ℕ) → rowLength rs c v ≤ 1024

@@ -15,7 +15,7 @@ ghost use Rattle.model.specs.Iterations.{distanceOf};
 ghost use Rattle.model.specs.Judging.{mostCells};
 ghost use Rattle.geometry.specs.Parts.{numberAt, Filled};
 ghost use Rattle.rows.specs.Courses.{looked, rowLength};
-ghost use Rattle.row_courses.specs.Tables.{aboveCount, lengthsAbove, entryOf, readAt, RowOf, distanceAt, Near, AllNear, distanceCount};
+ghost use Rattle.row_courses.specs.CourseTables.{aboveCount, lengthsAbove, entryOf, readAt, RowOf, distanceAt, Near, AllNear, distanceCount};
 
 // How many cells lie above each row, and in all of them.
 pub fn cells_above(count: u32, rows: &[u32], to: &mut [u32; 513])

@@ -12,13 +12,13 @@ use lib.ListN.{length, getD, length-map, List·getD-map, List·getD-eq-default}
 use borrow.Author.Tests.{lt-ltb, ltb-false}
 use Rattle.model.specs.Lists.{tabulate, sum, greatest, any}
 use Rattle.model.specs.Grounds.{Row, row, noRow, end, rowCells, cellCount}
-use Rattle.model.specs.Grounds.Ground.{rows}
+use Rattle.model.specs.Grounds.Ground.{skewed}
 use Rattle.model.specs.Courses.{smallest, rowsDown, columnsOn, rowRead, commonStart, commonEnd, commonRow, count, allIterations}
 use Rattle.model.specs.Values.{rowsOf}
 use Rattle.model.specs.Judging.{badRow, badRowCount, badRows}
-use Rattle.model.proofs.Tests.{neither}
-use Rattle.model.proofs.ListLaws.{getD-tabulate, tabulate-back, greatest-above, tabulate-same}
-use Rattle.model.proofs.RowIterations.{smallest-below}
+use Rattle.grid_laws.proofs.Tests.{neither}
+use Rattle.grid_laws.proofs.ListLaws.{getD-tabulate, tabulate-back, greatest-above, tabulate-same}
+use Rattle.grid_laws.proofs.RowIterations.{smallest-below}
 use Rattle.geometry.specs.Parts.{numberAt}
 use Rattle.rows.specs.Lent.{rowOf}
 use Rattle.rows.specs.Courses.{downs, ons, startIn, endIn, lengthIn, looked, columnIn, rowLength}
@@ -66,13 +66,13 @@ unfolding rowCells tabulate sum
 cells-sum zero f = refl
 cells-sum (suc n) f = ap (_+_ (f 0 .length)) (cells-sum n (λ i. f (suc i)))
 
-pub lent-cells : (count : ℕ) (numbers : List ℕ) → badRows (rowsOf count numbers) ≡ false
-    → sum (tabulate count (λ i. min (numberAt numbers (2 * i + 1)) 1024)) ≡ rowCells (rowsOf count numbers)
+pub lent-cells : (count : ℕ) (rows : List ℕ) → badRows (rowsOf count rows) ≡ false
+    → sum (tabulate count (λ i. min (numberAt rows (2 * i + 1)) 1024)) ≡ rowCells (rowsOf count rows)
 unfolding rowsOf
-lent-cells count numbers e =
-    ap sum (tabulate-same count (λ i. min (numberAt numbers (2 * i + 1)) 1024) (λ i. rowOf numbers i .length)
-    (λ i h. let s = small-rows (rowsOf count numbers) e i .few in let l = ap (λ (r : Row). r .length) (row-lent count numbers i h) in omega (arith, s, l)))
-    ∙ sym (cells-sum count (rowOf numbers))
+lent-cells count rows e =
+    ap sum (tabulate-same count (λ i. min (numberAt rows (2 * i + 1)) 1024) (λ i. rowOf rows i .length)
+    (λ i h. let s = small-rows (rowsOf count rows) e i .few in let l = ap (λ (r : Row). r .length) (row-lent count rows i h) in omega (arith, s, l)))
+    ∙ sym (cells-sum count (rowOf rows))
 
 -- Reference k's rows down and columns on.
 module _ (offsets : List (List ℤ)) (few : length offsets ≤ 32) where
@@ -125,7 +125,7 @@ module _ (rs : List Row) (offsets : List (List ℤ)) (good : badRows rs ≡ fals
 
 -- All iterations.
 pub all-count : (rs : List Row) (offsets : List (List ℤ)) → badRows rs ≡ false → 0 < length offsets → length offsets ≤ 32
-    → sum (tabulate (length rs) (lengthIn rs (downs offsets) (ons offsets) (length offsets))) ≡ count (allIterations (rows rs) offsets)
+    → sum (tabulate (length rs) (lengthIn rs (downs offsets) (ons offsets) (length offsets))) ≡ count (allIterations (skewed rs) offsets)
 unfolding count allIterations cellCount
 all-count rs offsets good some few =
     ap sum (tabulate-same (length rs) _ (λ u. commonRow rs offsets u .length) (λ u h. length-common rs offsets good some u few)) ∙ sym (cells-sum (length rs) (commonRow rs offsets))

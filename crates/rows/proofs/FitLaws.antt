@@ -10,8 +10,8 @@ use Rattle.model.specs.Sized.{Sized}
 use Rattle.model.specs.Grounds.{Row}
 use Rattle.model.specs.Courses.{lowRow, lowColumn}
 use Rattle.model.specs.Boxes.{indexCount}
-use Rattle.model.proofs.IntegerLaws.{above-chain}
-use Rattle.model.proofs.BoxLaws.{index-count}
+use Rattle.grid_laws.proofs.IntegerLaws.{above-chain}
+use Rattle.grid_laws.proofs.BoxLaws.{index-count}
 use Rattle.rows.specs.Courses.{downs, ons}
 use Rattle.rows.specs.Boxing.{spanBetween, placedBy, BoxFits}
 use Rattle.rows.specs.declared.boxed.Span.{Span}

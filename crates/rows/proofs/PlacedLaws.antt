@@ -12,16 +12,16 @@ use Rattle.model.specs.Lists.{tabulate}
 use Rattle.model.specs.Vectors.{above, plus}
 use Rattle.model.specs.Sized.{Sized}
 use Rattle.model.specs.Grounds.{Row, noRow, isIteration}
-use Rattle.model.specs.Grounds.Ground.{rows}
+use Rattle.model.specs.Grounds.Ground.{skewed}
 use Rattle.model.specs.Courses.{lowRow, lowColumn, commonStart, commonEnd, commonRow}
 use Rattle.model.specs.Boxes.{between, crossed, badBox}
 use Rattle.model.specs.Boxes.Part.{box}
 use Rattle.model.specs.Judging.{badRows}
-use Rattle.model.proofs.ListLaws.{length-tabulate, getD-tabulate}
-use Rattle.model.proofs.IntegerLaws.{leZ-refl, leZ-trans, not-ltZ, leZ-ltZ, above-back, above-order, above-chain, sum-above, sum-at-least}
-use Rattle.model.proofs.RowLaws.{Holds, RowCell, row-there}
-use Rattle.model.proofs.RowIterations.{cell-iteration, iteration-cell}
-use Rattle.model.proofs.BoxLaws.{not-crossed, lowest-between, highest-between, each-of-box}
+use Rattle.grid_laws.proofs.ListLaws.{length-tabulate, getD-tabulate}
+use Rattle.grid_laws.proofs.IntegerLaws.{leZ-refl, leZ-trans, not-ltZ, leZ-ltZ, above-back, above-order, above-chain, sum-above, sum-at-least}
+use Rattle.grid_laws.proofs.RowLaws.{Holds, RowCell, row-there}
+use Rattle.grid_laws.proofs.RowIterations.{cell-iteration, iteration-cell}
+use Rattle.grid_laws.proofs.BoxLaws.{not-crossed, lowest-between, highest-between, each-of-box}
 use Rattle.rows.proofs.CommonLaws.{ends-below}
 
 -- Counted from a number, order is that of natural numbers.
@@ -42,7 +42,7 @@ module _ (rs : List Row) (offsets : List (List ℤ)) (sized : Sized 2 offsets) w
     pub there : above x topmost < length rs
     pub holds : Holds (commonRow rs offsets (above x topmost)) (above y leftmost)
 
-  pub iteration-at : 0 < length offsets → (x y : ℤ) → isIteration (rows rs) offsets (x ∷ y ∷ []) ≡ true → At x y
+  pub iteration-at : 0 < length offsets → (x y : ℤ) → isIteration (skewed rs) offsets (x ∷ y ∷ []) ≡ true → At x y
   unfolding plus
   iteration-at some x y e = go (iteration-cell rs offsets sized some (x ∷ y ∷ []) e)
     where
@@ -63,7 +63,7 @@ module _ (rs : List Row) (offsets : List (List ℤ)) (sized : Sized 2 offsets) w
             holds = rw (down, on) (rw (getD-tabulate (length rs) (commonRow rs offsets) i noRow there) at h);
           }
 
-  pub at-iteration : (x y : ℤ) → At x y → isIteration (rows rs) offsets (x ∷ y ∷ []) ≡ true
+  pub at-iteration : (x y : ℤ) → At x y → isIteration (skewed rs) offsets (x ∷ y ∷ []) ≡ true
   unfolding plus
   at-iteration x y a =
       let u = above x topmost in
@@ -82,11 +82,11 @@ module _ (rs : List Row) (offsets : List (List ℤ)) (sized : Sized 2 offsets) w
       pub end : above i leftmost < 8192
       pub each : (u : ℕ) → above l topmost ≤ u → u ≤ above h topmost → (commonStart rs offsets u ≤ above k leftmost) × (above i leftmost < commonEnd rs offsets u)
 
-    pub fits-box : Fits → badBox (rows rs) offsets (box (l ∷ k ∷ []) (h ∷ i ∷ [])) ≡ false
+    pub fits-box : Fits → badBox (skewed rs) offsets (box (l ∷ k ∷ []) (h ∷ i ∷ [])) ≡ false
     unfolding crossed between commonRow
-    fits-box f = each-of-box (rows rs) (l ∷ k ∷ []) (h ∷ i ∷ []) (refl, refl) offsets .1 (rw (leZ-ltZ l h (f .tall), leZ-ltZ k i (f .broad)), all)
+    fits-box f = each-of-box (skewed rs) (l ∷ k ∷ []) (h ∷ i ∷ []) (refl, refl) offsets .1 (rw (leZ-ltZ l h (f .tall), leZ-ltZ k i (f .broad)), all)
       where
-        all : (v : List ℤ) → between (l ∷ k ∷ []) (h ∷ i ∷ []) v ≡ true → isIteration (rows rs) offsets v ≡ true
+        all : (v : List ℤ) → between (l ∷ k ∷ []) (h ∷ i ∷ []) v ≡ true → isIteration (skewed rs) offsets v ≡ true
         all [] b = absurd (false≢true b)
         all (x ∷ []) b = absurd (false≢true (and-eq-true-iff (leZ x h) false .0 (and-eq-true-iff (leZ l x) (leZ x h && false) .0 b .1) .1))
         all (x ∷ y ∷ z ∷ v) b = absurd (false≢true (and-eq-true-iff (leZ y i) false .0 (and-eq-true-iff (leZ k y) (leZ y i && false) .0
@@ -106,10 +106,10 @@ module _ (rs : List Row) (offsets : List (List ℤ)) (sized : Sized 2 offsets) w
             let (from, to) = f .each u (omega arith) (omega arith) in
             at-iteration x y (record { down = down; on = on; there = omega (arith, f .last); holds = record { from = omega arith; below = omega arith } })
 
-    pub box-fits : badRows rs ≡ false → 0 < length offsets → badBox (rows rs) offsets (box (l ∷ k ∷ []) (h ∷ i ∷ [])) ≡ false → Fits
+    pub box-fits : badRows rs ≡ false → 0 < length offsets → badBox (skewed rs) offsets (box (l ∷ k ∷ []) (h ∷ i ∷ [])) ≡ false → Fits
     unfolding crossed between commonRow
     box-fits good some e =
-        let (c, all) = each-of-box (rows rs) (l ∷ k ∷ []) (h ∷ i ∷ []) (refl, refl) offsets .0 e in
+        let (c, all) = each-of-box (skewed rs) (l ∷ k ∷ []) (h ∷ i ∷ []) (refl, refl) offsets .0 e in
         let (tall, c′) = not-crossed l h (ltZ i k || false) c in
         let (broad, _) = not-crossed k i false c′ in
         let first = iteration-at some l k (all (l ∷ k ∷ []) (lowest-between (l ∷ k ∷ []) (h ∷ i ∷ []) refl c)) in

@@ -9,8 +9,8 @@ use lib.Signed.{leZ}
 use borrow.Author.Tests.{ltb-true, leb-true, lt-ltb, le-ltb, le-leb, lt-leb}
 use Rattle.model.specs.Vectors.{above}
 use Rattle.model.specs.Boxes.{indexCount}
-use Rattle.model.proofs.IntegerLaws.{leZ-trans, above-chain}
-use Rattle.model.proofs.BoxLaws.{index-count}
+use Rattle.grid_laws.proofs.IntegerLaws.{leZ-trans, above-chain}
+use Rattle.grid_laws.proofs.BoxLaws.{index-count}
 use Rattle.shape.specs.Boxing.{indexIn}
 use Rattle.shape.proofs.BoxingLaws.{index-inside, inside-index}
 use Rattle.rows.specs.Boxing.{noSpan, spanIn, spanBetween}

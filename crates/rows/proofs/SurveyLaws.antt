@@ -12,7 +12,7 @@ use Rattle.model.specs.Lists.{tabulate, sum}
 use Rattle.model.specs.Vectors.{above}
 use Rattle.model.specs.Geometry.{firstEntry, otherEntries}
 use Rattle.model.specs.Grounds.{Row, rowCells, cellCount}
-use Rattle.model.specs.Grounds.Ground.{rows}
+use Rattle.model.specs.Grounds.Ground.{skewed}
 use Rattle.model.specs.Courses.{count as counted, lowRow, lowColumn, allIterations}
 use Rattle.model.specs.Boxes.{indexCount, widths, equalRows, boxShape, boxCourse, course, badBox}
 use Rattle.model.specs.Boxes.Part.{box}
@@ -20,13 +20,13 @@ use Rattle.model.specs.Answers.{firstOf}
 use Rattle.model.specs.Values.{rowsOf, offsetsOf, partOf, onRows}
 use Rattle.model.specs.Iterations.{cellsOf, courseOf, iterationsOf}
 use Rattle.model.specs.Judging.{badRows, badCount, repeats, noIteration, windowChecks, judgeRows}
-use Rattle.model.specs.Kernels.{centreOf}
+use Rattle.model.specs.Windows.{centreOf}
 use Rattle.model.specs.declared.Bounds.{Bounds}
 use Rattle.model.specs.declared.Refusal.the-variants as refusal
 use Rattle.model.specs.declared.Verdict.the-variants as verdict
 use Rattle.model.specs.declared.Window.{Window}
-use Rattle.model.proofs.ChainLaws.{offsets-count}
-use Rattle.model.proofs.CheckLaws.{some-references, few-references}
+use Rattle.grid_laws.proofs.ChainLaws.{offsets-count}
+use Rattle.grid_laws.proofs.CheckLaws.{some-references, few-references}
 use Rattle.model.specs.declared.Verdict.{Verdict}
 use Rattle.geometry.specs.Parts.{numberAt}
 use Rattle.geometry.specs.Windows.{repeatsIn, centreIn}
@@ -49,19 +49,19 @@ unfolding wholeCourse
 whole-is count w xs ys e f =
     λ i. record { top = 0; height = count; boxed = false; left = 0; width = 0; references = sym (offsets-count 2 w) i; down = e i; on = f i }
 
-module _ (count : ℕ) (numbers : List ℕ) (w : Window) (b : Bounds) where
-  pub survey-rows : badRows (rowsOf count numbers) ≡ true → unsurveyedOf refusal.BadRows ≡ rowSurveyOf count numbers w b
+module _ (count : ℕ) (rows : List ℕ) (w : Window) (b : Bounds) where
+  pub survey-rows : badRows (rowsOf count rows) ≡ true → unsurveyedOf refusal.BadRows ≡ rowSurveyOf count rows w b
   unfolding rowSurveyOf windowChecks firstOf
   survey-rows e = rw e
 
-  module _ (p : badRows (rowsOf count numbers) ≡ false) where
-    pub survey-count : badCount (w .count) ≡ true → unsurveyedOf refusal.BadCount ≡ rowSurveyOf count numbers w b
+  module _ (p : badRows (rowsOf count rows) ≡ false) where
+    pub survey-count : badCount (w .count) ≡ true → unsurveyedOf refusal.BadCount ≡ rowSurveyOf count rows w b
     unfolding rowSurveyOf windowChecks firstOf
     survey-count e = rw (p, e)
 
     module _ (q : badCount (w .count) ≡ false) where
       pub few-count : count ≤ 512
-      few-count = omega (arith, few-rows (rowsOf count numbers) p, rows-count count numbers)
+      few-count = omega (arith, few-rows (rowsOf count rows) p, rows-count count rows)
 
       pub repeats-is : repeatsIn 2 w ≡ repeats (offsetsOf 2 w)
       unfolding repeatsIn
@@ -71,26 +71,26 @@ module _ (count : ℕ) (numbers : List ℕ) (w : Window) (b : Bounds) where
       unfolding centreIn
       centre-is = rw (is-held 2 w (omega arith) (few-references (w .count) q))
 
-      pub survey-repeats : repeats (offsetsOf 2 w) ≡ true → unsurveyedOf refusal.EqualOffsets ≡ rowSurveyOf count numbers w b
+      pub survey-repeats : repeats (offsetsOf 2 w) ≡ true → unsurveyedOf refusal.EqualOffsets ≡ rowSurveyOf count rows w b
       unfolding rowSurveyOf windowChecks firstOf
       survey-repeats e = rw (p, q, e)
 
       module _ (d : repeats (offsetsOf 2 w) ≡ false) (c : RowCourse) (e : c ≡ wholeCourse count (offsetsOf 2 w)) (m : ℕ)
-          (s : m ≡ sum (tabulate count (lengthIn (rowsOf count numbers) (c .down) (c .on) (w .count)))) where
-        iterations-are : m ≡ counted (allIterations (rows (rowsOf count numbers)) (offsetsOf 2 w))
+          (s : m ≡ sum (tabulate count (lengthIn (rowsOf count rows) (c .down) (c .on) (w .count)))) where
+        iterations-are : m ≡ counted (allIterations (skewed (rowsOf count rows)) (offsetsOf 2 w))
         unfolding wholeCourse
         iterations-are =
             s
-            ∙ ap (λ (c : RowCourse). sum (tabulate count (lengthIn (rowsOf count numbers) (c .down) (c .on) (w .count)))) e
-            ∙ ap₂ (λ (n k : ℕ). sum (tabulate n (lengthIn (rowsOf count numbers) (downs (offsetsOf 2 w)) (ons (offsetsOf 2 w)) k))) (sym (rows-count count numbers)) (sym (offsets-count 2 w))
-            ∙ all-count (rowsOf count numbers) (offsetsOf 2 w) p (omega (arith, offsets-count 2 w, some-references (w .count) q)) (omega (arith, offsets-count 2 w, few-references (w .count) q))
+            ∙ ap (λ (c : RowCourse). sum (tabulate count (lengthIn (rowsOf count rows) (c .down) (c .on) (w .count)))) e
+            ∙ ap₂ (λ (n k : ℕ). sum (tabulate n (lengthIn (rowsOf count rows) (downs (offsetsOf 2 w)) (ons (offsetsOf 2 w)) k))) (sym (rows-count count rows)) (sym (offsets-count 2 w))
+            ∙ all-count (rowsOf count rows) (offsetsOf 2 w) p (omega (arith, offsets-count 2 w, some-references (w .count) q)) (omega (arith, offsets-count 2 w, few-references (w .count) q))
 
-        pub survey-iterations : m ≡ 0 → unsurveyedOf refusal.NoIteration ≡ rowSurveyOf count numbers w b
+        pub survey-iterations : m ≡ 0 → unsurveyedOf refusal.NoIteration ≡ rowSurveyOf count rows w b
         unfolding rowSurveyOf windowChecks firstOf noIteration
         survey-iterations z = rw (p, q, d, eq-eqb _ 0 (sym iterations-are ∙ z))
 
-        pub known : (m ≡ 0 → ⊥) → (centre cells : ℕ) → centre ≡ centreIn 2 w → cells ≡ sum (tabulate count (λ i. min (numberAt numbers (2 * i + 1)) 1024))
-            → Known count numbers w (record { verdict = verdict.Accepted; centre = centre; cells = cells; iterations = m; course = c })
+        pub known : (m ≡ 0 → ⊥) → (centre cells : ℕ) → centre ≡ centreIn 2 w → cells ≡ sum (tabulate count (λ i. min (numberAt rows (2 * i + 1)) 1024))
+            → Known count rows w (record { verdict = verdict.Accepted; centre = centre; cells = cells; iterations = m; course = c })
         unfolding noIteration cellCount
         known some centre cells x y = record {
           rows-pass = p;
@@ -99,7 +99,7 @@ module _ (count : ℕ) (numbers : List ℕ) (w : Window) (b : Bounds) where
           iterates = ne-eqb _ 0 (λ z. some (iterations-are ∙ z));
           verdict-is = refl;
           centre-is = x ∙ centre-is;
-          cells-is = y ∙ lent-cells count numbers p;
+          cells-is = y ∙ lent-cells count rows p;
           iterations-is = iterations-are;
           course-is = e;
         }
@@ -115,9 +115,9 @@ unfolding equalRows
 equal-cells n w = same-sum n w ∙ sym (cells-sum n (λ _. record { start = 0; length = w }))
 
 -- Of rows and a window that 16 and 4 to 6 let pass.
-module _ (count : ℕ) (numbers : List ℕ) (w : Window) (b : Bounds) (s : RowSurvey) (k : Known count numbers w s) where
+module _ (count : ℕ) (rows : List ℕ) (w : Window) (b : Bounds) (s : RowSurvey) (k : Known count rows w s) where
   -- Where no box stood, that is the survey.
-  pub surveyed : b .stood ≡ false → s ≡ rowSurveyOf count numbers w b
+  pub surveyed : b .stood ≡ false → s ≡ rowSurveyOf count rows w b
   unfolding rowSurveyOf windowChecks firstOf partOf badBox cellsOf iterationsOf courseOf course
   surveyed e =
       rw (k .rows-pass, k .count-pass, k .distinct, k .iterates, e)
@@ -126,7 +126,7 @@ module _ (count : ℕ) (numbers : List ℕ) (w : Window) (b : Bounds) (s : RowSu
   -- Where one stood, it is placed by these numbers.
   module _ (stood : b .stood ≡ true) (at : Placed) (a : at ≡ placedIn count (b .lowest) (b .highest) (lowRow (offsetsOf 2 w)) (lowColumn (offsetsOf 2 w))) where
     abbrev rs : List Row
-    rs = rowsOf count numbers
+    rs = rowsOf count rows
 
     abbrev offsets : List (List ℤ)
     offsets = offsetsOf 2 w
@@ -148,7 +148,7 @@ module _ (count : ℕ) (numbers : List ℕ) (w : Window) (b : Bounds) (s : RowSu
 
     here : BoxFitsHere ≡ BoxFits rs (downs offsets) (ons offsets) (length offsets) (placedBy (length rs) (lowest 0) (lowest 1) (highest 0) (highest 1) (lowRow offsets) (lowColumn offsets))
     unfolding BoxFitsHere wholeCourse
-    here = λ i. BoxFits rs (k .course-is i .down) (k .course-is i .on) (sym (offsets-count 2 w) i) ((a ∙ ap (λ (n : ℕ). placedIn n (b .lowest) (b .highest) (lowRow offsets) (lowColumn offsets)) (sym (rows-count count numbers))) i)
+    here = λ i. BoxFits rs (k .course-is i .down) (k .course-is i .on) (sym (offsets-count 2 w) i) ((a ∙ ap (λ (n : ℕ). placedIn n (b .lowest) (b .highest) (lowRow offsets) (lowColumn offsets)) (sym (rows-count count rows))) i)
 
     abbrev FitsHere : Type 0
     FitsHere = Fits rs offsets (two-sized w) (lowest 0) (lowest 1) (highest 0) (highest 1)
@@ -160,13 +160,13 @@ module _ (count : ℕ) (numbers : List ℕ) (w : Window) (b : Bounds) (s : RowSu
     here-fits f = rw here (fits-numbers rs offsets (two-sized w) few (lowest 0) (lowest 1) (highest 0) (highest 1) f)
 
     abbrev bad : Bool
-    bad = badBox (rows rs) offsets (box (lowest 0 ∷ lowest 1 ∷ []) (highest 0 ∷ highest 1 ∷ []))
+    bad = badBox (skewed rs) offsets (box (lowest 0 ∷ lowest 1 ∷ []) (highest 0 ∷ highest 1 ∷ []))
 
-    pub box-refused : (BoxFits rs (s .course .down) (s .course .on) (w .count) at → ⊥) → unsurveyedOf refusal.BadBox ≡ rowSurveyOf count numbers w b
+    pub box-refused : (BoxFits rs (s .course .down) (s .course .on) (w .count) at → ⊥) → unsurveyedOf refusal.BadBox ≡ rowSurveyOf count rows w b
     unfolding rowSurveyOf windowChecks firstOf partOf tabulate BoxFitsHere
     box-refused none = go bad refl
       where
-        go : (t : Bool) → bad ≡ t → unsurveyedOf refusal.BadBox ≡ rowSurveyOf count numbers w b
+        go : (t : Bool) → bad ≡ t → unsurveyedOf refusal.BadBox ≡ rowSurveyOf count rows w b
         go true e = rw (k .rows-pass, k .count-pass, k .distinct, k .iterates, stood, e)
         go false e = absurd (none (here-fits (box-fits rs offsets (two-sized w) (lowest 0) (lowest 1) (highest 0) (highest 1) (k .rows-pass) some e)))
 
@@ -185,7 +185,7 @@ module _ (count : ℕ) (numbers : List ℕ) (w : Window) (b : Bounds) (s : RowSu
 
       at-is : at ≡ boxed
       at-is =
-          a ∙ ap (λ (n : ℕ). placedIn n (b .lowest) (b .highest) (lowRow offsets) (lowColumn offsets)) (sym (rows-count count numbers))
+          a ∙ ap (λ (n : ℕ). placedIn n (b .lowest) (b .highest) (lowRow offsets) (lowColumn offsets)) (sym (rows-count count rows))
           ∙ placed-is rs offsets (two-sized w) few (lowest 0) (lowest 1) (highest 0) (highest 1) fits
 
       pub box-sizes : (at .height ≤ 512) × (at .width ≤ 8192)
@@ -211,7 +211,7 @@ module _ (count : ℕ) (numbers : List ℕ) (w : Window) (b : Bounds) (s : RowSu
               on = s .course .on;
             };
           })
-          (rowSurveyOf count numbers w b)
+          (rowSurveyOf count rows w b)
       unfolding rowSurveyOf windowChecks firstOf partOf tabulate cellsOf iterationsOf courseOf course counted boxCourse boxShape cellCount widths boxOn wholeCourse firstEntry otherEntries
       box-accepted m e =
           let good = fits-box rs offsets (two-sized w) (lowest 0) (lowest 1) (highest 0) (highest 1) fits in
@@ -234,22 +234,22 @@ module _ (count : ℕ) (numbers : List ℕ) (w : Window) (b : Bounds) (s : RowSu
           })
 
 -- What a survey that accepts says, and its verdict.
-pub record Answer (count : ℕ) (numbers : List ℕ) (w : Window) (b : Bounds) (s : RowSurvey) : Type 0 where
-  pub surveyed : Surveyed count numbers w b (s .course)
+pub record Answer (count : ℕ) (rows : List ℕ) (w : Window) (b : Bounds) (s : RowSurvey) : Type 0 where
+  pub surveyed : Surveyed count rows w b (s .course)
   pub centre : s .centre ≡ centreOf (offsetsOf 2 w)
-  pub cells : s .cells ≡ cellsOf (onRows count numbers w b)
-  pub iterations : s .iterations ≡ iterationsOf (onRows count numbers w b)
+  pub cells : s .cells ≡ cellsOf (onRows count rows w b)
+  pub iterations : s .iterations ≡ iterationsOf (onRows count rows w b)
 
-module _ (count : ℕ) (numbers : List ℕ) (w : Window) (b : Bounds) where
-  pub survey-verdict : rowSurveyOf count numbers w b .verdict ≡ judgeRows count numbers w b
+module _ (count : ℕ) (rows : List ℕ) (w : Window) (b : Bounds) where
+  pub survey-verdict : rowSurveyOf count rows w b .verdict ≡ judgeRows count rows w b
   unfolding rowSurveyOf
-  survey-verdict = go (judgeRows count numbers w b) refl
+  survey-verdict = go (judgeRows count rows w b) refl
     where
-      go : (v : Verdict) → judgeRows count numbers w b ≡ v → rowSurveyOf count numbers w b .verdict ≡ judgeRows count numbers w b
+      go : (v : Verdict) → judgeRows count rows w b ≡ v → rowSurveyOf count rows w b .verdict ≡ judgeRows count rows w b
       go verdict.Accepted e = rw e
       go (verdict.Refused r) e = rw e
 
-  pub survey-answer : (s : RowSurvey) → s ≡ rowSurveyOf count numbers w b → s .verdict ≡ verdict.Accepted → Answer count numbers w b s
+  pub survey-answer : (s : RowSurvey) → s ≡ rowSurveyOf count rows w b → s .verdict ≡ verdict.Accepted → Answer count rows w b s
   unfolding rowSurveyOf
   survey-answer s e a = record {
     surveyed = record { accepted = ok; course = ap (λ (s : RowSurvey). s .course) all };
@@ -258,8 +258,8 @@ module _ (count : ℕ) (numbers : List ℕ) (w : Window) (b : Bounds) where
     iterations = ap (λ (s : RowSurvey). s .iterations) all;
   }
     where
-      ok : judgeRows count numbers w b ≡ verdict.Accepted
+      ok : judgeRows count rows w b ≡ verdict.Accepted
       ok = sym survey-verdict ∙ sym (ap (λ (s : RowSurvey). s .verdict) e) ∙ a
 
-      all : s ≡ record { verdict = verdict.Accepted; centre = centreOf (offsetsOf 2 w); cells = cellsOf (onRows count numbers w b); iterations = iterationsOf (onRows count numbers w b); course = courseFor count (offsetsOf 2 w) (partOf 2 b) }
+      all : s ≡ record { verdict = verdict.Accepted; centre = centreOf (offsetsOf 2 w); cells = cellsOf (onRows count rows w b); iterations = iterationsOf (onRows count rows w b); course = courseFor count (offsetsOf 2 w) (partOf 2 b) }
       all = e ∙ rw ok

@@ -14,8 +14,8 @@ use Rattle.model.specs.Courses.{lowRow, lowColumn, rowsDown, columnsOn}
 use Rattle.model.specs.Sized.{Sized}
 use Rattle.model.specs.Values.{offsetOf, offsetsOf}
 use Rattle.model.specs.declared.Window.{Window}
-use Rattle.model.proofs.ListLaws.{getD-tabulate, map-tabulate}
-use Rattle.model.proofs.ChainLaws.{offsets-count}
+use Rattle.grid_laws.proofs.ListLaws.{getD-tabulate, map-tabulate}
+use Rattle.grid_laws.proofs.ChainLaws.{offsets-count}
 use Rattle.geometry.specs.Parts.{entryAt, entriesIn, Filled}
 use Rattle.geometry.proofs.FillLaws.{filled-all}
 use Rattle.rows.specs.Courses.{downs, ons}

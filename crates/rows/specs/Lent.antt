@@ -6,4 +6,4 @@ use Rattle.model.specs.Grounds.{Row}
 
 -- Row i's start is number 2 i, its length number 2 i + 1.
 abbrev pub rowOf : List ℕ → ℕ → Row
-rowOf numbers i = record { start = getD numbers (2 * i) 0; length = getD numbers (2 * i + 1) 0 }
+rowOf rows i = record { start = getD rows (2 * i) 0; length = getD rows (2 * i + 1) 0 }

@@ -8,10 +8,10 @@ use Rattle.model.specs.Answers.{byVerdict}
 use Rattle.model.specs.Values.{rowsOf, offsetsOf, partOf, onRows}
 use Rattle.model.specs.Iterations.{cellsOf, iterationsOf}
 use Rattle.model.specs.Grounds.{cellCount}
-use Rattle.model.specs.Grounds.Ground.{rows}
+use Rattle.model.specs.Grounds.Ground.{skewed}
 use Rattle.model.specs.Courses.{count as counted, allIterations}
 use Rattle.model.specs.Judging.{badRows, badCount, repeats, noIteration, judgeRows}
-use Rattle.model.specs.Kernels.{centreOf}
+use Rattle.model.specs.Windows.{centreOf}
 use Rattle.model.specs.declared.Bounds.{Bounds}
 use Rattle.model.specs.declared.Refusal.{Refusal}
 use Rattle.model.specs.declared.Verdict.the-variants as verdict
@@ -28,30 +28,30 @@ unsurveyedOf x = record { verdict = verdict.Refused x; centre = 0; cells = 0; it
 
 -- The first of 16, 4, 5, 6 and 15 that turns rows, window and bounds back; else the centre, the cells, the iterations that a run covers, and their course.
 unfoldable pub rowSurveyOf : (count : ℕ) → List ℕ → Window → Bounds → RowSurvey
-rowSurveyOf count numbers w b =
-    byVerdict (judgeRows count numbers w b)
+rowSurveyOf count rows w b =
+    byVerdict (judgeRows count rows w b)
     (record {
       verdict = verdict.Accepted;
       centre = centreOf (offsetsOf 2 w);
-      cells = cellsOf (onRows count numbers w b);
-      iterations = iterationsOf (onRows count numbers w b);
+      cells = cellsOf (onRows count rows w b);
+      iterations = iterationsOf (onRows count rows w b);
       course = courseFor count (offsetsOf 2 w) (partOf 2 b);
     })
     unsurveyedOf
 
 -- The centre, the cells and the course of all iterations, of rows and a window that 16 and 4 to 6 let pass.
-pub record Known (count : ℕ) (numbers : List ℕ) (w : Window) (s : RowSurvey) : Type 0 where
-  pub rows-pass : badRows (rowsOf count numbers) ≡ false
+pub record Known (count : ℕ) (rows : List ℕ) (w : Window) (s : RowSurvey) : Type 0 where
+  pub rows-pass : badRows (rowsOf count rows) ≡ false
   pub count-pass : badCount (w .count) ≡ false
   pub distinct : repeats (offsetsOf 2 w) ≡ false
-  pub iterates : noIteration (rows (rowsOf count numbers)) (offsetsOf 2 w) ≡ false
+  pub iterates : noIteration (skewed (rowsOf count rows)) (offsetsOf 2 w) ≡ false
   pub verdict-is : s .verdict ≡ verdict.Accepted
   pub centre-is : s .centre ≡ centreOf (offsetsOf 2 w)
-  pub cells-is : s .cells ≡ cellCount (rows (rowsOf count numbers))
-  pub iterations-is : s .iterations ≡ counted (allIterations (rows (rowsOf count numbers)) (offsetsOf 2 w))
+  pub cells-is : s .cells ≡ cellCount (skewed (rowsOf count rows))
+  pub iterations-is : s .iterations ≡ counted (allIterations (skewed (rowsOf count rows)) (offsetsOf 2 w))
   pub course-is : s .course ≡ wholeCourse count (offsetsOf 2 w)
 
 -- What later functions ask: the survey of these accepts, and this is its course.
-pub record Surveyed (count : ℕ) (numbers : List ℕ) (w : Window) (b : Bounds) (c : RowCourse) : Type 0 where
-  pub accepted : judgeRows count numbers w b ≡ verdict.Accepted
+pub record Surveyed (count : ℕ) (rows : List ℕ) (w : Window) (b : Bounds) (c : RowCourse) : Type 0 where
+  pub accepted : judgeRows count rows w b ≡ verdict.Accepted
   pub course : c ≡ courseFor count (offsetsOf 2 w) (partOf 2 b)

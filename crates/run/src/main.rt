@@ -9,7 +9,7 @@ use model::WORD_PLACES;
 use program_stages::Job;
 ghost use Prim.Native.Nat.{_≤_};
 ghost use lib.ListN.{length};
-ghost use Rattle.program_lines.specs.Texts.{Within};
+ghost use Rattle.program_writer.specs.Texts.{Within};
 ghost use Rattle.program_laws.specs.Loops.{Supplied, RunDue};
 
 // A start and a length of each of 512 rows.

@@ -9,13 +9,13 @@ use native.Mathlib.Decide.{ℕ-discrete, decLt}
 use lib.ListN.{length, getD, take, drop-of-length-le}
 use lib.Seq.{slice, slice-cons, getD-take, length-take-le}
 use Rattle.model.specs.Lists.{sum, tabulate}
-use Rattle.model.specs.Clock.{Layout}
-use Rattle.model.specs.Store.{firstPlace}
+use Rattle.model_run.specs.Clock.{Layout}
+use Rattle.model_run.specs.Store.{firstPlace}
 use Rattle.flow.specs.Machine.{Holds, Fits}
 use Rattle.run_laws.proofs.Held.{first-place-suc}
 use Rattle.loop_laws.specs.Passes.{of}
 use Rattle.loop_laws.specs.Sweeps.{source, Ringed}
-use Rattle.loop_laws.specs.Tables.{Fills}
+use Rattle.loop_laws.specs.LoopTables.{Fills}
 use Rattle.loop_laws.proofs.StoredLaws.{holds-below, holds-apart}
 use Rattle.run_fill.specs.Fills.{Placing, GoodCounter, GoodRing, Sound, Handed}
 

@@ -3,14 +3,14 @@ use Prim.Native.Nat.{ℕ, suc, _+_, _-_, _≤_, _<_}
 use mathlib.Core.List.{List}
 use mathlib.Core.Path.{_≡_}
 use lib.ListN.{length, getD, take, drop}
-use Rattle.model.specs.Clock.{Layout}
-use Rattle.model.specs.Store.{firstPlace}
-use Rattle.model.specs.Running.{Spent, Starved, Stalled, Ended, call}
+use Rattle.model_run.specs.Clock.{Layout}
+use Rattle.model_run.specs.Store.{firstPlace}
+use Rattle.model_run.specs.Running.{Spent, Starved, Stalled, Ended, call}
 use Rattle.flow.specs.Machine.{Invariant}
 use Rattle.loop_laws.specs.Passes.{of}
 use Rattle.loop_laws.specs.Sweeps.{source, Lined, Ringed}
 use Rattle.loop_laws.specs.Standings.{counting, stand, endedAt}
-use Rattle.loop_laws.specs.Tables.{Tables, Stands, Fills}
+use Rattle.loop_laws.specs.LoopTables.{Tables, Stands, Fills}
 use Rattle.run_fill.specs.declared.Stop.{Stop}
 use Rattle.run_fill.specs.declared.Stop.the-variants as stop
 use Rattle.run_fill.specs.declared.Filled.{Filled}

@@ -4,10 +4,10 @@ ghost use mathlib.Core.Path.{_≡_};
 ghost use mathlib.Core.Bool.{true, false};
 ghost use Prim.Native.Nat.{ℕ, suc, _+_, _-_, _*_, _%_, _<_, _≤_};
 ghost use lib.ListN.{length, getD};
-ghost use Rattle.model.specs.Clock.{Layout, turn as turnOf};
+ghost use Rattle.model_run.specs.Clock.{Layout, turn as turnOf};
 ghost use Rattle.loop_laws.specs.Passes.{of, step, FullFifos};
 ghost use Rattle.loop_laws.specs.Sweeps.{source, Lined, Ringed, wordAt, getsOn, PutOn, Turns, roomFor, roomAt, roomGoes, Goes, Again, Movers, Keeps, InPlace, Going, Gone};
-ghost use Rattle.loop_laws.specs.Tables.{Fills};
+ghost use Rattle.loop_laws.specs.LoopTables.{Fills};
 ghost use Rattle.run_fill.specs.Fills.{Placing, Fillable, FillsTo, GoodCounter, GoodRing, Counted, Housed, Sound, Handed, Left};
 
 // The place after u in a ring from base up to below top.

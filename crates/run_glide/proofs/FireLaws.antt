@@ -9,10 +9,10 @@ use native.Mathlib.Omega.{arith}
 use lib.ListN.{length, getD, take, drop, length-drop, List·getD-append, List·getD-eq-default}
 use lib.Seq.{slice, sets, sets-eq, length-sets, getD-append-add, getD-drop, take-all, drop-length, length-take-le}
 use Rattle.model.specs.Lists.{upTo}
-use Rattle.model.specs.Kernels.{wordsAt, difference, scaled, blend, written, width}
+use Rattle.model_run.specs.Kernels.{wordsAt, difference, scaled, blend, written, width}
 use Rattle.model.specs.declared.Kernel.{Kernel}
 use Rattle.model.specs.declared.Kernel.the-variants as kernels
-use Rattle.model.proofs.KernelLaws.{words-of-all}
+use Rattle.model_run.proofs.KernelLaws.{words-of-all}
 use Rattle.model.proofs.Kernel.{the-type}
 use Rattle.kernel.specs.Applied.{applied}
 use Rattle.kernel.proofs.AppliedLaws.{applied-fits}

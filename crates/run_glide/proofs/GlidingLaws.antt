@@ -8,13 +8,13 @@ use native.Mathlib.Numerals.{add-one}
 use native.Mathlib.Omega.{arith}
 use lib.ListN.{length, getD, take}
 use lib.Seq.{sets, getD-take, length-take-le}
-use Rattle.model.specs.Clock.{Layout}
-use Rattle.model.specs.Running.{Done, Spent, Starved, Full}
+use Rattle.model_run.specs.Clock.{Layout}
+use Rattle.model_run.specs.Running.{Done, Spent, Starved, Full}
 use Rattle.model.specs.declared.Kernel.{Kernel}
 use Rattle.flow.proofs.Invariant.{first-wanted}
 use Rattle.loop_laws.specs.Passes.{of, ahead, Lent, lentOf, passing, heads}
 use Rattle.loop_laws.specs.Standings.{counting, stand, endedAt}
-use Rattle.loop_laws.specs.Tables.{walked}
+use Rattle.loop_laws.specs.LoopTables.{walked}
 use Rattle.loop_laws.proofs.FillLaws.{first-take}
 use Rattle.loop_laws.proofs.GlideLaws.{
   Gliding,

@@ -9,10 +9,10 @@ use native.Mathlib.Decide.{ℕ-discrete}
 use lib.ListN.{length, getD, set}
 use lib.Seq.{slice, length-sets, getD-set-same, getD-set-other}
 use Rattle.model.specs.Lists.{upTo}
-use Rattle.model.specs.Kernels.{wordsAt, written, width}
+use Rattle.model_run.specs.Kernels.{wordsAt, written, width}
 use Rattle.model.specs.declared.Kernel.{Kernel}
 use Rattle.model.specs.declared.Kernel.the-variants as kernels
-use Rattle.model.proofs.ListLaws.{length-tabulate}
+use Rattle.grid_laws.proofs.ListLaws.{length-tabulate}
 use Rattle.kernel.proofs.SumLaws.{words-count}
 use Rattle.loop_laws.specs.Passes.{step, flow, stepped, Lent, lentOf, passing, InStore}
 use Rattle.loop_laws.proofs.FlowLaws.{length-flow}

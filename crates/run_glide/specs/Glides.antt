@@ -6,14 +6,14 @@ use mathlib.Core.Path.{_≡_}
 use lib.ListN.{length, getD, take}
 use lib.Seq.{slice, sets}
 use Rattle.model.specs.Lists.{upTo}
-use Rattle.model.specs.Kernels.{written}
-use Rattle.model.specs.Clock.{Layout}
-use Rattle.model.specs.Running.{Ending, Done, Spent, Starved, Full, Ended, call}
+use Rattle.model_run.specs.Kernels.{written}
+use Rattle.model_run.specs.Clock.{Layout}
+use Rattle.model_run.specs.Running.{Ending, Done, Spent, Starved, Full, Ended, call}
 use Rattle.model.specs.declared.Kernel.{Kernel}
 use Rattle.model.specs.declared.Kernel.the-variants as kernels
 use Rattle.loop_laws.specs.Passes.{ahead, flow, stepped, Lent, passing, FullFifos}
 use Rattle.loop_laws.specs.Standings.{stand, endedAt}
-use Rattle.loop_laws.specs.Tables.{walked, Tables, Stands, Rows, Rings}
+use Rattle.loop_laws.specs.LoopTables.{walked, Tables, Stands, Rows, Rings}
 use Rattle.run_glide.specs.declared.Way.{Way}
 use Rattle.run_glide.specs.declared.Way.the-variants as way
 use Rattle.run_glide.specs.declared.Slid.{Slid}

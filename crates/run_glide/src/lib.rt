@@ -6,11 +6,11 @@ ghost use mathlib.Core.Path.{_≡_};
 ghost use mathlib.Core.Bool.{true, false};
 ghost use Prim.Native.Nat.{ℕ, _+_, _-_, _*_, _%_, _<_, _≤_};
 ghost use lib.ListN.{length};
-ghost use Rattle.model.specs.Kernels.{width as widthFor, terms as termsOf};
-ghost use Rattle.model.specs.Clock.{Layout};
-ghost use Rattle.kernel.specs.Tables.{filtersFor};
+ghost use Rattle.model_run.specs.Kernels.{width as widthFor, terms as termsOf};
+ghost use Rattle.model_run.specs.Clock.{Layout};
+ghost use Rattle.kernel.specs.FilterTables.{filtersFor};
 ghost use Rattle.loop_laws.specs.Passes.{step, lentOf, passOf, heads, FullFifos, InStore};
-ghost use Rattle.loop_laws.specs.Tables.{walked};
+ghost use Rattle.loop_laws.specs.LoopTables.{walked};
 ghost use Rattle.run_glide.specs.Glides.{Walks, Blank, Rung, passesOf, firesOf, Starts, Glides, GlidesTo, GoodPlaces, InRings, InRows, Sound, Left};
 
 // ---- a clock in which every filter moves

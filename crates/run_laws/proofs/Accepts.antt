@@ -9,10 +9,10 @@ use Rattle.model.specs.Answers.{Check, firstOf}
 use Rattle.model.specs.Judging.{tooLarge, judged, judgeChain}
 use Rattle.model.specs.declared.Chain.{Chain}
 use Rattle.model.specs.declared.Verdict.the-variants as verdict
-use Rattle.model.proofs.ListLaws.{length-tabulate}
-use Rattle.model.proofs.ChainLaws.{ground-dims, length-order, offsets-count, offsets-sized, part-bounded}
-use Rattle.model.proofs.Iterations.{few-cells, some-covered, fitting}
-use Rattle.model.proofs.CheckLaws.{then-checks, value-passes, some-references, few-references}
+use Rattle.grid_laws.proofs.ListLaws.{length-tabulate}
+use Rattle.grid_laws.proofs.ChainLaws.{ground-dims, length-order, offsets-count, offsets-sized, part-bounded}
+use Rattle.grid_laws.proofs.Iterations.{few-cells, some-covered, fitting}
+use Rattle.grid_laws.proofs.CheckLaws.{then-checks, value-passes, some-references, few-references}
 use Rattle.model.specs.Sized.{Proper, Fitting}
 use Rattle.run_laws.specs.Accepted.{Accepted}
 
@@ -21,13 +21,13 @@ pub first-append : (cs ds : List Check) → firstOf cs ≡ verdict.Accepted → 
 first-append cs ds e = rw e at (then-checks cs ds)
 
 -- A chain, trimmed, has them.
-pub trimmed-proper : (c : Chain) (numbers : List ℕ) → Proper (trimmed c numbers)
+pub trimmed-proper : (c : Chain) (rows : List ℕ) → Proper (trimmed c rows)
 unfolding trimmed capacitiesOf
-trimmed-proper c numbers = record {
+trimmed-proper c rows = record {
   references = offsets-count (dimsOf (c .grid)) (c .window);
-  dimensions = ground-dims (c .grid) numbers;
-  entries = offsets-sized (c .grid) numbers (c .window);
-  bounded = part-bounded (c .grid) numbers (c .bounds);
+  dimensions = ground-dims (c .grid) rows;
+  entries = offsets-sized (c .grid) rows (c .window);
+  bounded = part-bounded (c .grid) rows (c .bounds);
   fifos = length-tabulate (c .window .count - 1) _;
   terms = length-order (c .window .count) (c .order);
 }
@@ -46,9 +46,9 @@ accepted t proper e =
       places = ltb-false 16384 (sum (t .capacities)) (p .chain .places);
     }
 
-pub accepted-chain : (c : Chain) (numbers : List ℕ) → judgeChain c numbers ≡ verdict.Accepted → Accepted (trimmed c numbers)
+pub accepted-chain : (c : Chain) (rows : List ℕ) → judgeChain c rows ≡ verdict.Accepted → Accepted (trimmed c rows)
 unfolding judgeChain
-accepted-chain c numbers e = accepted (trimmed c numbers) (trimmed-proper c numbers) e
+accepted-chain c rows e = accepted (trimmed c rows) (trimmed-proper c rows) e
 
 -- What the laws of iterations ask of it.
 pub fitting-of : (t : Trimmed) → Proper t → Accepted t → Fitting t

@@ -11,11 +11,11 @@ use borrow.Author.Tests.{ltb-false}
 use Rattle.model.specs.Lists.{sum, tabulate, upTo}
 use Rattle.model.specs.Values.{Trimmed}
 use Rattle.model.specs.Answers.{firstOf}
-use Rattle.model.specs.Kernels.{wordsAt, written, width}
+use Rattle.model_run.specs.Kernels.{wordsAt, written, width}
 use Rattle.model.specs.Judging.{valueChecks}
-use Rattle.model.specs.Clock.{Counters, first, fresh}
-use Rattle.model.specs.Running.{layout, countersOf, withCounters, Standing, Ended, outcomeOf, call, events, shortStore, judgeRun, Run, begun, termsOf, writesOf, writtenBy, widthOf, ended, runTrimmed, eventsTrimmed}
-use Rattle.model.specs.CallLists.{Lending, Between, lentCells, callRun, callEvents, after, firingsAmong, Fresh}
+use Rattle.model_run.specs.Clock.{Counters, first, fresh}
+use Rattle.model_run.specs.Running.{layout, countersOf, withCounters, Standing, Ended, outcomeOf, call, events, shortStore, judgeRun, Run, begun, termsOf, writesOf, writtenBy, widthOf, ended, runTrimmed, eventsTrimmed}
+use Rattle.model_run.specs.CallLists.{Lending, Between, lentCells, callRun, callEvents, after, firingsAmong, Fresh}
 use Rattle.model.specs.declared.CellsPassed.{CellsPassed}
 use Rattle.model.specs.declared.Kernel.{Kernel}
 use Rattle.model.specs.declared.Kernel.the-variants as kernel
@@ -23,7 +23,7 @@ use Rattle.model.specs.declared.State.{State}
 use Rattle.model.specs.declared.Refusal.the-variants as refusal
 use Rattle.model.specs.declared.Verdict.the-variants as verdict
 use Rattle.model.specs.declared.Answer.the-variants as answer
-use Rattle.model.proofs.ListLaws.{length-tabulate, getD-tabulate}
+use Rattle.grid_laws.proofs.ListLaws.{length-tabulate, getD-tabulate}
 use Rattle.flow.specs.Machine.{Invariant}
 use Rattle.flow.proofs.Laws.{ran-invariant}
 use Rattle.model.specs.Sized.{Proper}

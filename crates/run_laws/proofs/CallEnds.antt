@@ -8,16 +8,16 @@ use native.Mathlib.Nat.{add-zero, suc-mul, mul-le-mul-right}
 use native.Mathlib.Omega.{arith}
 use lib.ListN.{length, take, length-append}
 use Rattle.model.specs.Answers.{outcomeCounts, answerCounts}
-use Rattle.model.specs.Clock.{moves}
-use Rattle.model.specs.Running.{layout, Ending, Done, Spent, Starved, Stalled, Full, ends, outcomeOf, shortStore, begun, writtenBy, widthOf}
-use Rattle.model.specs.CallLists.{Lending, Between, LentEnough, lentCells, callRun, callEvents, firingsAmong}
+use Rattle.model_run.specs.Clock.{moves}
+use Rattle.model_run.specs.Running.{layout, Ending, Done, Spent, Starved, Stalled, Full, ends, outcomeOf, shortStore, begun, writtenBy, widthOf}
+use Rattle.model_run.specs.CallLists.{Lending, Between, LentEnough, lentCells, callRun, callEvents, firingsAmong}
 use Rattle.model.specs.declared.Counts.{Counts}
 use Rattle.model.specs.declared.Outcome.{Outcome}
 use Rattle.model.specs.declared.Outcome.the-variants as outcome
 use Rattle.model.specs.declared.Answer.{Answer}
 use Rattle.model.specs.declared.Answer.the-variants as answer
 use Rattle.flow.proofs.Laws.{fewer-clocks, room-left}
-use Rattle.model.specs.Reports.{Reports, firingsOf, clocksOf}
+use Rattle.model_run.specs.Reports.{Reports, firingsOf, clocksOf}
 use Rattle.run_laws.proofs.Layouts.{lawful}
 use Rattle.run_laws.proofs.Looks.{Looked, is-done, is-spent, is-starved, is-stalled, is-full}
 use Rattle.run_laws.proofs.Traces.{traced-ran, traced-fired, traced-join}

@@ -7,9 +7,9 @@ use native.Mathlib.Nat.{zero-add}
 use native.Mathlib.Omega.{arith}
 use lib.ListN.{length, length-append}
 use Rattle.model.specs.Lists.{sum}
-use Rattle.model.specs.Running.{Run}
-use Rattle.model.specs.CallLists.{Lending, Between, callRun, callEvents, after, afterAll, runs, allEvents, clocksMade, firingsMade, firingsAmong}
-use Rattle.model.specs.Reports.{Each}
+use Rattle.model_run.specs.Running.{Run}
+use Rattle.model_run.specs.CallLists.{Lending, Between, callRun, callEvents, after, afterAll, runs, allEvents, clocksMade, firingsMade, firingsAmong}
+use Rattle.model_run.specs.Reports.{Each}
 use Rattle.run_laws.proofs.Between.{Setting, Reached, after-reached}
 use Rattle.run_laws.proofs.CallEnds.{call-clocks, call-firings}
 

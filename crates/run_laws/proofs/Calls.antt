@@ -8,11 +8,11 @@ use native.Mathlib.Omega.{arith}
 use lib.ListN.{length, getD, take, drop}
 use lib.Seq.{sets, length-sets}
 use Rattle.model.specs.Lists.{tabulate}
-use Rattle.model.specs.Clock.{Layout, first, fires, next}
-use Rattle.model.specs.Store.{firstPlace, presented, stored}
-use Rattle.model.specs.Running.{Standing, Ending, goes, Ended, words, clocked, call, events}
-use Rattle.model.specs.CallLists.{firingsAmong}
-use Rattle.model.proofs.ListLaws.{length-tabulate, map-tabulate}
+use Rattle.model_run.specs.Clock.{Layout, first, fires, next}
+use Rattle.model_run.specs.Store.{firstPlace, presented, stored}
+use Rattle.model_run.specs.Running.{Standing, Ending, goes, Ended, words, clocked, call, events}
+use Rattle.model_run.specs.CallLists.{firingsAmong}
+use Rattle.grid_laws.proofs.ListLaws.{length-tabulate, map-tabulate}
 use Rattle.flow.specs.Machine.{Lawful, Holds, Invariant, Ready}
 use Rattle.flow.proofs.Tests.{fires-yes, yes-live}
 use Rattle.flow.proofs.Invariant.{next-invariant}

@@ -5,8 +5,8 @@ use mathlib.Core.List.{List}
 use mathlib.Core.Path.{_≡_, refl}
 use native.Mathlib.Omega.{arith}
 use lib.ListN.{length}
-use Rattle.model.specs.Clock.{Layout}
-use Rattle.model.specs.Running.{Standing, ends, Ended, call, events}
+use Rattle.model_run.specs.Clock.{Layout}
+use Rattle.model_run.specs.Running.{Standing, ends, Ended, call, events}
 use Rattle.run_laws.proofs.Looks.{Looked, along-call}
 
 module _ (L : Layout) (write : List ℕ → List ℕ) (size : ℕ) (lent : List ℕ) where

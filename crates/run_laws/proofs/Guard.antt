@@ -7,9 +7,9 @@ use native.Mathlib.Omega.{arith}
 use lib.Dec.{ltb}
 use lib.ListN.{length}
 use borrow.Author.Tests.{ltb-false, leb-false, le-ltb, lt-leb}
-use Rattle.model.specs.Clock.{Layout, Counters}
-use Rattle.model.specs.Running.{notPast, badCounter, badFifo, badFilters, badState}
-use Rattle.model.proofs.Tests.{neither, both-false}
+use Rattle.model_run.specs.Clock.{Layout, Counters}
+use Rattle.model_run.specs.Running.{notPast, badCounter, badFifo, badFilters, badState}
+use Rattle.grid_laws.proofs.Tests.{neither, both-false}
 use Rattle.flow.specs.Machine.{past, Fits, Holds, Invariant}
 
 module _ (L : Layout) where

@@ -11,8 +11,8 @@ use lib.ListN.{length, getD, set, replicate, length-set}
 use lib.Seq.{getD-set-same, getD-set-other}
 use borrow.Author.Tests.{ltb-true, ltb-false}
 use Rattle.model.specs.Lists.{sum, tabulate}
-use Rattle.model.specs.Clock.{Layout, Counters, turn, limit, turns, next}
-use Rattle.model.specs.Store.{firstPlace, placeIn, presented, stored}
+use Rattle.model_run.specs.Clock.{Layout, Counters, turn, limit, turns, next}
+use Rattle.model_run.specs.Store.{firstPlace, placeIn, presented, stored}
 use Rattle.flow.specs.Machine.{Holds, Invariant, Ready}
 use Rattle.flow.proofs.Tests.{by-next}
 

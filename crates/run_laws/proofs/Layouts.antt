@@ -10,13 +10,13 @@ use Rattle.model.specs.Lists.{sum, tabulate}
 use Rattle.model.specs.Grounds.Ground.{rectangle}
 use Rattle.model.specs.Values.{Trimmed}
 use Rattle.model.specs.Iterations.{cellsOf, iterationsOf, readsOf, distanceIn}
-use Rattle.model.specs.Store.{firstPlace}
-use Rattle.model.specs.Running.{layout}
-use Rattle.model.proofs.ListLaws.{tabulate-back}
-use Rattle.model.proofs.Iterations.{rises, below-cells, falls, same-distance, right-reads, reads-right}
+use Rattle.model_run.specs.Store.{firstPlace}
+use Rattle.model_run.specs.Running.{layout}
+use Rattle.grid_laws.proofs.ListLaws.{tabulate-back}
+use Rattle.grid_laws.proofs.Iterations.{rises, below-cells, falls, same-distance, right-reads, reads-right}
 use Rattle.flow.specs.Machine.{Lawful, Spans, Flows, FlowsUpTo}
 use Rattle.flow.specs.Machine as flow
-use Rattle.model.specs.Right.{Falls, RightPair, Right, Planned, HeldIn, FirstBlocked}
+use Rattle.grid_laws.specs.Right.{Falls, RightPair, Right, Planned, HeldIn, FirstBlocked}
 use Rattle.model.specs.Sized.{Proper, Fitting}
 use Rattle.run_laws.specs.Accepted.{Accepted}
 use Rattle.run_laws.proofs.Accepts.{fitting-of}

@@ -4,10 +4,10 @@ use mathlib.Core.List.{List, [], _∷_}
 use mathlib.Core.Path.{_≡_, refl, _∙_, ap}
 use lib.ListN.{length, length-map}
 use Rattle.model.specs.Values.{Trimmed}
-use Rattle.model.specs.Clock.{Layout, Counters, next, turns}
-use Rattle.model.specs.Running.{layout, countersOf, Standing, begun, writtenBy, widthOf, ended, call, clocked}
+use Rattle.model_run.specs.Clock.{Layout, Counters, next, turns}
+use Rattle.model_run.specs.Running.{layout, countersOf, Standing, begun, writtenBy, widthOf, ended, call, clocked}
 use Rattle.model.specs.declared.State.{State}
-use Rattle.model.proofs.ListLaws.{length-tabulate}
+use Rattle.grid_laws.proofs.ListLaws.{length-tabulate}
 use Rattle.flow.proofs.Tests.{by-next}
 use Rattle.run_laws.proofs.Looks.{along-call}
 

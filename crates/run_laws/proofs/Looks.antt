@@ -7,8 +7,8 @@ use native.Mathlib.Omega.{arith}
 use lib.Dec.{eqb, ltb, leb}
 use lib.ListN.{length}
 use borrow.Author.Tests.{ltb-true, ltb-false, leb-true, leb-false, eqb-true, eqb-false}
-use Rattle.model.specs.Clock.{Layout, fires, moves}
-use Rattle.model.specs.Running.{Standing, Ending, Done, Spent, Starved, Stalled, Full, Look, goes, ends, Ended, byLook, whileGoing, clocked, look, call, events}
+use Rattle.model_run.specs.Clock.{Layout, fires, moves}
+use Rattle.model_run.specs.Running.{Standing, Ending, Done, Spent, Starved, Stalled, Full, Look, goes, ends, Ended, byLook, whileGoing, clocked, look, call, events}
 
 module _ (L : Layout) (write : List ℕ → List ℕ) (size : ℕ) (lent : List ℕ) where
   -- The five lines, and a clock that is made; each with what held on the way.

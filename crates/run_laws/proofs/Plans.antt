@@ -15,14 +15,14 @@ use Rattle.model.specs.Steps.{falling, authorsOrder, distances, sorted}
 use Rattle.model.specs.Planning.{trimmedRequest, judgeRequest, plannedChain, planOf}
 use Rattle.model.specs.declared.Request.{Request}
 use Rattle.model.specs.declared.Verdict.the-variants as verdict
-use Rattle.model.proofs.ListLaws.{length-tabulate}
-use Rattle.model.proofs.SameCourses.{same-course}
-use Rattle.model.proofs.Iterations.{fitting}
-use Rattle.model.proofs.SameWindows.{fitting-too}
-use Rattle.model.proofs.SortLaws.{length-falling, falling-each, falling-no-other, sized-falling, any-falling, repeats-falling}
-use Rattle.model.proofs.ChainLaws.{ground-dims, ground-again, trimmed-chain}
-use Rattle.model.proofs.TermLaws.{length-authors, authors-good}
-use Rattle.model.proofs.CheckLaws.{value-passes, few-dims, some-references}
+use Rattle.grid_laws.proofs.ListLaws.{length-tabulate}
+use Rattle.grid_laws.proofs.SameCourses.{same-course}
+use Rattle.grid_laws.proofs.Iterations.{fitting}
+use Rattle.grid_laws.proofs.SameWindows.{fitting-too}
+use Rattle.grid_laws.proofs.SortLaws.{length-falling, falling-each, falling-no-other, sized-falling, any-falling, repeats-falling}
+use Rattle.grid_laws.proofs.ChainLaws.{ground-dims, ground-again, trimmed-chain}
+use Rattle.grid_laws.proofs.TermLaws.{length-authors, authors-good}
+use Rattle.grid_laws.proofs.CheckLaws.{value-passes, few-dims, some-references}
 use Rattle.model.specs.Sized.{Proper, Fitting}
 use Rattle.run_laws.proofs.Accepts.{trimmed-proper, accepted}
 
@@ -60,10 +60,10 @@ pub no-repeats : (t : Trimmed) → judged t ≡ verdict.Accepted → repeats (t 
 unfolding judged
 no-repeats t e = value-passes t e .window .distinct
 
-pub request-proper : (r : Request) (numbers : List ℕ) → Proper (trimmedRequest r numbers)
+pub request-proper : (r : Request) (rows : List ℕ) → Proper (trimmedRequest r rows)
 unfolding trimmedRequest trimmed sorted distances
-request-proper r numbers =
-    let p = trimmed-proper (record { grid = r .grid; window = r .window; bounds = r .bounds; capacities = []; order = noOrder; kernel = r .kernel }) numbers in
+request-proper r rows =
+    let p = trimmed-proper (record { grid = r .grid; window = r .window; bounds = r .bounds; capacities = []; order = noOrder; kernel = r .kernel }) rows in
     record {
       references = p .references;
       dimensions = p .dimensions;
@@ -73,19 +73,19 @@ request-proper r numbers =
       terms = refl;
     }
 
-module _ (r : Request) (numbers : List ℕ) (ok : judgeRequest r numbers ≡ verdict.Accepted) where
+module _ (r : Request) (rows : List ℕ) (ok : judgeRequest r rows ≡ verdict.Accepted) where
   -- The planned chain's lists are the request's, with the offsets sorted.
-  pub planned-lists : trimmed (plannedChain r numbers) numbers ≡ sorted (trimmedRequest r numbers)
+  pub planned-lists : trimmed (plannedChain r rows) rows ≡ sorted (trimmedRequest r rows)
   unfolding judgeRequest judged plannedChain trimmedRequest sorted
   planned-lists =
-      let p = sorted-proper (trimmedRequest r numbers) (request-proper r numbers) in
-      trimmed-chain (sorted (trimmedRequest r numbers)) numbers (ground-again (r .grid) numbers) (p .dimensions) (p .references) (p .entries) (p .bounded) (p .fifos) (p .terms)
-      (few-dims (dimsOf (r .grid)) (groundOf (r .grid) numbers) (ground-dims (r .grid) numbers) (value-passes (trimmedRequest r numbers) ok .window .grid)) (accepted (trimmedRequest r numbers) (request-proper r numbers) ok .few)
+      let p = sorted-proper (trimmedRequest r rows) (request-proper r rows) in
+      trimmed-chain (sorted (trimmedRequest r rows)) rows (ground-again (r .grid) rows) (p .dimensions) (p .references) (p .entries) (p .bounded) (p .fifos) (p .terms)
+      (few-dims (dimsOf (r .grid)) (groundOf (r .grid) rows) (ground-dims (r .grid) rows) (value-passes (trimmedRequest r rows) ok .window .grid)) (accepted (trimmedRequest r rows) (request-proper r rows) ok .few)
 
-  pub planned-judged : judged (sorted (trimmedRequest r numbers)) ≡ verdict.Accepted
+  pub planned-judged : judged (sorted (trimmedRequest r rows)) ≡ verdict.Accepted
   unfolding judged judgeRequest
-  planned-judged = ap firstOf (same-checks (trimmedRequest r numbers) (request-proper r numbers) ok) ∙ ok
+  planned-judged = ap firstOf (same-checks (trimmedRequest r rows) (request-proper r rows) ok) ∙ ok
 
-  pub plan-accepted : judgeChain (planOf r numbers .chain) numbers ≡ verdict.Accepted
+  pub plan-accepted : judgeChain (planOf r rows .chain) rows ≡ verdict.Accepted
   unfolding planOf judgeChain
   plan-accepted = rw (ok, planned-lists) planned-judged

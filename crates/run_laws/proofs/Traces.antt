@@ -5,8 +5,8 @@ use mathlib.Core.List.{List, [], _∷_, _++_}
 use mathlib.Core.Path.{_≡_, refl, sym, _∙_, ap}
 use native.Mathlib.Omega.{arith}
 use lib.ListN.{length, getD, take}
-use Rattle.model.specs.Clock.{Layout, Counters, fires, next}
-use Rattle.model.specs.CallLists.{firingsAmong}
+use Rattle.model_run.specs.Clock.{Layout, Counters, fires, next}
+use Rattle.model_run.specs.CallLists.{firingsAmong}
 use Rattle.flow.specs.Machine.{live, Ran}
 use Rattle.flow.proofs.Tests.{clock-live, fired-once, turned-once}
 use Rattle.flow.proofs.Runs.{still, step}

@@ -7,12 +7,12 @@ use native.Mathlib.Nat.{zero-add, zero-mul}
 use native.Mathlib.Omega.{arith}
 use lib.ListN.{length, take, drop}
 use Rattle.model.specs.Iterations.{iterationsOf}
-use Rattle.model.specs.Clock.{first}
-use Rattle.model.specs.Running.{layout, shortStore, begun, writtenBy, widthOf, Run}
-use Rattle.model.specs.CallLists.{Lending, Between, lentCells, callRun, callEvents, after, firingsAmong}
-use Rattle.model.specs.Reports.{firingsOf}
-use Rattle.model.specs.Words.{wordsOf, wordsFrom}
-use Rattle.model.proofs.ListLaws.{tabulate-same}
+use Rattle.model_run.specs.Clock.{first}
+use Rattle.model_run.specs.Running.{layout, shortStore, begun, writtenBy, widthOf, Run}
+use Rattle.model_run.specs.CallLists.{Lending, Between, lentCells, callRun, callEvents, after, firingsAmong}
+use Rattle.model_run.specs.Reports.{firingsOf}
+use Rattle.model_run.specs.Words.{wordsOf, wordsFrom}
+use Rattle.grid_laws.proofs.ListLaws.{tabulate-same}
 use Rattle.run_laws.proofs.Layouts.{lawful, wants-read}
 use Rattle.run_laws.proofs.Traces.{traced-fired}
 use Rattle.run_laws.proofs.Calls.{firingWords, Wrote, wrote}

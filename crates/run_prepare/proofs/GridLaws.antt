@@ -10,8 +10,8 @@ use Rattle.model.specs.Grounds.Ground.{rectangle}
 use Rattle.model.specs.Judging.{badDims, badSizes, badGrid, badGround}
 use Rattle.model.specs.Values.{Trimmed}
 use Rattle.model.specs.Iterations.{cellsOf}
-use Rattle.model.proofs.Tests.{neither}
-use Rattle.model.proofs.CheckLaws.{value-passes}
+use Rattle.grid_laws.proofs.Tests.{neither}
+use Rattle.grid_laws.proofs.CheckLaws.{value-passes}
 use Rattle.run_laws.specs.Accepted.{Accepted}
 
 pub record GoodGrid (t : Trimmed) : Type 0 where

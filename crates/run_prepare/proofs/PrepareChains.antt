@@ -13,10 +13,10 @@ use Rattle.model.specs.Values.{sizesOf, groundOf, dimsOf, capacitiesOf, capacit
 use Rattle.model.specs.Iterations.{cellsOf, courseOf, iterationsOf, extentsOf, positionOf, iterationOf, readsOf}
 use Rattle.model.specs.Judging.{badDims, badSizes, badGrid}
 use Rattle.model.specs.declared.Chain.{Chain}
-use Rattle.model.proofs.ListLaws.{getD-tabulate}
-use Rattle.model.proofs.ChainLaws.{sizes-count}
-use Rattle.model.proofs.Tests.{neither}
-use Rattle.model.proofs.CheckLaws.{value-passes}
+use Rattle.grid_laws.proofs.ListLaws.{getD-tabulate}
+use Rattle.grid_laws.proofs.ChainLaws.{sizes-count}
+use Rattle.grid_laws.proofs.Tests.{neither}
+use Rattle.grid_laws.proofs.CheckLaws.{value-passes}
 use Rattle.shape.specs.declared.Shape.{Shape}
 use Rattle.shape.specs.Shapes.{stride, shapeFor, chainShape}
 use Rattle.run_laws.specs.Accepted.{Accepted}
@@ -24,12 +24,12 @@ use Rattle.run_laws.proofs.Accepts.{trimmed-proper, fitting-of}
 use Rattle.run_prepare.specs.Prepared.{numberAt, Widened, Shaped, Capped}
 use Rattle.run_prepare.specs.Ready.{flattened}
 
-module _ (c : Chain) (numbers : List ℕ) (ok : Accepted (trimmed c numbers)) where
+module _ (c : Chain) (rows : List ℕ) (ok : Accepted (trimmed c rows)) where
   pub few-references : c .window .count ≤ 32
   unfolding trimmed
   few-references = ok .few
 
-  pub chain-capped : (caps : List ℕ) → Widened 32 (c .capacities) 31 caps → Capped (trimmed c numbers) (c .window .count) caps
+  pub chain-capped : (caps : List ℕ) → Widened 32 (c .capacities) 31 caps → Capped (trimmed c rows) (c .window .count) caps
   unfolding trimmed capacitiesOf
   chain-capped caps w = record {
     count-is = refl;

@@ -7,7 +7,7 @@ use native.Mathlib.Omega.{arith}
 use lib.ListN.{length, take, set, replicate, length-set, length-replicate, getD-replicate, List·getD-eq-default}
 use lib.Seq.{getD-set-same, getD-set-other, ext-getD, length-take-le, getD-take}
 use Rattle.model.specs.Lists.{tabulate}
-use Rattle.model.proofs.ListLaws.{length-tabulate, getD-tabulate}
+use Rattle.grid_laws.proofs.ListLaws.{length-tabulate, getD-tabulate}
 use Rattle.run_prepare.specs.Prepared.{numberAt, Filled, Widened}
 
 module _ (old : List ℕ) (f : ℕ → ℕ) where

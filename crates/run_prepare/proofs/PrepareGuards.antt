@@ -7,11 +7,11 @@ use native.Mathlib.Omega.{arith}
 use lib.Dec.{ltb}
 use lib.ListN.{length, getD, take}
 use Rattle.model.specs.Values.{Trimmed}
-use Rattle.model.specs.Clock.{Layout, Counters}
-use Rattle.model.specs.Store.{firstPlace}
-use Rattle.model.specs.Running.{layout, countersOf, shortStore, badState}
+use Rattle.model_run.specs.Clock.{Layout, Counters}
+use Rattle.model_run.specs.Store.{firstPlace}
+use Rattle.model_run.specs.Running.{layout, countersOf, shortStore, badState}
 use Rattle.model.specs.declared.State.{State}
-use Rattle.model.proofs.ListLaws.{length-tabulate}
+use Rattle.grid_laws.proofs.ListLaws.{length-tabulate}
 use Rattle.flow.specs.Machine.{Holds, Invariant}
 use Rattle.model.specs.Sized.{Proper}
 use Rattle.run_laws.specs.Accepted.{Accepted}

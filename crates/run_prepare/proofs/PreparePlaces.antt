@@ -4,7 +4,7 @@ use mathlib.Core.Path.{_≡_, refl, sym, _∙_, ap, ap₂}
 use native.Mathlib.Numerals.{add-one}
 use native.Mathlib.Omega.{arith}
 use Rattle.model.specs.Lists.{sum, tabulate}
-use Rattle.model.specs.Store.{firstPlace}
+use Rattle.model_run.specs.Store.{firstPlace}
 use Rattle.run_laws.proofs.Held.{first-place-suc}
 
 pub no-place : (capacity : ℕ → ℕ) → 0 ≡ firstPlace capacity 0

@@ -9,8 +9,8 @@ use lib.Dec.{ltb}
 use lib.ListN.{length, take, length-take, drop-of-length-le}
 use lib.Seq.{slice, slice-cons}
 use borrow.Author.Tests.{lt-ltb, le-ltb, le-leb, lt-leb}
-use Rattle.model.specs.Clock.{Layout}
-use Rattle.model.specs.Running.{notPast, badCounter, badFifo, badFilters, badState}
+use Rattle.model_run.specs.Clock.{Layout}
+use Rattle.model_run.specs.Running.{notPast, badCounter, badFifo, badFilters, badState}
 use Rattle.run_prepare.specs.Prepared.{numberAt}
 
 -- An input counter p of filter k, whose next wanted cell is w.

@@ -10,8 +10,8 @@ use Rattle.model.specs.Geometry.{cellCount, place, indices}
 use Rattle.model.specs.Grounds.{groundSizes}
 use Rattle.model.specs.Values.{Trimmed}
 use Rattle.model.specs.Iterations.{iterationsOf, extentsOf}
-use Rattle.model.proofs.ListLaws.{tabulate-back}
-use Rattle.model.proofs.Iterations.{iterations-product, extents-count, way-below}
+use Rattle.grid_laws.proofs.ListLaws.{tabulate-back}
+use Rattle.grid_laws.proofs.Iterations.{iterations-product, extents-count, way-below}
 use Rattle.run_prepare.specs.Prepared.{numberAt, walkBy, Walks, Spaced}
 
 pub walk-none : (e s : ℕ → ℕ) (d j : ℕ) → d ≡ 0 → walkBy e s d j ≡ 0

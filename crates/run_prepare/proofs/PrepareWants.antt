@@ -8,8 +8,8 @@ use Rattle.model.specs.Grounds.{groundSizes}
 use Rattle.model.specs.Values.{Trimmed}
 use Rattle.model.specs.Iterations.{iterationsOf, readsOf}
 use Rattle.model.specs.Judging.{mostCells}
-use Rattle.model.specs.Running.{layout}
-use Rattle.model.proofs.Iterations.{at-most-cells, reads-from-first, below-cells}
+use Rattle.model_run.specs.Running.{layout}
+use Rattle.grid_laws.proofs.Iterations.{at-most-cells, reads-from-first, below-cells}
 use Rattle.run_laws.proofs.Accepts.{fitting-of}
 use Rattle.run_laws.proofs.Layouts.{wants-read}
 use Rattle.run_prepare.specs.Prepared.{numberAt, walkBy, Walks, Counted, Shaped}

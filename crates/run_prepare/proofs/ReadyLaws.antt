@@ -12,19 +12,19 @@ use Rattle.model.specs.Values.{sizesOf, groundOf, dimsOf, trimmed, setGrid}
 use Rattle.model.specs.Iterations.{iterationsOf, extentsOf}
 use Rattle.model.specs.Answers.{Check, firstOf}
 use Rattle.model.specs.Judging.{badGrid, badCount, valueChecks, judged, judgeChain}
-use Rattle.model.specs.Store.{firstPlace}
-use Rattle.model.specs.Clock.{Counters}
-use Rattle.model.specs.Running.{layout, countersOf, shortStore, badState, judgeRun}
+use Rattle.model_run.specs.Store.{firstPlace}
+use Rattle.model_run.specs.Clock.{Counters}
+use Rattle.model_run.specs.Running.{layout, countersOf, shortStore, badState, judgeRun}
 use Rattle.model.specs.declared.Chain.{Chain}
 use Rattle.model.specs.declared.State.{State}
 use Rattle.model.specs.declared.Refusal.{Refusal}
 use Rattle.model.specs.declared.Refusal.the-variants as refusal
 use Rattle.model.specs.declared.Verdict.{Verdict}
 use Rattle.model.specs.declared.Verdict.the-variants as verdict
-use Rattle.model.proofs.ListLaws.{tabulate-back}
-use Rattle.model.proofs.Iterations.{at-most-cells, iterations-product, extents-count}
+use Rattle.grid_laws.proofs.ListLaws.{tabulate-back}
+use Rattle.grid_laws.proofs.Iterations.{at-most-cells, iterations-product, extents-count}
 use Rattle.flow.specs.Machine.{Invariant}
-use Rattle.model.proofs.CheckLaws.{value-passes}
+use Rattle.grid_laws.proofs.CheckLaws.{value-passes}
 use Rattle.run_laws.specs.Accepted.{Accepted}
 use Rattle.run_laws.proofs.Accepts.{first-append}
 use Rattle.geometry.specs.Parts.{part, Small}
@@ -48,35 +48,35 @@ first-refused (c ∷ cs) ds x e = go (c .holds) (first-refused cs ds x) e
     go true rest e = e
     go false rest e = rest e
 
-module _ (c : Chain) (numbers : List ℕ) (s : State) (store : List ℕ) where
+module _ (c : Chain) (rows : List ℕ) (s : State) (store : List ℕ) where
   -- 3 to 9 and 14 to 16.
-  pub judged-refused : (x : Refusal) → judgeChain c numbers ≡ verdict.Refused x → judgeRun (trimmed c numbers) s store ≡ verdict.Refused x
+  pub judged-refused : (x : Refusal) → judgeChain c rows ≡ verdict.Refused x → judgeRun (trimmed c rows) s store ≡ verdict.Refused x
   unfolding judgeChain judged judgeRun
-  judged-refused x e = first-refused (valueChecks (trimmed c numbers)) _ x e
+  judged-refused x e = first-refused (valueChecks (trimmed c rows)) _ x e
 
-  module _ (ok : Accepted (trimmed c numbers)) where
+  module _ (ok : Accepted (trimmed c rows)) where
     -- 10.
-    pub judged-short : shortStore (trimmed c numbers) store ≡ true → judgeRun (trimmed c numbers) s store ≡ verdict.Refused refusal.ShortStore
+    pub judged-short : shortStore (trimmed c rows) store ≡ true → judgeRun (trimmed c rows) s store ≡ verdict.Refused refusal.ShortStore
     unfolding judgeRun firstOf
-    judged-short e = first-append (valueChecks (trimmed c numbers)) _ (ok .checks) ∙ rw e
+    judged-short e = first-append (valueChecks (trimmed c rows)) _ (ok .checks) ∙ rw e
 
-    module _ (long : shortStore (trimmed c numbers) store ≡ false) where
+    module _ (long : shortStore (trimmed c rows) store ≡ false) where
       -- 11.
-      pub judged-bad : badState (layout (trimmed c numbers)) (countersOf (c .window .count) s) ≡ true → judgeRun (trimmed c numbers) s store ≡ verdict.Refused refusal.BadState
+      pub judged-bad : badState (layout (trimmed c rows)) (countersOf (c .window .count) s) ≡ true → judgeRun (trimmed c rows) s store ≡ verdict.Refused refusal.BadState
       unfolding judgeRun firstOf trimmed
-      judged-bad e = first-append (valueChecks (trimmed c numbers)) _ (ok .checks) ∙ rw (long, e)
+      judged-bad e = first-append (valueChecks (trimmed c rows)) _ (ok .checks) ∙ rw (long, e)
 
-      pub judged-fine : badState (layout (trimmed c numbers)) (countersOf (c .window .count) s) ≡ false → judgeRun (trimmed c numbers) s store ≡ verdict.Accepted
+      pub judged-fine : badState (layout (trimmed c rows)) (countersOf (c .window .count) s) ≡ false → judgeRun (trimmed c rows) s store ≡ verdict.Accepted
       unfolding judgeRun firstOf trimmed
-      judged-fine good = first-append (valueChecks (trimmed c numbers)) _ (ok .checks) ∙ rw (long, good)
+      judged-fine good = first-append (valueChecks (trimmed c rows)) _ (ok .checks) ∙ rw (long, good)
 
 -- The places and a store that 10 does not turn back.
-pub stored : (c : Chain) (numbers caps bases tops store : List ℕ) → Accepted (trimmed c numbers) → Capped (trimmed c numbers) (c .window .count) caps → ((k : ℕ) → numberAt caps k < 4294967296)
+pub stored : (c : Chain) (rows caps bases tops store : List ℕ) → Accepted (trimmed c rows) → Capped (trimmed c rows) (c .window .count) caps → ((k : ℕ) → numberAt caps k < 4294967296)
     → Filled blank (firstPlace (numberAt caps)) (c .window .count - 1) bases
     → Filled blank (λ k. firstPlace (numberAt caps) k + numberAt caps k) (c .window .count - 1) tops
-    → shortStore (trimmed c numbers) store ≡ false → Stored c numbers caps bases tops store
+    → shortStore (trimmed c rows) store ≡ false → Stored c rows caps bases tops store
 unfolding layout
-stored c numbers caps bases tops store ok capped small b t long = record {
+stored c rows caps bases tops store ok capped small b t long = record {
   capable = record { accepted = ok; capped = capped; small = small };
   bases-are = λ k h. bases-are capped blank bases b .done k (omega arith);
   tops-are = λ k h. t .done k (omega arith) ∙ ap (λ (x : ℕ). x + numberAt caps k) (sym (b .done k (omega arith)));
@@ -198,9 +198,9 @@ module _ {c : Chain} {s : State} {cells iterations : ℕ} {es ss at wants caps b
   }
 
 -- A refusal says nothing of the tables.
-pub readied-refused : (c : Chain) (numbers : List ℕ) (s : State) (r : Ready) (x : Refusal) (at wants caps bases tops spans strides passed store : List ℕ) → r .verdict ≡ verdict.Refused x
-    → judgeRun (trimmed c numbers) s store ≡ verdict.Refused x → Readied c numbers s r at wants caps bases tops spans strides passed store
-readied-refused c numbers s r x at wants caps bases tops spans strides passed store e j = record {
+pub readied-refused : (c : Chain) (rows : List ℕ) (s : State) (r : Ready) (x : Refusal) (at wants caps bases tops spans strides passed store : List ℕ) → r .verdict ≡ verdict.Refused x
+    → judgeRun (trimmed c rows) s store ≡ verdict.Refused x → Readied c rows s r at wants caps bases tops spans strides passed store
+readied-refused c rows s r x at wants caps bases tops spans strides passed store e j = record {
   verdict-is = e ∙ sym j;
   begun = λ a. absurd (let z : _≡_ {A = Verdict} verdict.Accepted (verdict.Refused x) = sym a ∙ e in let y : _≡_ {A = ℕ} 0 1 = cc in omega arith);
 }

@@ -10,8 +10,8 @@ use Rattle.model.specs.Grounds.Ground.{rectangle}
 use Rattle.model.specs.Values.{Trimmed}
 use Rattle.model.specs.Iterations.{cellsOf, iterationsOf, extentsOf, readsOf}
 use Rattle.model.specs.Judging.{mostCells}
-use Rattle.model.specs.Clock.{Layout}
-use Rattle.model.specs.Running.{layout, countersOf, badState}
+use Rattle.model_run.specs.Clock.{Layout}
+use Rattle.model_run.specs.Running.{layout, countersOf, badState}
 use Rattle.model.specs.declared.CellsPassed.{CellsPassed}
 use Rattle.model.specs.declared.State.{State}
 use Rattle.model.specs.Sized.{Proper, Fitting}

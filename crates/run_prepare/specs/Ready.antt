@@ -8,11 +8,11 @@ use Rattle.model.specs.Lists.{sum, product}
 use Rattle.model.specs.Geometry.{cellCount}
 use Rattle.model.specs.Grounds.{groundSizes}
 use Rattle.model.specs.Grounds.Ground.{rectangle}
-use Rattle.model.specs.Kernels.{centreOf}
+use Rattle.model.specs.Windows.{centreOf}
 use Rattle.model.specs.Values.{Trimmed, trimmed, setGrid}
 use Rattle.model.specs.Iterations.{cellsOf, iterationsOf, extentsOf, readsOf}
-use Rattle.model.specs.Store.{firstPlace}
-use Rattle.model.specs.Running.{layout, countersOf, shortStore, badState, judgeRun}
+use Rattle.model_run.specs.Store.{firstPlace}
+use Rattle.model_run.specs.Running.{layout, countersOf, shortStore, badState, judgeRun}
 use Rattle.model.specs.declared.Chain.{Chain}
 use Rattle.model.specs.declared.State.{State}
 use Rattle.model.specs.declared.Verdict.the-variants as verdict
@@ -51,17 +51,17 @@ abbrev pub flattened : Chain → Chain
 flattened c = setGrid (record { skewed = false; rows = c .grid .rows; dims = c .grid .dims; sizes = c .grid .sizes }) c
 
 -- A chain that no number from 3 to 9 and 14 to 16 turns back, its capacities in an array.
-pub record Capable (c : Chain) (numbers caps : List ℕ) : Type 0 where
-  pub accepted : Accepted (trimmed c numbers)
-  pub capped : Capped (trimmed c numbers) (c .window .count) caps
+pub record Capable (c : Chain) (rows caps : List ℕ) : Type 0 where
+  pub accepted : Accepted (trimmed c rows)
+  pub capped : Capped (trimmed c rows) (c .window .count) caps
   pub small : (k : ℕ) → numberAt caps k < 4294967296
 
 -- Besides the places of its FIFOs, and a store that 10 does not turn back.
-pub record Stored (c : Chain) (numbers caps bases tops store : List ℕ) : Type 0 where
-  pub capable : Capable c numbers caps
-  pub bases-are : (k : ℕ) → suc k < c .window .count → numberAt bases k ≡ firstPlace (λ i. getD (trimmed c numbers .capacities) i 0) k
+pub record Stored (c : Chain) (rows caps bases tops store : List ℕ) : Type 0 where
+  pub capable : Capable c rows caps
+  pub bases-are : (k : ℕ) → suc k < c .window .count → numberAt bases k ≡ firstPlace (λ i. getD (trimmed c rows .capacities) i 0) k
   pub tops-are : (k : ℕ) → suc k < c .window .count → numberAt tops k ≡ numberAt bases k + numberAt caps k
-  pub long : shortStore (trimmed c numbers) store ≡ false
+  pub long : shortStore (trimmed c rows) store ≡ false
 
 -- On a rectangle: and a state that 11 does not turn back, its counters and the cells that its filters want next in arrays.
 pub record Taken (c : Chain) (s : State) (cells iterations : ℕ) (es ss at wants caps bases tops passed store : List ℕ) : Type 0 where
@@ -74,13 +74,13 @@ pub record Taken (c : Chain) (s : State) (cells iterations : ℕ) (es ss at want
   pub good : badState (layout (trimmed (flattened c) [])) (countersOf (c .window .count) s) ≡ false
 
 -- Where a call is not refused: its tables, and its counters.
-pub record Begun (c : Chain) (numbers : List ℕ) (s : State) (r : Ready) (at wants caps bases tops spans strides passed store : List ℕ) : Type 0 where
-  pub tables : Prepared (trimmed c numbers) (r .row) (r .iterations) (r .cells) (r .centre) at caps bases tops spans strides
-  pub begins : Begins (trimmed c numbers) (r .fired) wants passed store
+pub record Begun (c : Chain) (rows : List ℕ) (s : State) (r : Ready) (at wants caps bases tops spans strides passed store : List ℕ) : Type 0 where
+  pub tables : Prepared (trimmed c rows) (r .row) (r .iterations) (r .cells) (r .centre) at caps bases tops spans strides
+  pub begins : Begins (trimmed c rows) (r .fired) wants passed store
   pub fired-is : r .fired ≡ s .fired .0
   pub counters : take (c .window .count) passed ≡ countersOf (c .window .count) s .passed
 
 -- The verdict is the call's, whatever it is handed.
-pub record Readied (c : Chain) (numbers : List ℕ) (s : State) (r : Ready) (at wants caps bases tops spans strides passed store : List ℕ) : Type 0 where
-  pub verdict-is : r .verdict ≡ judgeRun (trimmed c numbers) s store
-  pub begun : r .verdict ≡ verdict.Accepted → Begun c numbers s r at wants caps bases tops spans strides passed store
+pub record Readied (c : Chain) (rows : List ℕ) (s : State) (r : Ready) (at wants caps bases tops spans strides passed store : List ℕ) : Type 0 where
+  pub verdict-is : r .verdict ≡ judgeRun (trimmed c rows) s store
+  pub begun : r .verdict ≡ verdict.Accepted → Begun c rows s r at wants caps bases tops spans strides passed store

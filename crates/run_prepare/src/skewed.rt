@@ -22,7 +22,7 @@ ghost use lib.ListN.{length};
 ghost use Rattle.model.specs.Values.{Trimmed};
 ghost use Rattle.model.specs.Iterations.{iterationsOf, readsOf};
 ghost use Rattle.model.specs.Judging.{judgeChain};
-ghost use Rattle.model.specs.Running.{layout};
+ghost use Rattle.model_run.specs.Running.{layout};
 ghost use Rattle.model.specs.declared.Verdict.the-variants.{Accepted, Refused};
 ghost use Rattle.run_prepare.specs.Prepared.{numberAt, Filled, Counted, Capped, TakenUp};
 ghost use Rattle.run_prepare.specs.Ready.{Capable, Stored};

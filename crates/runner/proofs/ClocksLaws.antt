@@ -10,27 +10,27 @@ use lib.Seq.{getD-take}
 use mir.Syntax.{w32, w64}
 use mir.Val.{Fits}
 use Rattle.model.specs.Lists.{upTo}
-use Rattle.model.specs.Kernels.{terms, written, width}
+use Rattle.model_run.specs.Kernels.{terms, written, width}
 use Rattle.model.specs.Values.{Trimmed, trimmed}
 use Rattle.model.specs.Iterations.{iterationsOf}
-use Rattle.model.specs.Clock.{Layout}
-use Rattle.model.specs.Running.{Ending, Done, Spent, Ended, outcomeOf, layout, filtersOf, writtenBy, widthOf}
+use Rattle.model_run.specs.Clock.{Layout}
+use Rattle.model_run.specs.Running.{Ending, Done, Spent, Ended, outcomeOf, layout, filtersOf, writtenBy, widthOf}
 use Rattle.model.specs.declared.Order.{Order}
 use Rattle.model.specs.declared.Chain.{Chain}
 use Rattle.model.specs.declared.Counts.{Counts}
 use Rattle.model.specs.declared.Outcome.{Outcome}
-use Rattle.model.proofs.Iterations.{at-most-cells}
-use Rattle.kernel.specs.Tables.{filtersFor}
+use Rattle.grid_laws.proofs.Iterations.{at-most-cells}
+use Rattle.kernel.specs.FilterTables.{filtersFor}
 use Rattle.kernel.proofs.TableLaws.{filters-are}
 use Rattle.flow.specs.Machine.{Invariant}
 use Rattle.run_laws.proofs.Accepts.{trimmed-proper, fitting-of}
 use Rattle.loop_laws.specs.Standings.{counting, stand, endedAt}
-use Rattle.loop_laws.specs.Tables.{walked, Tables, Stands, Rows}
+use Rattle.loop_laws.specs.LoopTables.{walked, Tables, Stands, Rows}
 use Rattle.loop_laws.specs.Stretches.{stretch}
 use Rattle.loop_laws.proofs.StoredLaws.{holds-below}
 use Rattle.loop_laws.proofs.CallLaws.{call-done, call-spent}
 use Rattle.loop_laws.proofs.StretchLaws.{stretch-lawful, stretch-invariant, ends-last}
-use Rattle.model.proofs.ChainLaws.{dims-flat}
+use Rattle.grid_laws.proofs.ChainLaws.{dims-flat}
 use Rattle.run_glide.specs.Glides.{Walks}
 use Rattle.run_prepare.specs.Ready.{Prepared, Begins}
 use Rattle.runner.specs.Stretching.{Stretching, endingOf, StretchedTo}

@@ -6,7 +6,7 @@ use native.Mathlib.Numerals.{add-one}
 use native.Mathlib.Omega.{arith}
 use lib.ListN.{length, take, drop, set}
 use lib.Seq.{length-take-le}
-use Rattle.model.specs.Running.{withCounters}
+use Rattle.model_run.specs.Running.{withCounters}
 use Rattle.model.specs.declared.CellsPassed.{CellsPassed}
 use Rattle.model.specs.declared.State.{State}
 use Rattle.run_prepare.specs.Prepared.{numberAt}

@@ -10,18 +10,18 @@ use Rattle.model.specs.Lists.{upTo, sum, product}
 use Rattle.model.specs.Geometry.{cellCount, place, indices}
 use Rattle.model.specs.Grounds.{groundSizes, dims}
 use Rattle.model.specs.Grounds as ground
-use Rattle.model.specs.Kernels.{written, terms}
+use Rattle.model_run.specs.Kernels.{written, terms}
 use Rattle.model.specs.Values.{Trimmed}
 use Rattle.model.specs.Iterations.{cellsOf, extentsOf}
-use Rattle.model.specs.Store.{firstPlace}
-use Rattle.model.specs.Running.{layout, filtersOf, termsOf, writesOf, writtenBy}
-use Rattle.model.proofs.Iterations.{iterations-product, extents-count, reads-from-first, at-most-cells}
+use Rattle.model_run.specs.Store.{firstPlace}
+use Rattle.model_run.specs.Running.{layout, filtersOf, termsOf, writesOf, writtenBy}
+use Rattle.grid_laws.proofs.Iterations.{iterations-product, extents-count, reads-from-first, at-most-cells}
 use Rattle.model.specs.Sized.{Proper, Fitting}
 use Rattle.run_laws.specs.Accepted.{Accepted}
 use Rattle.run_laws.proofs.Accepts.{fitting-of}
 use Rattle.run_laws.proofs.Held.{first-place-suc}
 use Rattle.run_laws.proofs.Layouts.{wants-read, lawful, all-places}
-use Rattle.loop_laws.specs.Tables.{walked, Tables, Stands, Rows}
+use Rattle.loop_laws.specs.LoopTables.{walked, Tables, Stands, Rows}
 use Rattle.loop_laws.proofs.RowLaws.{walked-place, lastOf, last-is, divides, product-drop, place-next}
 use Rattle.run_glide.specs.Glides.{Walks}
 use Rattle.run_prepare.specs.Ready.{Prepared, Begins}

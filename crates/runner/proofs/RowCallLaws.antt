@@ -6,11 +6,11 @@ use native.Mathlib.Nat.{add-zero, sub-zero, zero-mul, add-mul}
 use native.Mathlib.Omega.{arith}
 use lib.ListN.{length, getD, take, drop, length-drop, length-append}
 use lib.Seq.{drop-length, length-take-le}
-use Rattle.model.specs.Kernels.{width}
+use Rattle.model_run.specs.Kernels.{width}
 use Rattle.model.specs.Values.{Trimmed}
 use Rattle.model.specs.Iterations.{iterationsOf}
-use Rattle.model.specs.Clock.{Layout}
-use Rattle.model.specs.Running.{Standing, Ending, Done, Spent, Starved, Stalled, Full, Ended, outcomeOf, layout, writtenBy, widthOf, call}
+use Rattle.model_run.specs.Clock.{Layout}
+use Rattle.model_run.specs.Running.{Standing, Ending, Done, Spent, Starved, Stalled, Full, Ended, outcomeOf, layout, writtenBy, widthOf, call}
 use Rattle.model.specs.declared.Counts.{Counts}
 use Rattle.model.specs.declared.Kernel.{Kernel}
 use Rattle.model.specs.declared.Order.{Order}
@@ -18,7 +18,7 @@ use Rattle.model.specs.declared.Outcome.{Outcome}
 use Rattle.flow.specs.Machine.{Invariant}
 use Rattle.run_laws.proofs.Layouts.{lawful}
 use Rattle.rows.specs.declared.RowCourse.{RowCourse}
-use Rattle.row_courses.specs.Tables.{lengthsAbove, LiesIn, RowOf}
+use Rattle.row_courses.specs.CourseTables.{lengthsAbove, LiesIn, RowOf}
 use Rattle.loop_laws.specs.Standings.{counting, stand, endedAt}
 use Rattle.loop_laws.specs.Stretches.{stretch, resumed}
 use Rattle.loop_laws.proofs.CallLaws.{call-done}
@@ -58,16 +58,16 @@ stops Starved n rest ended = refl
 stops Stalled n rest ended = refl
 stops Full n rest ended = refl
 
-module _ {t : Trimmed} {kernel : Kernel} {order : Order} {n count cells centre : ℕ} {c : RowCourse} {numbers above iterations caps bases tops : List ℕ} {fired : ℕ} {passed₀ store₀ : List ℕ}
-    (R : RowCall t kernel order n count cells centre c numbers above iterations caps bases tops fired passed₀ store₀) where
-  abbrev T : RowTables t kernel order n count cells centre c numbers above caps bases tops
+module _ {t : Trimmed} {kernel : Kernel} {order : Order} {n count cells centre : ℕ} {c : RowCourse} {rows above iterations caps bases tops : List ℕ} {fired : ℕ} {passed₀ store₀ : List ℕ}
+    (R : RowCall t kernel order n count cells centre c rows above iterations caps bases tops fired passed₀ store₀) where
+  abbrev T : RowTables t kernel order n count cells centre c rows above caps bases tops
   T = R .tables
 
   abbrev L : Layout
   L = layout t
 
   abbrev ahead : ℕ → ℕ
-  ahead v = iterationsAbove count numbers c v
+  ahead v = iterationsAbove count rows c v
 
   entry-is : (v : ℕ) → v ≤ c .height → getD iterations v 0 ≡ ahead v
   entry-is v h = R .iterations-are .done v (omega arith)
@@ -111,7 +111,7 @@ module _ {t : Trimmed} {kernel : Kernel} {order : Order} {n count cells centre :
     size-is : size ≡ widthOf t
     size-is = E ∙ sym (width-is T)
 
-    pub rows-start : {lent out₀ : List ℕ} {allowance v : ℕ} → LiesIn iterations (c .height) fired v → RowsGone t n count numbers c size fired passed₀ store₀ lent out₀ allowance v 0 0 0 passed₀ store₀ out₀
+    pub rows-start : {lent out₀ : List ℕ} {allowance v : ℕ} → LiesIn iterations (c .height) fired v → RowsGone t n count rows c size fired passed₀ store₀ lent out₀ allowance v 0 0 0 passed₀ store₀ out₀
     rows-start {allowance = allowance} {v} l = record {
       goes = rw (add-zero fired, sub-zero allowance) refl;
       most = omega (arith, l .below);
@@ -129,7 +129,7 @@ module _ {t : Trimmed} {kernel : Kernel} {order : Order} {n count cells centre :
     }
 
     module _ {lent out₀ : List ℕ} {allowance v taken made firings : ℕ} {passed store out : List ℕ}
-        (G : RowsGone t n count numbers c size fired passed₀ store₀ lent out₀ allowance v taken made firings passed store out) where
+        (G : RowsGone t n count rows c size fired passed₀ store₀ lent out₀ allowance v taken made firings passed store out) where
       pub so-far : fired + firings ≤ 1048576
       unfolding layout
       so-far = omega (arith, G .counted .holds .most, iterations-few T)
@@ -176,7 +176,7 @@ module _ {t : Trimmed} {kernel : Kernel} {order : Order} {n count cells centre :
         here : ahead v + j ≡ fired + firings
         here = omega (arith, from-is, row-begun)
 
-        pub at-row : AtRow t n count numbers c v (upto - from) j passed store
+        pub at-row : AtRow t n count rows c v (upto - from) j passed store
         at-row = record {
           below = below;
           size-is = omega (arith, from-is, upto-is, row-ends T below);
@@ -186,7 +186,7 @@ module _ {t : Trimmed} {kernel : Kernel} {order : Order} {n count cells centre :
 
         -- Its clocks are made.
         module _ {s : Stretched} {passed′ store′ out′ : List ℕ}
-            (S : StretchedTo s (rowOf t count numbers c v) (writtenBy t) (width kernel n) n (upto - from) j passed passed′ store store′ (behind (firings * size) out) out′ (behind taken lent) (allowance - made)) where
+            (S : StretchedTo s (rowOf t count rows c v) (writtenBy t) (width kernel n) n (upto - from) j passed passed′ store store′ (behind (firings * size) out) out′ (behind taken lent) (allowance - made)) where
           abbrev e : Ending
           e = endingOf (s .end)
 
@@ -229,7 +229,7 @@ module _ {t : Trimmed} {kernel : Kernel} {order : Order} {n count cells centre :
 
           -- All its firings, and the call goes on;
           pub rows-on : upto ≤ fired + (firings + s .firings) → length store′ ≡ length store → length out′ ≡ length (behind (firings * size) out)
-              → RowsGone t n count numbers c size fired passed₀ store₀ lent out₀ allowance (v + 1) (taken + s .taken) (made + s .clocks) (firings + s .firings) passed′ store′ (back (firings * size) out out′)
+              → RowsGone t n count rows c size fired passed₀ store₀ lent out₀ allowance (v + 1) (taken + s .taken) (made + s .clocks) (firings + s .firings) passed′ store′ (back (firings * size) out out′)
           unfolding layout
           rows-on h ls lo = record {
             goes = rw (back-is (firings * size) out out′) (rw d at goes-so);

@@ -12,27 +12,27 @@ use Rattle.model.specs.Vectors.{plus}
 use Rattle.model.specs.Grounds.{Row, Ground, position}
 use Rattle.model.specs.Courses.{count as counted, vector}
 use Rattle.model.specs.Boxes.{Part, course}
-use Rattle.model.specs.Kernels.{terms, written, width}
+use Rattle.model_run.specs.Kernels.{terms, written, width}
 use Rattle.model.specs.Values.{Trimmed, rowsOf, onRows}
 use Rattle.model.specs.Iterations.{iterationsOf, readsOf, positionOf, iterationOf, courseOf}
 use Rattle.model.specs.Sized.{Fitting}
-use Rattle.model.specs.Store.{firstPlace}
-use Rattle.model.specs.Running.{layout, termsOf, writesOf, writtenBy, widthOf}
+use Rattle.model_run.specs.Store.{firstPlace}
+use Rattle.model_run.specs.Running.{layout, termsOf, writesOf, writtenBy, widthOf}
 use Rattle.model.specs.declared.Kernel.{Kernel}
 use Rattle.model.specs.declared.Order.{Order}
-use Rattle.model.proofs.ChainLaws.{offsets-count}
-use Rattle.model.proofs.Iterations.{at-most-cells}
+use Rattle.grid_laws.proofs.ChainLaws.{offsets-count}
+use Rattle.grid_laws.proofs.Iterations.{at-most-cells}
 use Rattle.run_laws.proofs.Accepts.{fitting-of}
 use Rattle.run_laws.proofs.Layouts.{wants-read, lawful}
-use Rattle.kernel.specs.Tables.{filtersFor}
+use Rattle.kernel.specs.FilterTables.{filtersFor}
 use Rattle.geometry.specs.Parts.{Filled}
 use Rattle.rows.specs.Courses.{looked, rowLength}
 use Rattle.rows.specs.declared.RowCourse.{RowCourse}
-use Rattle.row_courses.specs.Tables.{readAt}
+use Rattle.row_courses.specs.CourseTables.{readAt}
 use Rattle.row_courses.proofs.TableLaws.{lengths-next, row-most}
 use Rattle.row_courses.proofs.RunLaws.{iterations-are, reads-row, looked-is, row-below, few-rows-in}
 use Rattle.loop_laws.specs.Standings.{stand}
-use Rattle.loop_laws.specs.Tables.{walked, Rows}
+use Rattle.loop_laws.specs.LoopTables.{walked, Rows}
 use Rattle.loop_laws.proofs.StoredLaws.{holds-below}
 use Rattle.loop_laws.proofs.CallLaws.{call-done}
 use Rattle.loop_laws.proofs.StretchLaws.{stretch-lawful, stretch-invariant}
@@ -57,17 +57,17 @@ ones-walk = record { few = omega arith; each = λ d h. let z : d ≡ 0 = omega a
 ones-rows : (size iterations : ℕ) → 0 < size → Rows (walked ones ones 1 0) size iterations
 ones-rows size iterations h = record { some = h; on = λ f _ _. walk-on (suc f) ∙ ap suc (sym (walk-on f)) }
 
-module _ {t : Trimmed} {kernel : Kernel} {order : Order} {n count cells centre : ℕ} {c : RowCourse} {numbers above caps bases tops : List ℕ}
-    (T : RowTables t kernel order n count cells centre c numbers above caps bases tops) where
+module _ {t : Trimmed} {kernel : Kernel} {order : Order} {n count cells centre : ℕ} {c : RowCourse} {rows above caps bases tops : List ℕ}
+    (T : RowTables t kernel order n count cells centre c rows above caps bases tops) where
   abbrev rs : List Row
-  rs = rowsOf count numbers
+  rs = rowsOf count rows
 
   -- The window on the rows, with no capacities: it reads the same.
   abbrev bare : Trimmed
-  bare = onRows count numbers (T .window) (T .bounds)
+  bare = onRows count rows (T .window) (T .bounds)
 
   abbrev ahead : ℕ → ℕ
-  ahead v = iterationsAbove count numbers c v
+  ahead v = iterationsAbove count rows c v
 
   same-reads : (j k : ℕ) → readsOf t j k ≡ readsOf bare j k
   unfolding readsOf positionOf iterationOf courseOf
@@ -91,10 +91,10 @@ module _ {t : Trimmed} {kernel : Kernel} {order : Order} {n count cells centre :
 
   -- All iterations lie above the row behind the last.
   pub all-rows : iterationsOf t ≡ ahead (c .height)
-  all-rows = same-iterations ∙ iterations-are count numbers (T .window) (T .bounds) c (T .surveyed)
+  all-rows = same-iterations ∙ iterations-are count rows (T .window) (T .bounds) c (T .surveyed)
 
   pub few-rows : c .height ≤ 512
-  few-rows = few-rows-in count numbers (T .window) (T .bounds) c (T .surveyed)
+  few-rows = few-rows-in count rows (T .window) (T .bounds) c (T .surveyed)
 
   pub few : n ≤ 32
   few = omega (arith, T .count-is, T .accepted .few)
@@ -127,20 +127,20 @@ module _ {t : Trimmed} {kernel : Kernel} {order : Order} {n count cells centre :
     row-ends = sym (lengths-next (rowLength rs c) v)
 
     pub row-inside : ahead (v + 1) ≤ iterationsOf t
-    row-inside = omega (arith, row-ends, same-iterations, row-below count numbers (T .window) (T .bounds) c (T .surveyed) v below)
+    row-inside = omega (arith, row-ends, same-iterations, row-below count rows (T .window) (T .bounds) c (T .surveyed) v below)
 
     reads : (j k : ℕ) → j < long → k < n → layout t .wants (ahead v + j) k ≡ readAt rs above c v k + j
     reads j k h g =
         wants-read t (T .proper) (T .accepted) (ahead v + j) k (omega (arith, row-ends, row-inside))
         ∙ same-reads (ahead v + j) k
-        ∙ reads-row count numbers (T .window) (T .bounds) c (T .surveyed) v j below h above (λ i b. T .above-are .done i (omega arith)) k (omega (arith, same-count))
+        ∙ reads-row count rows (T .window) (T .bounds) c (T .surveyed) v j below h above (λ i b. T .above-are .done i (omega arith)) k (omega (arith, same-count))
 
     -- None of its iterations is left.
-    pub row-none : {size j : ℕ} {passed store : List ℕ} → AtRow t n count numbers c v size j passed store → size ≤ j → (lent out : List ℕ) (allowance : ℕ)
-        → StretchedTo (record { end = end.Done; taken = 0; clocks = 0; firings = 0 }) (rowOf t count numbers c v) (writtenBy t) (width kernel n) n size j passed passed store store out out lent allowance
+    pub row-none : {size j : ℕ} {passed store : List ℕ} → AtRow t n count rows c v size j passed store → size ≤ j → (lent out : List ℕ) (allowance : ℕ)
+        → StretchedTo (record { end = end.Done; taken = 0; clocks = 0; firings = 0 }) (rowOf t count rows c v) (writtenBy t) (width kernel n) n size j passed passed store store out out lent allowance
     row-none {j = j} {passed} {store} A none lent out allowance = record {
       ends = rw (add-zero j)
-          (sym (call-done (rowOf t count numbers c v) (writtenBy t) (width kernel n) lent allowance (stand j (take n passed) store out 0 0 0) (omega (arith, row-ends, A .size-is))));
+          (sym (call-done (rowOf t count rows c v) (writtenBy t) (width kernel n) lent allowance (stand j (take n passed) store out 0 0 0) (omega (arith, row-ends, A .size-is))));
       there = A .counted .there;
       rest = refl;
       small = counters-small (A .counted);
@@ -154,18 +154,18 @@ module _ {t : Trimmed} {kernel : Kernel} {order : Order} {n count cells centre :
 
     module _ {at : List ℕ} (F : Filled 32 0 (readAt rs above c v) (looked c) at) where
       at-are : (k : ℕ) → k < n → getD at k 0 ≡ readAt rs above c v k
-      at-are k h = F .done k (omega (arith, same-count, looked-is count numbers (T .window) (T .bounds) c (T .surveyed)))
+      at-are k h = F .done k (omega (arith, same-count, looked-is count rows (T .window) (T .bounds) c (T .surveyed)))
 
       -- No sum with an iteration's number leaves its width.
-      pub at-small : {size j : ℕ} {passed store : List ℕ} → AtRow t n count numbers c v size j passed store → j < size → (k : ℕ) → k < n → getD at k 0 + j < 18446744073709551616
+      pub at-small : {size j : ℕ} {passed store : List ℕ} → AtRow t n count rows c v size j passed store → j < size → (k : ℕ) → k < n → getD at k 0 + j < 18446744073709551616
       unfolding layout
       at-small {j = j} A more k g =
           let h : j < long = omega (arith, A .size-is) in
           omega (arith, at-are k g, reads j k h g, T .accepted .cells, lawful t (T .proper) (T .accepted) .within (ahead v + j) k (omega (arith, row-ends, row-inside)) (omega (arith, T .count-is)))
 
       -- Its iterations are a stretch with these tables.
-      pub row-stretching : {size j : ℕ} {wants passed store : List ℕ} → AtRow t n count numbers c v size j passed store → j < size → Advanced n j at wants
-          → Stretching (rowOf t count numbers c v) (writtenBy t) kernel (terms kernel centre (filtersFor n order)) n size size cells centre j 1 at wants caps bases tops ones ones passed store
+      pub row-stretching : {size j : ℕ} {wants passed store : List ℕ} → AtRow t n count rows c v size j passed store → j < size → Advanced n j at wants
+          → Stretching (rowOf t count rows c v) (writtenBy t) kernel (terms kernel centre (filtersFor n order)) n size size cells centre j 1 at wants caps bases tops ones ones passed store
       unfolding layout
       row-stretching {size} {j} {wants} {passed} {store} A more W = record {
         handed = record {

@@ -11,14 +11,14 @@ use mir.Syntax.{w64}
 use mir.Val.{Fits}
 use types.Run.{OneOf}
 use denote.Enum.Declared.{tagOf}
-use Rattle.model.specs.Kernels.{width}
-use Rattle.model.specs.Clock.{Layout}
-use Rattle.model.specs.Running.{Spent, Starved, Stalled, Standing, Ended}
+use Rattle.model_run.specs.Kernels.{width}
+use Rattle.model_run.specs.Clock.{Layout}
+use Rattle.model_run.specs.Running.{Spent, Starved, Stalled, Standing, Ended}
 use Rattle.model.specs.declared.Kernel.{Kernel}
 use Rattle.flow.specs.Machine.{Holds, Invariant}
 use Rattle.loop_laws.specs.Passes.{of, Aligned}
 use Rattle.loop_laws.specs.Standings.{counting, stand, endedAt}
-use Rattle.loop_laws.specs.Tables.{walked, Tables}
+use Rattle.loop_laws.specs.LoopTables.{walked, Tables}
 use Rattle.loop_laws.proofs.StoredLaws.{holds-below}
 use Rattle.loop_laws.proofs.CallLaws.{Roomy, call-room, endedLater, call-later}
 use Rattle.run_fill.specs.Fills.{stopOf, FillsTo}

@@ -4,7 +4,7 @@ use mathlib.Core.List.{List}
 use mathlib.Core.Path.{_≡_}
 use lib.ListN.{length, getD, take, drop}
 use Rattle.model.specs.Values.{Trimmed}
-use Rattle.model.specs.Running.{Ended, outcomeOf, layout, writtenBy, widthOf}
+use Rattle.model_run.specs.Running.{Ended, outcomeOf, layout, writtenBy, widthOf}
 use Rattle.run_glide.specs.Glides.{calls}
 use Rattle.runner.specs.declared.Stopped.{Stopped}
 

@@ -1,7 +1,7 @@
 -- The run call: what it leaves.
 use Prim.Native.Nat.{ℕ}
 use mathlib.Core.List.{List}
-use Rattle.model.specs.Running.{Run}
+use Rattle.model_run.specs.Running.{Run}
 use Rattle.model.specs.declared.Ran.{Ran}
 
 -- All that a call leaves: what it hands back, and the store and the output that it was lent.

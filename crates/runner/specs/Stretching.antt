@@ -4,12 +4,12 @@ use mathlib.Core.List.{List}
 use mathlib.Core.Path.{_≡_}
 use lib.ListN.{length, getD, take, drop}
 use Rattle.model.specs.Lists.{upTo}
-use Rattle.model.specs.Kernels.{written}
-use Rattle.model.specs.Clock.{Layout}
-use Rattle.model.specs.Running.{Ending, Done, Spent, Starved, Stalled, Full}
+use Rattle.model_run.specs.Kernels.{written}
+use Rattle.model_run.specs.Clock.{Layout}
+use Rattle.model_run.specs.Running.{Ending, Done, Spent, Starved, Stalled, Full}
 use Rattle.model.specs.declared.Kernel.{Kernel}
 use Rattle.loop_laws.specs.Standings.{stand, endedAt}
-use Rattle.loop_laws.specs.Tables.{walked, Rows}
+use Rattle.loop_laws.specs.LoopTables.{walked, Rows}
 use Rattle.run_fill.specs.Fills.{Handed}
 use Rattle.run_fill.specs.declared.Stop.{Stop}
 use Rattle.run_fill.specs.declared.Stop.the-variants as stop

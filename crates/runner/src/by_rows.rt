@@ -12,9 +12,9 @@ ghost use Prim.Native.Nat.{_<_};
 ghost use lib.ListN.{getD};
 ghost use Rattle.model.specs.Values.{Trimmed};
 ghost use Rattle.model.specs.Iterations.{iterationsOf};
-ghost use Rattle.model.specs.Kernels.{width as widthFor};
-ghost use Rattle.model.specs.Running.{layout, writtenBy, widthOf};
-ghost use Rattle.row_courses.specs.Tables.{LiesIn};
+ghost use Rattle.model_run.specs.Kernels.{width as widthFor};
+ghost use Rattle.model_run.specs.Running.{layout, writtenBy, widthOf};
+ghost use Rattle.row_courses.specs.CourseTables.{LiesIn};
 ghost use Rattle.runner.specs.Stretching.{StretchedTo};
 ghost use Rattle.runner.specs.ByRows.{RowTables, AtRow, RowCall, rowOf};
 

@@ -22,12 +22,12 @@ ghost use mathlib.Core.List.{List, []};
 ghost use mathlib.Core.Path.{_≡_};
 ghost use Prim.Native.Nat.{ℕ, _+_, _-_, _*_, _<_, _≤_};
 ghost use lib.ListN.{length, getD, take};
-ghost use Rattle.model.specs.Clock.{Layout};
-ghost use Rattle.model.specs.Kernels.{width as widthFor, terms as termsOf};
+ghost use Rattle.model_run.specs.Clock.{Layout};
+ghost use Rattle.model_run.specs.Kernels.{width as widthFor, terms as termsOf};
 ghost use Rattle.model.specs.Values.{Trimmed, trimmed};
-ghost use Rattle.model.specs.Running.{outcomeOf, withCounters, judgeRun, runOf};
+ghost use Rattle.model_run.specs.Running.{outcomeOf, withCounters, judgeRun, runOf};
 ghost use Rattle.model.specs.declared.Verdict.the-variants.{Accepted};
-ghost use Rattle.kernel.specs.Tables.{filtersFor};
+ghost use Rattle.kernel.specs.FilterTables.{filtersFor};
 ghost use Rattle.run_prepare.specs.Prepared.{numberAt};
 ghost use Rattle.run_prepare.specs.Ready.{Prepared, Begins, Begun};
 ghost use Rattle.run_prepare.specs.RowsReady.{RowsBegun};
@@ -194,7 +194,7 @@ fn stretch_clocks(
 // ---- the clocks of a call
 
 // Of this call: `taken` cells, `firings` and `clocks`.
-fn counts(taken: usize, firings: usize, clocks: usize) -> Counts
+fn counted(taken: usize, firings: usize, clocks: usize) -> Counts
     requires { ⌜ (taken < 4294967296) × (firings < 4294967296) × (clocks < 4294967296) ⌝ }
     ensures { λ r. ⌜ r ≡ record { cells = taken; firings = firings; clocks = clocks } ⌝ }
 {
@@ -252,13 +252,13 @@ fn clocks(
 {
     if iterations <= fired {
         return Stopped {
-            outcome: Outcome::Done(counts(0, 0, 0)),
+            outcome: Outcome::Done(counted(0, 0, 0)),
             fired: FiringsMade(fired as u32),
         };
     }
     if allowance == 0 {
         return Stopped {
-            outcome: Outcome::Spent(counts(0, 0, 0)),
+            outcome: Outcome::Spent(counted(0, 0, 0)),
             fired: FiringsMade(fired as u32),
         };
     }
@@ -292,7 +292,7 @@ fn clocks(
     let taken = s.taken;
     let made = s.clocks;
     let firings = s.firings;
-    let c = counts(taken, firings, made);
+    let c = counted(taken, firings, made);
     let all = fired + firings;
     Stopped {
         outcome: outcome_of(end, c),
@@ -351,7 +351,7 @@ fn clocks_on_rows(
     let taken = s.taken;
     let made = s.clocks;
     let firings = s.firings;
-    let c = counts(taken, firings, made);
+    let c = counted(taken, firings, made);
     let all = fired + firings;
     Stopped {
         outcome: outcome_of(end, c),

@@ -3,7 +3,7 @@ use program_stages::Job;
 use values::lesser;
 ghost use Prim.Native.Nat.{_≤_};
 ghost use lib.ListN.{length};
-ghost use Rattle.program_lines.specs.Texts.{Within};
+ghost use Rattle.program_writer.specs.Texts.{Within};
 
 // Where the piece ends that starts at `at`.
 fn piece_end(at: usize, piece: usize, len: usize) -> usize
@@ -58,7 +58,7 @@ fn supply(job: Job, at: usize, len: usize) -> Job {
     if !program_stages::wants_input(job) {
         return job;
     }
-    program_stages::close(job)
+    program_stages::close_input(job)
 }
 
 fn run_text(input: &[u8], piece: usize, text: &mut [u8]) -> usize

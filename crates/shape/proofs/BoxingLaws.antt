@@ -34,17 +34,17 @@ use Rattle.model.specs.declared.Refusal.the-variants as refusal
 use Rattle.model.specs.declared.Verdict.the-variants as verdict
 use Rattle.model.specs.declared.Window.{Window}
 use Rattle.model.specs.Sized.{Bounded, Suits}
-use Rattle.model.proofs.Rectangles as rectangle
-use Rattle.model.proofs.Tests.{neither}
-use Rattle.model.proofs.ListLaws.{length-tabulate, getD-tabulate, tabulate-same, map-tabulate}
-use Rattle.model.proofs.IntegerLaws.{sub-small, sub-large, above-back, sum-above, sum-at-least, leZ-trans, not-ltZ, leZ-ltZ, above-order, above-chain}
-use Rattle.model.proofs.PlaceLaws.{Below, AtLeast}
-use Rattle.model.proofs.PlaceLaws.AtLeast.{none, next}
-use Rattle.model.proofs.ChainLaws.{offsets-count, sizes-sized}
-use Rattle.model.proofs.BoxLaws.{index-count}
-use Rattle.model.proofs.RectangleBoxes.{within-fits, iteration-within, corners}
-use Rattle.model.proofs.RectangleCourses.{first-reads}
-use Rattle.model.proofs.Listed.{course-some, below-cells}
+use Rattle.grid_laws.proofs.Rectangles as rectangle
+use Rattle.grid_laws.proofs.Tests.{neither}
+use Rattle.grid_laws.proofs.ListLaws.{length-tabulate, getD-tabulate, tabulate-same, map-tabulate}
+use Rattle.grid_laws.proofs.IntegerLaws.{sub-small, sub-large, above-back, sum-above, sum-at-least, leZ-trans, not-ltZ, leZ-ltZ, above-order, above-chain}
+use Rattle.grid_laws.proofs.PlaceLaws.{Below, AtLeast}
+use Rattle.grid_laws.proofs.PlaceLaws.AtLeast.{none, next}
+use Rattle.grid_laws.proofs.ChainLaws.{offsets-count, sizes-sized}
+use Rattle.grid_laws.proofs.BoxLaws.{index-count}
+use Rattle.grid_laws.proofs.RectangleBoxes.{within-fits, iteration-within, corners}
+use Rattle.grid_laws.proofs.RectangleCourses.{first-reads}
+use Rattle.grid_laws.proofs.Listed.{course-some, below-cells}
 use Rattle.geometry.specs.Parts.{part, numberAt, entryAt, entriesIn, Filled, Lows, Small}
 use Rattle.geometry.proofs.PartLaws.{part-all}
 use Rattle.geometry.proofs.FillLaws.{filled-all}

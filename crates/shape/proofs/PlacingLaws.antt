@@ -6,7 +6,7 @@ use native.Mathlib.Nat.{mul-comm, mul-le-mul, mul-le-mul-right}
 use native.Mathlib.Omega.{arith}
 use Rattle.model.specs.Lists.{tabulate, sum, product}
 use Rattle.model.specs.Geometry.{cellCount, place}
-use Rattle.model.proofs.ListLaws.{tabulate-same}
+use Rattle.grid_laws.proofs.ListLaws.{tabulate-same}
 use Rattle.geometry.specs.Parts.{part}
 use Rattle.shape.specs.Shapes.{stride}
 use Rattle.geometry.proofs.PartLaws.{part-none, part-more, part-all, part-shift}

@@ -19,13 +19,13 @@ use Rattle.model.specs.Values.{sizesOf, offsetOf, offsetsOf}
 use Rattle.model.specs.Judging.{mostCells, badGrid, badCount, noIteration}
 use Rattle.model.specs.declared.Grid.{Grid}
 use Rattle.model.specs.declared.Window.{Window}
-use Rattle.model.proofs.Rectangles.{iterationCount, iteration, reads}
-use Rattle.model.proofs.Rectangles as rectangle
-use Rattle.model.proofs.ListLaws.{length-tabulate, getD-tabulate, tabulate-same, map-tabulate}
-use Rattle.model.proofs.PlaceLaws.{first-indices}
-use Rattle.model.proofs.Distances.{reads-sum, below-cells}
-use Rattle.model.proofs.ChainLaws.{sizes-sized}
-use Rattle.model.proofs.WholeLaws.{rectangle-count}
+use Rattle.grid_laws.proofs.Rectangles.{iterationCount, iteration, reads}
+use Rattle.grid_laws.proofs.Rectangles as rectangle
+use Rattle.grid_laws.proofs.ListLaws.{length-tabulate, getD-tabulate, tabulate-same, map-tabulate}
+use Rattle.grid_laws.proofs.PlaceLaws.{first-indices}
+use Rattle.grid_laws.proofs.Distances.{reads-sum, below-cells}
+use Rattle.grid_laws.proofs.ChainLaws.{sizes-sized}
+use Rattle.grid_laws.proofs.WholeLaws.{rectangle-count}
 use Rattle.geometry.specs.Parts.{part, numberAt, entryAt, entriesIn, Filled, Lows, placeBy, Small}
 use Rattle.shape.specs.Shapes.{sound, stride, shapeFor, wholeShape, blankShape, shapeOf}
 use Rattle.shape.specs.declared.Shape.{Shape}

@@ -23,10 +23,10 @@ use Rattle.model.specs.declared.Grid.{Grid}
 use Rattle.model.specs.declared.Refusal.the-variants as refusal
 use Rattle.model.specs.declared.Verdict.the-variants as verdict
 use Rattle.model.specs.declared.Window.{Window}
-use Rattle.model.proofs.Rectangles.{iterationCount}
-use Rattle.model.proofs.ListLaws.{getD-tabulate}
-use Rattle.model.proofs.OrderLaws.{equal-is}
-use Rattle.model.proofs.WholeLaws.{rectangle-count}
+use Rattle.grid_laws.proofs.Rectangles.{iterationCount}
+use Rattle.grid_laws.proofs.ListLaws.{getD-tabulate}
+use Rattle.grid_laws.proofs.OrderLaws.{equal-is}
+use Rattle.grid_laws.proofs.WholeLaws.{rectangle-count}
 use Rattle.geometry.specs.Parts.{part, numberAt, offsetAt, Falls}
 use Rattle.shape.specs.Shapes.{shapeFor, wholeShape, blankShape, shapeOf, unsurveyedOf, surveyOf, Whole}
 use Rattle.shape.specs.declared.Shape.{Shape}

@@ -15,7 +15,7 @@ use Rattle.model.specs.Answers.{byVerdict}
 use Rattle.model.specs.Values.{sizesOf, offsetsOf, onRectangle}
 use Rattle.model.specs.Iterations.{courseOf}
 use Rattle.model.specs.Judging.{badGrid, badCount, repeats, noIteration, judgeRectangle}
-use Rattle.model.specs.Kernels.{centreOf}
+use Rattle.model.specs.Windows.{centreOf}
 use Rattle.model.specs.declared.Bounds.{Bounds}
 use Rattle.model.specs.declared.Chain.{Chain}
 use Rattle.model.specs.declared.Grid.{Grid}

@@ -14,10 +14,10 @@ use Rattle.model.specs.Values.{blankChain, requestOf}
 use Rattle.model.specs.Answers.{byVerdict}
 use Rattle.model.specs.Judging.{judgeChain}
 use Rattle.model.specs.Planning.{judgeRequest}
-use Rattle.model.specs.Lines.{lineOf, linesOf}
-use Rattle.model.specs.Frames.{bytesOf}
-use Rattle.model.specs.Reading.{numbersOn, firstNumbers, numbersIn, start, complete, readLines, endVerdict, readChain, readRequest}
-use Rattle.model.specs.Writing.{writeVerdict, writeOf}
+use Rattle.model_sheet.specs.Lines.{lineOf, linesOf}
+use Rattle.model_sheet.specs.Frames.{bytesOf}
+use Rattle.model_sheet.specs.Reading.{numbersOn, firstNumbers, numbersIn, start, complete, readLines, endVerdict, readChain, readRequest}
+use Rattle.model_sheet.specs.Writing.{writeVerdict, writeOf}
 use Rattle.sheet_laws.proofs.LineLaws.{first-line}
 use Rattle.sheet_writer.specs.Laying.{written}
 
@@ -40,18 +40,18 @@ module _ (s : LineStep) (judged : Verdict) where
     unfolding endVerdict
     end-judged e v q = rw (lines, e) (sym q)
 
-module _ (sheet numbers : List ℕ) (s : LineStep) (v : Verdict) (rows : numbers ≡ numbersIn sheet) where
-  pub chain-read : s ≡ readLines true numbers start (linesOf sheet) → endVerdict s (judgeChain (s .reading .chain) numbers) ≡ v
+module _ (sheet rows : List ℕ) (s : LineStep) (v : Verdict) (told : rows ≡ numbersIn sheet) where
+  pub chain-read : s ≡ readLines true rows start (linesOf sheet) → endVerdict s (judgeChain (s .reading .chain) rows) ≡ v
       → record { verdict = v; chain = byVerdict v (s .reading .chain) (λ x. blankChain) } ≡ readChain sheet
   unfolding readChain
-  chain-read e q = rw (← rows, ← e, q)
+  chain-read e q = rw (← told, ← e, q)
 
-  pub request-read : s ≡ readLines false numbers start (linesOf sheet) → endVerdict s (judgeRequest (requestOf (s .reading .chain)) numbers) ≡ v
+  pub request-read : s ≡ readLines false rows start (linesOf sheet) → endVerdict s (judgeRequest (requestOf (s .reading .chain)) rows) ≡ v
       → record { verdict = v; request = requestOf (byVerdict v (s .reading .chain) (λ x. blankChain)) } ≡ readRequest sheet
   unfolding readRequest
-  request-read e q = rw (← rows, ← e, q)
+  request-read e q = rw (← told, ← e, q)
 
-module _ (c : Chain) (numbers out : List ℕ) where
-  pub write-refused : (x : Refusal) → judgeChain c numbers ≡ verdict.Refused x → written (record { verdict = verdict.Refused x; bytes = 0 }) out ≡ writeOf c numbers out
+module _ (c : Chain) (rows out : List ℕ) where
+  pub write-refused : (x : Refusal) → judgeChain c rows ≡ verdict.Refused x → written (record { verdict = verdict.Refused x; bytes = 0 }) out ≡ writeOf c rows out
   unfolding writeOf writeVerdict
   write-refused x e = rw e

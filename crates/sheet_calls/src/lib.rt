@@ -9,8 +9,8 @@ use values::request_of;
 ghost use mathlib.Core.Path.{_≡_};
 ghost use Rattle.model.specs.declared.Verdict.the-variants.{Refused};
 ghost use Rattle.model.specs.Values.{blankChain, requestOf};
-ghost use Rattle.model.specs.Reading.{numbersIn, readChain, readRequest};
-ghost use Rattle.model.specs.Writing.{writeOf};
+ghost use Rattle.model_sheet.specs.Reading.{numbersIn, readChain, readRequest};
+ghost use Rattle.model_sheet.specs.Writing.{writeOf};
 ghost use Rattle.sheet_writer.specs.Laying.{written};
 
 // The numbers on a sheet's first line, behind its row count: the rows of its grid, where it is skewed.
@@ -23,7 +23,7 @@ pub fn rows_of(text: &[u8]) -> [u32; 1024]
 fn refused_chain(n: Refusal) -> ReadChain
     ensures { λ r. ⌜ r ≡ record { verdict = Refused n; chain = blankChain } ⌝ }
 {
-    let b = sheet_lines::begin();
+    let b = sheet_reader::begin();
     let chain = b.chain;
     ReadChain {
         verdict: Verdict::Refused(n),
@@ -36,13 +36,13 @@ pub fn read_chain(text: &[u8]) -> ReadChain
     ensures { λ r. ⌜ r ≡ readChain (now (text .entry)) ⌝ }
 {
     let rows = rows_of(text);
-    let s = sheet_lines::read_lines(true, &rows, text);
+    let s = sheet_reader::read_lines(true, &rows, text);
     let v = s.verdict;
     match v {
         Verdict::Refused(n) => refused_chain(n),
         Verdict::Accepted => {
             let r = s.reading;
-            if !sheet_lines::is_complete(r) {
+            if !sheet_reader::is_complete(r) {
                 return refused_chain(Refusal::Misplaced);
             }
             let chain = r.chain;
@@ -61,7 +61,7 @@ pub fn read_chain(text: &[u8]) -> ReadChain
 fn refused_request(n: Refusal) -> ReadRequest
     ensures { λ r. ⌜ r ≡ record { verdict = Refused n; request = requestOf blankChain } ⌝ }
 {
-    let b = sheet_lines::begin();
+    let b = sheet_reader::begin();
     let chain = b.chain;
     ReadRequest {
         verdict: Verdict::Refused(n),
@@ -74,13 +74,13 @@ pub fn read_request(text: &[u8]) -> ReadRequest
     ensures { λ r. ⌜ r ≡ readRequest (now (text .entry)) ⌝ }
 {
     let rows = rows_of(text);
-    let s = sheet_lines::read_lines(false, &rows, text);
+    let s = sheet_reader::read_lines(false, &rows, text);
     let v = s.verdict;
     match v {
         Verdict::Refused(n) => refused_request(n),
         Verdict::Accepted => {
             let r = s.reading;
-            if !sheet_lines::is_complete(r) {
+            if !sheet_reader::is_complete(r) {
                 return refused_request(Refusal::Misplaced);
             }
             let chain = r.chain;

@@ -5,7 +5,7 @@ use native.Mathlib.Omega.{arith}
 use lib.IntN.{ℤ, pos, negsuc, _+ℤ_, _-ℤ_}
 use lib.Signed.{mag}
 use borrow.Author.Tests.{le-ltb, lt-ltb}
-use Rattle.model.specs.Numbers.{signed, pattern, signedWord, wordPattern}
+use Rattle.model_sheet.specs.Numbers.{signed, pattern, signedWord, wordPattern}
 
 pub signed-low : (w : ℕ) → w < 32768 → pos w ≡ signed w
 unfolding signed

@@ -13,9 +13,9 @@ use lib.Seq.{sets, drop-cons, ext-getD, getD-set-same, getD-set-other}
 use borrow.Author.Tests.{ne-eqb, lt-ltb, le-ltb}
 use Rattle.model.specs.declared.Kernel.the-variants as kernel
 use Rattle.model.specs.Lists.{tabulate}
-use Rattle.model.specs.Numbers.{byteAt, halfAt, wordAt, signed, signedWord}
-use Rattle.model.specs.Reading.{sizesIn, entriesIn, lowestIn, highestIn, filtersIn, kernelIn}
-use Rattle.model.proofs.ListLaws.{length-tabulate, getD-tabulate}
+use Rattle.model_sheet.specs.Numbers.{byteAt, halfAt, wordAt, signed, signedWord}
+use Rattle.model_sheet.specs.Reading.{sizesIn, entriesIn, lowestIn, highestIn, filtersIn, kernelIn}
+use Rattle.grid_laws.proofs.ListLaws.{length-tabulate, getD-tabulate}
 
 -- Entries of xs put in one after the other: entry t in place i of l, and no more of them.
 module _ (xs l : List ℕ) (i t : ℕ) where

@@ -6,8 +6,8 @@ use values::lesser;
 ghost use mathlib.Core.Path.{_≡_};
 ghost use Prim.Native.Nat.{_+_, _*_};
 ghost use lib.Ieee.{ofBits, toBits, binary32};
-ghost use Rattle.model.specs.Numbers.{halfAt, wordAt, signed, pattern, signedWord, wordPattern};
-ghost use Rattle.model.specs.Reading.{sizesIn, entriesIn, lowestIn, highestIn, filtersIn, kernelIn};
+ghost use Rattle.model_sheet.specs.Numbers.{halfAt, wordAt, signed, pattern, signedWord, wordPattern};
+ghost use Rattle.model_sheet.specs.Reading.{sizesIn, entriesIn, lowestIn, highestIn, filtersIn, kernelIn};
 
 // Four bytes, most significant first.
 fn word(a: u8, b: u8, c: u8, d: u8) -> u32

@@ -9,7 +9,7 @@ use lib.ListN.{length, drop, getD, set, drop-of-length-le}
 use lib.Seq.{drop-cons}
 use borrow.Author.Tests.{lt-ltb, le-ltb}
 use Rattle.model.specs.declared.Frame.{Frame}
-use Rattle.model.specs.Frames.{isDigit, valueOf, kept, counted, pushed, fed, feeds}
+use Rattle.model_sheet.specs.Frames.{isDigit, valueOf, kept, counted, pushed, fed, feeds}
 
 module _ (f : Frame) (c : ℕ) where
   pub fed-other : isDigit c ≡ false → record { first = f .first; len = f .len; sound = false; half = f .half; high = f .high } ≡ fed f c

@@ -11,11 +11,11 @@ use lib.Seq.{drop-cons, set-out}
 use borrow.Author.Tests.{le-leb, lt-leb, lt-ltb, le-ltb, eq-eqb, ne-eqb}
 use Rattle.model.specs.declared.Frame.{Frame}
 use Rattle.model.specs.Lists.{tabulate}
-use Rattle.model.specs.Frames.{isDigit, valueOf, bytesOf, counted, pushed, fed, rowNumbers, withHalf, numbersFed, numbersFeeds}
-use Rattle.model.specs.Numbers.{byteAt, halfAt}
-use Rattle.model.specs.Reading.{numbersOn}
-use Rattle.model.proofs.ListLaws.{tabulate-same}
-use Rattle.model.proofs.NumberLaws.{numbers-table}
+use Rattle.model_sheet.specs.Frames.{isDigit, valueOf, bytesOf, counted, pushed, fed, rowNumbers, withHalf, numbersFed, numbersFeeds}
+use Rattle.model_sheet.specs.Numbers.{byteAt, halfAt}
+use Rattle.model_sheet.specs.Reading.{numbersOn}
+use Rattle.grid_laws.proofs.ListLaws.{tabulate-same}
+use Rattle.model_sheet.proofs.NumberLaws.{numbers-table}
 use Rattle.sheet_laws.proofs.Cases.{by-bool, by-eq, by-lt}
 use Rattle.sheet_laws.proofs.NumbersLaws.{set-table, zero-table}
 

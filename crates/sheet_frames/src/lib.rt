@@ -6,10 +6,10 @@ ghost use mathlib.Core.Bool.{true, cond};
 ghost use Prim.Native.Nat.{_+_, _-_, _*_, _/_, _≤_, _<_};
 ghost use lib.Dec.{leb};
 ghost use lib.ListN.{length, drop};
-ghost use Rattle.model.specs.Lines.{lineOf};
-ghost use Rattle.model.specs.Frames.{isDigit, valueOf, bytesOf, emptyFrame, fed, feeds, withHalf, numbersFeeds};
-ghost use Rattle.model.specs.Numbers.{byteAt};
-ghost use Rattle.model.specs.Reading.{numbersOn};
+ghost use Rattle.model_sheet.specs.Lines.{lineOf};
+ghost use Rattle.model_sheet.specs.Frames.{isDigit, valueOf, bytesOf, emptyFrame, fed, feeds, withHalf, numbersFeeds};
+ghost use Rattle.model_sheet.specs.Numbers.{byteAt};
+ghost use Rattle.model_sheet.specs.Reading.{numbersOn};
 
 const LINE_FEED: u8 = b'\n';
 

@@ -14,8 +14,8 @@ use Rattle.model.specs.Lists.{tabulate, any}
 use Rattle.model.specs.Grounds.Ground.{rectangle}
 use Rattle.model.specs.Values.{sizesOf, rowsOf, groundOf, dimsOf, orderOf, trimmed}
 use Rattle.model.specs.Judging.{badDims, badSizes, badGrid, badRow, badRowCount, badRows, badGround, badCount, badFactor, badOrder, judged, judgeChain}
-use Rattle.model.proofs.ChainLaws.{rows-count, ground-flat, dims-skewed, ground-skewed}
-use Rattle.model.proofs.CheckLaws.{value-passes}
+use Rattle.grid_laws.proofs.ChainLaws.{rows-count, ground-flat, dims-skewed, ground-skewed}
+use Rattle.grid_laws.proofs.CheckLaws.{value-passes}
 use Rattle.sheet_laws.proofs.Cases.{by-bool, or-false}
 use Rattle.sheet_laws.proofs.AcceptedLines.{dims-in-order, rows-in-order}
 
@@ -34,35 +34,35 @@ row-in-order start length h =
     let l = or-false (eqb length 0) (ltb 1024 length) (s .1) in
     (ltb-false 4095 start (s .0), omega (arith, eqb-false length 0 (l .0)), ltb-false 1024 length (l .1))
 
-module _ (n : ℕ) (numbers : List ℕ) where
-  module _ (none : any badRow (rowsOf n numbers) ≡ false) (i : ℕ) (h : i < n) where
-    fits : (getD numbers (2 * i) 0 ≤ 4095) × (0 < getD numbers (2 * i + 1) 0) × (getD numbers (2 * i + 1) 0 ≤ 1024)
+module _ (n : ℕ) (rows : List ℕ) where
+  module _ (none : any badRow (rowsOf n rows) ≡ false) (i : ℕ) (h : i < n) where
+    fits : (getD rows (2 * i) 0 ≤ 4095) × (0 < getD rows (2 * i + 1) 0) × (getD rows (2 * i + 1) 0 ≤ 1024)
     unfolding rowsOf
-    fits = row-in-order _ _ (none-of badRow n (λ (i : ℕ). record { start = getD numbers (2 * i) 0; length = getD numbers (2 * i + 1) 0 }) none i h)
+    fits = row-in-order _ _ (none-of badRow n (λ (i : ℕ). record { start = getD rows (2 * i) 0; length = getD rows (2 * i + 1) 0 }) none i h)
 
-    pub start-fits : getD numbers (2 * i) 0 ≤ 4095
+    pub start-fits : getD rows (2 * i) 0 ≤ 4095
     start-fits = fits .0
 
-    pub some-cells : 0 < getD numbers (2 * i + 1) 0
+    pub some-cells : 0 < getD rows (2 * i + 1) 0
     some-cells = fits .1
 
-    pub length-fits : getD numbers (2 * i + 1) 0 ≤ 1024
+    pub length-fits : getD rows (2 * i + 1) 0 ≤ 1024
     length-fits = fits .2
 
   -- Any number of a row.
-  pub number-fits : any badRow (rowsOf n numbers) ≡ false → (i : ℕ) → i < 2 * n → getD numbers i 0 ≤ 4095
+  pub number-fits : any badRow (rowsOf n rows) ≡ false → (i : ℕ) → i < 2 * n → getD rows i 0 ≤ 4095
   number-fits none i h = go (i % 2) (i / 2) (omega arith) (omega arith)
     where
-      go : (r q : ℕ) → i ≡ 2 * q + r → r < 2 → getD numbers i 0 ≤ 4095
+      go : (r q : ℕ) → i ≡ 2 * q + r → r < 2 → getD rows i 0 ≤ 4095
       go zero q e l = let f : i ≡ 2 * q = omega arith in rw f (start-fits none q (omega arith))
       go (suc zero) q e l = rw e (omega (arith, length-fits none q (omega arith)))
       go (suc (suc r)) q e l = absurd (omega arith)
 
   -- The rows of a grid.
-  module _ (fine : badRows (rowsOf n numbers) ≡ false) where
-    both : (badRowCount n ≡ false) × (any badRow (rowsOf n numbers) ≡ false)
+  module _ (fine : badRows (rowsOf n rows) ≡ false) where
+    both : (badRowCount n ≡ false) × (any badRow (rowsOf n rows) ≡ false)
     unfolding badRows
-    both = or-false (badRowCount n) (any badRow (rowsOf n numbers)) (ap (λ (k : ℕ). badRowCount k || any badRow (rowsOf n numbers)) (sym (rows-count n numbers)) ∙ fine)
+    both = or-false (badRowCount n) (any badRow (rowsOf n rows)) (ap (λ (k : ℕ). badRowCount k || any badRow (rowsOf n rows)) (sym (rows-count n rows)) ∙ fine)
 
     pub some-rows : 0 < n
     some-rows = rows-in-order n (both .0) .0
@@ -70,40 +70,40 @@ module _ (n : ℕ) (numbers : List ℕ) where
     pub few-rows : n ≤ 512
     few-rows = rows-in-order n (both .0) .1
 
-    pub no-bad-row : any badRow (rowsOf n numbers) ≡ false
+    pub no-bad-row : any badRow (rowsOf n rows) ≡ false
     no-bad-row = both .1
 
 -- A grid that 3 and 16 let pass: of a rectangle the sizes, and of any the dimension count.
-module _ (g : Grid) (numbers : List ℕ) (fine : badGround (dimsOf g) (groundOf g numbers) ≡ false) where
+module _ (g : Grid) (rows : List ℕ) (fine : badGround (dimsOf g) (groundOf g rows) ≡ false) where
   flat-in-order : g .skewed ≡ false → (badDims (dimsOf g) ≡ false) × (badSizes (sizesOf g) ≡ false)
   unfolding badGrid
   flat-in-order e =
-      let grid : badGround (dimsOf g) (rectangle (sizesOf g)) ≡ false = rw (ground-flat g e numbers) at fine in
+      let grid : badGround (dimsOf g) (rectangle (sizesOf g)) ≡ false = rw (ground-flat g e rows) at fine in
       or-false (badDims (dimsOf g)) (badSizes (sizesOf g)) grid
 
   grid-dims : (0 < dimsOf g) × (dimsOf g ≤ 4)
   grid-dims = by-bool (g .skewed) (λ e. rw (dims-skewed g e) (omega arith, omega arith)) (λ e. dims-in-order (dimsOf g) (flat-in-order e .0))
 
-pub record Accepted (c : Chain) (numbers : List ℕ) : Type 0 where
+pub record Accepted (c : Chain) (rows : List ℕ) : Type 0 where
   pub some-dims : 0 < dimsOf (c .grid)
   pub few-dims : dimsOf (c .grid) ≤ 4
   pub sizes : c .grid .skewed ≡ false → badSizes (sizesOf (c .grid)) ≡ false
-  pub rows : c .grid .skewed ≡ true → badRows (rowsOf (c .grid .rows) numbers) ≡ false
+  pub good-rows : c .grid .skewed ≡ true → badRows (rowsOf (c .grid .rows) rows) ≡ false
   pub some : 0 < c .window .count
   pub few : c .window .count ≤ 32
   pub factors : badFactor (c .kernel) ≡ false
   pub once : badOrder (c .window .count) (orderOf (c .window .count) (c .order)) ≡ false
 
-pub accepted-chain : (c : Chain) (numbers : List ℕ) → judgeChain c numbers ≡ verdict.Accepted → Accepted c numbers
+pub accepted-chain : (c : Chain) (rows : List ℕ) → judgeChain c rows ≡ verdict.Accepted → Accepted c rows
 unfolding judgeChain judged trimmed badCount
-accepted-chain c numbers h =
-    let p = value-passes (trimmed c numbers) h in
+accepted-chain c rows h =
+    let p = value-passes (trimmed c rows) h in
     let n = or-false (eqb (c .window .count) 0) (ltb 32 (c .window .count)) (p .window .count) in
     record {
-      some-dims = grid-dims (c .grid) numbers (p .window .grid) .0;
-      few-dims = grid-dims (c .grid) numbers (p .window .grid) .1;
-      sizes = λ e. flat-in-order (c .grid) numbers (p .window .grid) e .1;
-      rows = λ e. rw (ground-skewed (c .grid) e numbers) at (p .window .grid);
+      some-dims = grid-dims (c .grid) rows (p .window .grid) .0;
+      few-dims = grid-dims (c .grid) rows (p .window .grid) .1;
+      sizes = λ e. flat-in-order (c .grid) rows (p .window .grid) e .1;
+      good-rows = λ e. rw (ground-skewed (c .grid) e rows) at (p .window .grid);
       some = omega (arith, eqb-false (c .window .count) 0 (n .0));
       few = ltb-false 32 (c .window .count) (n .1);
       factors = p .kernel .factors;

@@ -17,12 +17,12 @@ use Rattle.model.specs.Lists.{any}
 use Rattle.model.specs.Values.{rowsOf, dimsOf}
 use Rattle.model.specs.Answers.{Check, check, firstOf, byVerdict}
 use Rattle.model.specs.Judging.{badDims, badSizes, badRow, badRowCount}
-use Rattle.model.specs.Frames.{Seen}
-use Rattle.model.specs.Numbers.{byteAt}
-use Rattle.model.specs.NamedWindows.{badName}
-use Rattle.model.specs.Reading.{kindOf, secondOf, rowCountOf, badKernel, badForm, malformed, badLength, sizesIn, lineChecks, lineVerdict}
-use Rattle.model.specs.Reading.{nextInRequest, nextInChain, miscounted, among, misplaced, closes, complete}
-use Rattle.model.specs.Reading.{taken, withGrid, withRows, withOffset, withName, withBox, withCapacity, withOrder, withKernel}
+use Rattle.model_sheet.specs.Frames.{Seen}
+use Rattle.model_sheet.specs.Numbers.{byteAt}
+use Rattle.model_sheet.specs.NamedWindows.{badName}
+use Rattle.model_sheet.specs.Reading.{kindOf, secondOf, rowCountOf, badKernel, badForm, malformed, badLength, sizesIn, lineChecks, lineVerdict}
+use Rattle.model_sheet.specs.Reading.{nextInRequest, nextInChain, miscounted, among, misplaced, closes, complete}
+use Rattle.model_sheet.specs.Reading.{taken, withGrid, withRows, withOffset, withName, withBox, withCapacity, withOrder, withKernel}
 use Rattle.sheet_laws.proofs.Cases.{by-eq, never, of-kind, both, neither, or-false}
 
 -- A refusal is no acceptance.
@@ -48,19 +48,19 @@ pub data BehindWindow (chainSheet : Bool) (last : Last) : Type 0 where
   named : chainSheet ≡ false → last ≡ stood.Name → BehindWindow chainSheet last
 
 -- A line that is not turned back: one case for each kind, with what was checked of it.
-pub data Admitted (chainSheet : Bool) (numbers : List ℕ) (r : Reading) (l : Seen) : Type 0 where
+pub data Admitted (chainSheet : Bool) (rows : List ℕ) (r : Reading) (l : Seen) : Type 0 where
   grid : kindOf l ≡ 1 → r .last ≡ stood.Nothing → 0 < secondOf l → secondOf l ≤ 4 → l .len ≡ 2 + 4 * secondOf l
-      → badSizes (take (secondOf l) (sizesIn (l .first))) ≡ false → Admitted chainSheet numbers r l
-  rows : kindOf l ≡ 9 → r .last ≡ stood.Nothing → 0 < rowCountOf l → rowCountOf l ≤ 512 → l .len ≡ 3 + 4 * rowCountOf l
-      → any badRow (rowsOf (rowCountOf l) numbers) ≡ false → Admitted chainSheet numbers r l
-  offset : kindOf l ≡ 2 → (r .last ≡ stood.Grid) ⊎ (r .last ≡ stood.Offset) → l .len ≡ 1 + 2 * dimsOf (r .chain .grid) → r .chain .window .count < 32 → Admitted chainSheet numbers r l
-  box : kindOf l ≡ 8 → (r .last ≡ stood.Offset) ⊎ ((chainSheet ≡ false) × (r .last ≡ stood.Name)) → l .len ≡ 1 + 8 * dimsOf (r .chain .grid) → Admitted chainSheet numbers r l
-  capacity : kindOf l ≡ 3 → BehindOffsets (r .last) → chainSheet ≡ true → r .given + 1 < r .chain .window .count → l .len ≡ 5 → Admitted chainSheet numbers r l
+      → badSizes (take (secondOf l) (sizesIn (l .first))) ≡ false → Admitted chainSheet rows r l
+  skewedGrid : kindOf l ≡ 9 → r .last ≡ stood.Nothing → 0 < rowCountOf l → rowCountOf l ≤ 512 → l .len ≡ 3 + 4 * rowCountOf l
+      → any badRow (rowsOf (rowCountOf l) rows) ≡ false → Admitted chainSheet rows r l
+  offset : kindOf l ≡ 2 → (r .last ≡ stood.Grid) ⊎ (r .last ≡ stood.Offset) → l .len ≡ 1 + 2 * dimsOf (r .chain .grid) → r .chain .window .count < 32 → Admitted chainSheet rows r l
+  box : kindOf l ≡ 8 → (r .last ≡ stood.Offset) ⊎ ((chainSheet ≡ false) × (r .last ≡ stood.Name)) → l .len ≡ 1 + 8 * dimsOf (r .chain .grid) → Admitted chainSheet rows r l
+  capacity : kindOf l ≡ 3 → BehindOffsets (r .last) → chainSheet ≡ true → r .given + 1 < r .chain .window .count → l .len ≡ 5 → Admitted chainSheet rows r l
   order : kindOf l ≡ 6 → BehindOffsets (r .last) → chainSheet ≡ true → r .chain .window .count ≡ r .given + 1
-      → l .len ≡ 1 + r .chain .window .count → Admitted chainSheet numbers r l
+      → l .len ≡ 1 + r .chain .window .count → Admitted chainSheet rows r l
   kernel : kindOf l ≡ 4 → BehindWindow chainSheet (r .last) → (chainSheet ≡ true → r .chain .window .count ≡ r .given + 1)
-      → badKernel (l .len) (secondOf l) ≡ false → Admitted chainSheet numbers r l
-  name : kindOf l ≡ 7 → r .last ≡ stood.Grid → chainSheet ≡ false → l .len ≡ 2 → badName (secondOf l) (dimsOf (r .chain .grid)) ≡ false → Admitted chainSheet numbers r l
+      → badKernel (l .len) (secondOf l) ≡ false → Admitted chainSheet rows r l
+  name : kindOf l ≡ 7 → r .last ≡ stood.Grid → chainSheet ≡ false → l .len ≡ 2 → badName (secondOf l) (dimsOf (r .chain .grid)) ≡ false → Admitted chainSheet rows r l
 
 -- The tests that came out false, on plain numbers.
 module _ (sound : Bool) (len kind second : ℕ) (h : malformed sound len kind second ≡ false) where
@@ -293,9 +293,9 @@ module _ (len kind second rowCount dims count : ℕ) (h : badLength len kind sec
   unfolding badLength
   box-length e = eqb-true len _ (not-false _ (rw e at h))
 
-pub admitted : (chainSheet : Bool) (numbers : List ℕ) (r : Reading) (l : Seen) → lineVerdict chainSheet numbers r l ≡ verdict.Accepted → (l .sound ≡ true) × Admitted chainSheet numbers r l
+pub admitted : (chainSheet : Bool) (rows : List ℕ) (r : Reading) (l : Seen) → lineVerdict chainSheet rows r l ≡ verdict.Accepted → (l .sound ≡ true) × Admitted chainSheet rows r l
 unfolding lineVerdict lineChecks
-admitted chainSheet numbers r l h =
+admitted chainSheet rows r l h =
     let form = clear _ _ _ h in
     let place = clear _ _ _ (form .1) in
     let dims = clear _ _ _ (place .1) in
@@ -313,10 +313,10 @@ admitted chainSheet numbers r l h =
         → (eqb (kindOf l) 9 && badRowCount (rowCountOf l)) ≡ false
         → badLength (l .len) (kindOf l) (secondOf l) (rowCountOf l) (dimsOf (r .chain .grid)) (r .chain .window .count) ≡ false
         → (eqb (kindOf l) 1 && badSizes (take (secondOf l) (sizesIn (l .first)))) ≡ false
-        → (eqb (kindOf l) 9 && any badRow (rowsOf (rowCountOf l) numbers)) ≡ false
+        → (eqb (kindOf l) 9 && any badRow (rowsOf (rowCountOf l) rows)) ≡ false
         → (eqb (kindOf l) 2 && leb 32 (r .chain .window .count)) ≡ false
         → (eqb (kindOf l) 7 && badName (secondOf l) (dimsOf (r .chain .grid))) ≡ false
-        → (l .sound ≡ true) × Admitted chainSheet numbers r l
+        → (l .sound ≡ true) × Admitted chainSheet rows r l
     go form place dims lines size sizes cells many names =
         let given = r .given in
         let count = r .chain .window .count in (
@@ -339,7 +339,7 @@ admitted chainSheet numbers r l h =
               (λ e. box e (placed-box given count chainSheet (r .last) (rw e at place)) (box-length _ _ _ _ _ _ size e))
               (λ n8. by-eq (kindOf l) 9
               (λ e. let d = rows-in-order _ (of-kind _ 9 _ lines e) in
-              rows e (placed-rows given count chainSheet (r .last) (rw e at place)) (d .0) (d .1) (rows-length _ _ _ _ _ _ size e) (of-kind _ 9 _ cells e))
+              skewedGrid e (placed-rows given count chainSheet (r .last) (rw e at place)) (d .0) (d .1) (rows-length _ _ _ _ _ _ size e) (of-kind _ 9 _ cells e))
               (λ n9. let e = formed-cell _ _ _ _ form n1 n2 n3 n4 n6 n7 n8 n9 in absurd (never-cell given count chainSheet (r .last) (rw e at place)))))))))),
         )
 
@@ -350,20 +350,20 @@ not-closed (offsets e) = ap closes e
 not-closed (bounds e) = ap closes e
 not-closed (capacities e) = ap closes e
 
-pub not-complete : (chainSheet : Bool) (numbers : List ℕ) (r : Reading) (l : Seen) → Admitted chainSheet numbers r l → complete r ≡ false
+pub not-complete : (chainSheet : Bool) (rows : List ℕ) (r : Reading) (l : Seen) → Admitted chainSheet rows r l → complete r ≡ false
 unfolding complete closes
-not-complete chainSheet numbers r l (grid e last some few len sizes) = ap closes last
-not-complete chainSheet numbers r l (rows e last some few len cells) = ap closes last
-not-complete chainSheet numbers r l (offset e (inl last) len count) = ap closes last
-not-complete chainSheet numbers r l (offset e (inr last) len count) = ap closes last
-not-complete chainSheet numbers r l (box e (inl last) len) = ap closes last
-not-complete chainSheet numbers r l (box e (inr (request, last)) len) = ap closes last
-not-complete chainSheet numbers r l (capacity e behind chain given len) = not-closed behind
-not-complete chainSheet numbers r l (order e behind chain given len) = not-closed behind
-not-complete chainSheet numbers r l (kernel e (filters behind) given form) = not-closed behind
-not-complete chainSheet numbers r l (kernel e (terms chain last) given form) = ap closes last
-not-complete chainSheet numbers r l (kernel e (named request last) given form) = ap closes last
-not-complete chainSheet numbers r l (name e last request len ok) = ap closes last
+not-complete chainSheet rows r l (grid e last some few len sizes) = ap closes last
+not-complete chainSheet rows r l (skewedGrid e last some few len cells) = ap closes last
+not-complete chainSheet rows r l (offset e (inl last) len count) = ap closes last
+not-complete chainSheet rows r l (offset e (inr last) len count) = ap closes last
+not-complete chainSheet rows r l (box e (inl last) len) = ap closes last
+not-complete chainSheet rows r l (box e (inr (request, last)) len) = ap closes last
+not-complete chainSheet rows r l (capacity e behind chain given len) = not-closed behind
+not-complete chainSheet rows r l (order e behind chain given len) = not-closed behind
+not-complete chainSheet rows r l (kernel e (filters behind) given form) = not-closed behind
+not-complete chainSheet rows r l (kernel e (terms chain last) given form) = ap closes last
+not-complete chainSheet rows r l (kernel e (named request last) given form) = ap closes last
+not-complete chainSheet rows r l (name e last request len ok) = ap closes last
 
 -- What a line of each kind adds.
 module _ (r : Reading) (x : List ℕ) where

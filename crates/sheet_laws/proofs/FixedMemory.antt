@@ -14,15 +14,15 @@ use Rattle.model.specs.declared.Verdict.the-variants as verdict
 use Rattle.model.specs.Values.{dimsOf}
 use Rattle.model.specs.Answers.{Check, check, firstOf, byVerdict}
 use Rattle.model.specs.Judging.{badDims, badRowCount}
-use Rattle.model.specs.Frames.{counted, Seen, seenOf, emptyFrame, feeds, shown}
-use Rattle.model.specs.Numbers.{byteAt, halfAt}
-use Rattle.model.specs.Reading.{badKernel, badForm, malformed, badLength, lineChecks, lineVerdict}
-use Rattle.model.specs.Reading.{taken, withGrid, withRows, withOffset, withName, withBox, withCapacity, withOrder, withKernel, stepOf, start, cellVerdict}
-use Rattle.model.proofs.NameLaws.{few-references}
+use Rattle.model_sheet.specs.Frames.{counted, Seen, seenOf, emptyFrame, feeds, shown}
+use Rattle.model_sheet.specs.Numbers.{byteAt, halfAt}
+use Rattle.model_sheet.specs.Reading.{badKernel, badForm, malformed, badLength, lineChecks, lineVerdict}
+use Rattle.model_sheet.specs.Reading.{taken, withGrid, withRows, withOffset, withName, withBox, withCapacity, withOrder, withKernel, stepOf, start, cellVerdict}
+use Rattle.model_sheet.proofs.NameLaws.{few-references}
 use Rattle.sheet_laws.proofs.Cases.{by-bool, by-eq, by-lt, of-kind}
 use Rattle.sheet_laws.proofs.FrameLaws.{capped, capped-few, capped-many, seen-alike}
 use Rattle.sheet_laws.proofs.AcceptedLines.{Admitted, admitted, dims-in-order, rows-in-order, taken-grid, taken-rows, taken-offset, taken-name, taken-box, taken-capacity, taken-order, taken-kernel}
-use Rattle.sheet_laws.proofs.AcceptedLines.Admitted.{grid, rows, offset, box, capacity, order, kernel, name}
+use Rattle.sheet_laws.proofs.AcceptedLines.Admitted.{grid, skewedGrid, offset, box, capacity, order, kernel, name}
 
 -- What the lengths of lines hang on is small.
 pub record Bounded (r : Reading) : Type 0 where
@@ -76,10 +76,10 @@ behind-fourth : (a b c : Check) (m : Refusal) (xs ys : List Check) → firstOf (
 unfolding firstOf
 behind-fourth a b c m xs ys = refl
 
-cap-verdict : (chainSheet : Bool) (numbers : List ℕ) (r : Reading) (n : ℕ) (x : List ℕ) → Bounded r
-    → lineVerdict chainSheet numbers r (record { sound = true; len = capped n; first = x }) ≡ lineVerdict chainSheet numbers r (record { sound = true; len = n; first = x })
+cap-verdict : (chainSheet : Bool) (rows : List ℕ) (r : Reading) (n : ℕ) (x : List ℕ) → Bounded r
+    → lineVerdict chainSheet rows r (record { sound = true; len = capped n; first = x }) ≡ lineVerdict chainSheet rows r (record { sound = true; len = n; first = x })
 unfolding lineVerdict lineChecks
-cap-verdict chainSheet numbers r n x h =
+cap-verdict chainSheet rows r n x h =
     let kind = byteAt x 0 in
     let second = byteAt x 1 in
     let rowCount = halfAt x 1 in
@@ -89,22 +89,22 @@ cap-verdict chainSheet numbers r n x h =
     (λ c. rw (cap-malformed true n kind second, c) (behind-fourth _ _ _ refusal.BadRows _ _))
     (λ c. rw (cap-malformed true n kind second, cap-length n kind second rowCount (dimsOf (r .chain .grid)) (r .chain .window .count) (h .dims) (h .count) b c)))
 
-pub unsound-verdict : (chainSheet : Bool) (numbers : List ℕ) (r : Reading) (l : Seen) → l .sound ≡ false → lineVerdict chainSheet numbers r l ≡ verdict.Refused refusal.Malformed
+pub unsound-verdict : (chainSheet : Bool) (rows : List ℕ) (r : Reading) (l : Seen) → l .sound ≡ false → lineVerdict chainSheet rows r l ≡ verdict.Refused refusal.Malformed
 unfolding lineVerdict lineChecks malformed firstOf
-unsound-verdict chainSheet numbers r l h = rw h
+unsound-verdict chainSheet rows r l h = rw h
 
 pub unsound-cell : (l : Seen) → l .sound ≡ false → cellVerdict l ≡ verdict.Refused refusal.Malformed
 unfolding cellVerdict malformed firstOf
 unsound-cell l h = rw h
 
 -- A line of a sheet.
-pub fixed-memory : (chainSheet : Bool) (numbers : List ℕ) (r : Reading) (ds : List ℕ) → Bounded r
-    → stepOf chainSheet numbers r (shown (feeds emptyFrame ds)) ≡ stepOf chainSheet numbers r (seenOf true ds)
+pub fixed-memory : (chainSheet : Bool) (rows : List ℕ) (r : Reading) (ds : List ℕ) → Bounded r
+    → stepOf chainSheet rows r (shown (feeds emptyFrame ds)) ≡ stepOf chainSheet rows r (seenOf true ds)
 unfolding stepOf
-fixed-memory chainSheet numbers r ds h =
-    seen-alike (λ l. stepOf chainSheet numbers r l) ds
-    (λ s t p q. rw (unsound-verdict chainSheet numbers r s p, unsound-verdict chainSheet numbers r t q))
-    (λ n x. rw (cap-verdict chainSheet numbers r n x h))
+fixed-memory chainSheet rows r ds h =
+    seen-alike (λ l. stepOf chainSheet rows r l) ds
+    (λ s t p q. rw (unsound-verdict chainSheet rows r s p, unsound-verdict chainSheet rows r t q))
+    (λ n x. rw (cap-verdict chainSheet rows r n x h))
 
 -- A line where a cell is wanted.
 pub fixed-memory-cell : (ds : List ℕ) → cellVerdict (shown (feeds emptyFrame ds)) ≡ cellVerdict (seenOf true ds)
@@ -115,19 +115,19 @@ fixed-memory-cell ds =
     (λ n x. rw (cap-malformed true n (byteAt x 0) (byteAt x 1)))
 
 -- A line without its LF is turned back by 1.
-pub no-line-feed : (chainSheet : Bool) (numbers : List ℕ) (r : Reading) (ds : List ℕ)
-    → stepOf chainSheet numbers r (seenOf false ds) ≡ record { verdict = verdict.Refused refusal.Malformed; reading = r }
+pub no-line-feed : (chainSheet : Bool) (rows : List ℕ) (r : Reading) (ds : List ℕ)
+    → stepOf chainSheet rows r (seenOf false ds) ≡ record { verdict = verdict.Refused refusal.Malformed; reading = r }
 unfolding stepOf
-no-line-feed chainSheet numbers r ds = rw (unsound-verdict chainSheet numbers r (seenOf false ds) refl)
+no-line-feed chainSheet rows r ds = rw (unsound-verdict chainSheet rows r (seenOf false ds) refl)
 
 -- What was read stays small.
-pub keeps-bounded : (chainSheet : Bool) (numbers : List ℕ) (r : Reading) (l : Seen) → Bounded r → Bounded (stepOf chainSheet numbers r l .reading)
+pub keeps-bounded : (chainSheet : Bool) (rows : List ℕ) (r : Reading) (l : Seen) → Bounded r → Bounded (stepOf chainSheet rows r l .reading)
 unfolding stepOf dimsOf withGrid withRows withOffset withName withBox withCapacity withOrder withKernel
-keeps-bounded chainSheet numbers r l h = go (lineVerdict chainSheet numbers r l) refl
+keeps-bounded chainSheet rows r l h = go (lineVerdict chainSheet rows r l) refl
   where
-    by : Admitted chainSheet numbers r l → Bounded (taken r (l .first))
+    by : Admitted chainSheet rows r l → Bounded (taken r (l .first))
     by (grid e last some few len sizes) = rw (taken-grid _ _ e) (record { dims = few; count = h .count })
-    by (rows e last some few len cells) = rw (taken-rows _ _ e) (record { dims = omega arith; count = h .count })
+    by (skewedGrid e last some few len cells) = rw (taken-rows _ _ e) (record { dims = omega arith; count = h .count })
     by (offset e last len count) = rw (taken-offset _ _ e) (record { dims = h .dims; count = omega arith })
     by (box e last len) = rw (taken-box _ _ e) (record { dims = h .dims; count = h .count })
     by (capacity e last chain given len) = rw (taken-capacity _ _ e) (record { dims = h .dims; count = h .count })
@@ -135,6 +135,6 @@ keeps-bounded chainSheet numbers r l h = go (lineVerdict chainSheet numbers r l)
     by (kernel e last given form) = rw (taken-kernel _ _ e) (record { dims = h .dims; count = h .count })
     by (name e last request len ok) = rw (taken-name _ _ e) (record { dims = h .dims; count = few-references (byteAt (l .first) 1) })
 
-    go : (v : Verdict) → lineVerdict chainSheet numbers r l ≡ v → Bounded (byVerdict v (taken r (l .first)) (λ x. r))
-    go verdict.Accepted e = by (admitted chainSheet numbers r l e .1)
+    go : (v : Verdict) → lineVerdict chainSheet rows r l ≡ v → Bounded (byVerdict v (taken r (l .first)) (λ x. r))
+    go verdict.Accepted e = by (admitted chainSheet rows r l e .1)
     go (verdict.Refused x) e = h

@@ -10,7 +10,7 @@ use lib.ListN.{length, take, set, replicate, length-append}
 use lib.Seq.{take-set-lt, set-at, take-append-add, take-append-le}
 use borrow.Author.Tests.{lt-ltb, le-ltb, le-leb, lt-leb}
 use Rattle.model.specs.declared.Frame.{Frame}
-use Rattle.model.specs.Frames.{isDigit, valueOf, whole, bytesOf, kept, counted, padded, Seen, seenOf, emptyFrame, pushed, fed, feeds, shown}
+use Rattle.model_sheet.specs.Frames.{isDigit, valueOf, whole, bytesOf, kept, counted, padded, Seen, seenOf, emptyFrame, pushed, fed, feeds, shown}
 use Rattle.sheet_laws.proofs.Cases.{by-bool, by-lt, never, and-true}
 
 -- A number of bytes, counted no further than a frame does.

@@ -6,5 +6,5 @@ pub mod AcceptedChains
 pub mod FixedMemory
 pub mod NumbersLaws
 pub mod ReadingLaws
-pub mod SheetRows
+pub mod SheetSections
 pub mod SheetLength

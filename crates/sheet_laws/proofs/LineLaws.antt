@@ -8,7 +8,7 @@ use lib.Dec.{ltb, leb·suc-suc}
 use lib.ListN.{length, take, drop, getD, drop-of-length-le}
 use lib.Seq.{drop-cons, drop-length}
 use borrow.Author.Tests.{eq-eqb, ne-eqb, lt-ltb}
-use Rattle.model.specs.Lines.{Line, lineFeed, lineOf, linesOf, into}
+use Rattle.model_sheet.specs.Lines.{Line, lineFeed, lineOf, linesOf, into}
 use Rattle.sheet_laws.proofs.Cases.{by-eq}
 
 -- A line is the front of the bytes.

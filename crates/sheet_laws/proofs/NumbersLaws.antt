@@ -13,11 +13,11 @@ use Rattle.model.specs.declared.Frame.{Frame}
 use Rattle.model.specs.declared.Reading.{Reading}
 use Rattle.model.specs.declared.Verdict.the-variants as verdict
 use Rattle.model.specs.Lists.{tabulate}
-use Rattle.model.specs.Frames.{isDigit, valueOf, whole, bytesOf, counted, Seen, seenOf, emptyFrame, fed, feeds, shown, rowNumbers, withHalf, numbersFed, numbersFeeds}
-use Rattle.model.specs.Numbers.{byteAt, halfAt}
-use Rattle.model.specs.Reading.{numbersOn, lineVerdict, stepOf}
-use Rattle.model.proofs.NumberLaws.{numbers-table}
-use Rattle.model.proofs.ListLaws.{length-tabulate, getD-tabulate, tabulate-same, tabulate-back}
+use Rattle.model_sheet.specs.Frames.{isDigit, valueOf, whole, bytesOf, counted, Seen, seenOf, emptyFrame, fed, feeds, shown, rowNumbers, withHalf, numbersFed, numbersFeeds}
+use Rattle.model_sheet.specs.Numbers.{byteAt, halfAt}
+use Rattle.model_sheet.specs.Reading.{numbersOn, lineVerdict, stepOf}
+use Rattle.model_sheet.proofs.NumberLaws.{numbers-table}
+use Rattle.grid_laws.proofs.ListLaws.{length-tabulate, getD-tabulate, tabulate-same, tabulate-back}
 use Rattle.sheet_laws.proofs.Cases.{by-bool, by-eq, by-lt, never, and-true}
 use Rattle.sheet_laws.proofs.FrameLaws.{capped, capped-few, capped-many, standing, none-taken, value-small, two-digits, unwhole-frame}
 use Rattle.sheet_laws.proofs.AcceptedLines.{refused-accepted}

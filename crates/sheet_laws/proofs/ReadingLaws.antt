@@ -13,32 +13,32 @@ use Rattle.model.specs.declared.LineStep.{LineStep}
 use Rattle.model.specs.declared.Refusal.{Refusal}
 use Rattle.model.specs.declared.Refusal.the-variants as refusal
 use Rattle.model.specs.declared.Verdict.the-variants as verdict
-use Rattle.model.specs.Lines.{Line, lineOf, linesOf}
-use Rattle.model.specs.Frames.{seenOf, emptyFrame, feeds, shown}
-use Rattle.model.specs.Reading.{stepOf, readLines}
+use Rattle.model_sheet.specs.Lines.{Line, lineOf, linesOf}
+use Rattle.model_sheet.specs.Frames.{seenOf, emptyFrame, feeds, shown}
+use Rattle.model_sheet.specs.Reading.{stepOf, readLines}
 use Rattle.sheet_laws.proofs.LineLaws.{firstLine, first-line}
 use Rattle.sheet_laws.proofs.FixedMemory.{Bounded, fixed-memory, no-line-feed}
 
 -- A line as a step reads it.
-abbrev pub stepAt : Bool → (numbers : List ℕ) → Reading → Line → LineStep
-stepAt chainSheet numbers r l = stepOf chainSheet numbers r (seenOf (l .ended) (l .chars))
+abbrev pub stepAt : Bool → (rows : List ℕ) → Reading → Line → LineStep
+stepAt chainSheet rows r l = stepOf chainSheet rows r (seenOf (l .ended) (l .chars))
 
 -- A line that is turned back, and one that is not.
-module _ (chainSheet : Bool) (numbers : List ℕ) (r : Reading) (l : Line) (ls : List Line) where
-  pub line-stops : (x : Refusal) → stepAt chainSheet numbers r l .verdict ≡ verdict.Refused x → stepAt chainSheet numbers r l ≡ readLines chainSheet numbers r (l ∷ ls)
+module _ (chainSheet : Bool) (rows : List ℕ) (r : Reading) (l : Line) (ls : List Line) where
+  pub line-stops : (x : Refusal) → stepAt chainSheet rows r l .verdict ≡ verdict.Refused x → stepAt chainSheet rows r l ≡ readLines chainSheet rows r (l ∷ ls)
   unfolding readLines
   line-stops x e = rw e
 
-  pub line-goes : stepAt chainSheet numbers r l .verdict ≡ verdict.Accepted → readLines chainSheet numbers (stepAt chainSheet numbers r l .reading) ls ≡ readLines chainSheet numbers r (l ∷ ls)
+  pub line-goes : stepAt chainSheet rows r l .verdict ≡ verdict.Accepted → readLines chainSheet rows (stepAt chainSheet rows r l .reading) ls ≡ readLines chainSheet rows r (l ∷ ls)
   unfolding readLines
   line-goes e = rw e
 
 -- What the lines from a place of the sheet on give.
-abbrev pub readFrom : Bool → (numbers : List ℕ) → (sheet : List ℕ) → Reading → ℕ → LineStep
-readFrom chainSheet numbers sheet r at = readLines chainSheet numbers r (linesOf (drop at sheet))
+abbrev pub readFrom : Bool → (rows : List ℕ) → (sheet : List ℕ) → Reading → ℕ → LineStep
+readFrom chainSheet rows sheet r at = readLines chainSheet rows r (linesOf (drop at sheet))
 
-module _ (chainSheet : Bool) (numbers : List ℕ) (s : List ℕ) (r : Reading) (at : ℕ) where
-  pub read-to-end : length s ≤ at → record { verdict = verdict.Accepted; reading = r } ≡ readFrom chainSheet numbers s r at
+module _ (chainSheet : Bool) (rows : List ℕ) (s : List ℕ) (r : Reading) (at : ℕ) where
+  pub read-to-end : length s ≤ at → record { verdict = verdict.Accepted; reading = r } ≡ readFrom chainSheet rows s r at
   unfolding readLines linesOf
   read-to-end h = rw (drop-of-length-le s {i = at} h)
 
@@ -56,31 +56,31 @@ module _ (chainSheet : Bool) (numbers : List ℕ) (s : List ℕ) (r : Reading) (
         ∙ ap (λ t. firstLine rest ∷ linesOf t) (drop-drop (suc (length (lineOf rest))) at s ∙ ap (λ i. drop i s) e)
 
     -- The line has no LF.
-    pub last-unended : at + length (lineOf rest) ≡ length s → record { verdict = verdict.Refused refusal.Malformed; reading = r } ≡ readFrom chainSheet numbers s r at
+    pub last-unended : at + length (lineOf rest) ≡ length s → record { verdict = verdict.Refused refusal.Malformed; reading = r } ≡ readFrom chainSheet rows s r at
     last-unended e =
         let q : ltb (length (lineOf rest)) (length rest) ≡ false = le-ltb (length (lineOf rest)) (length rest) (omega (arith, length-drop at s)) in
-        let t : stepAt chainSheet numbers r (firstLine rest) ≡ record { verdict = verdict.Refused refusal.Malformed; reading = r } =
-        ap (λ b. stepOf chainSheet numbers r (seenOf b (lineOf rest))) q ∙ no-line-feed chainSheet numbers r (lineOf rest) in
+        let t : stepAt chainSheet rows r (firstLine rest) ≡ record { verdict = verdict.Refused refusal.Malformed; reading = r } =
+        ap (λ b. stepOf chainSheet rows r (seenOf b (lineOf rest))) q ∙ no-line-feed chainSheet rows r (lineOf rest) in
         sym t
-        ∙ line-stops chainSheet numbers r (firstLine rest) (linesOf (drop next s)) refusal.Malformed (ap (λ u. u .verdict) t)
-        ∙ ap (readLines chainSheet numbers r) (sym split)
+        ∙ line-stops chainSheet rows r (firstLine rest) (linesOf (drop next s)) refusal.Malformed (ap (λ u. u .verdict) t)
+        ∙ ap (readLines chainSheet rows r) (sym split)
 
     -- The line has its LF, and was decoded in fixed memory.
     module _ (ended : at + length (lineOf rest) < length s) (few : Bounded r)
-        (st : LineStep) (is : st ≡ stepOf chainSheet numbers r (shown (feeds emptyFrame (lineOf rest)))) where
-      same : st ≡ stepAt chainSheet numbers r (firstLine rest)
+        (st : LineStep) (is : st ≡ stepOf chainSheet rows r (shown (feeds emptyFrame (lineOf rest)))) where
+      same : st ≡ stepAt chainSheet rows r (firstLine rest)
       same =
           let q : ltb (length (lineOf rest)) (length rest) ≡ true = lt-ltb (length (lineOf rest)) (length rest) (omega (arith, length-drop at s)) in
-          is ∙ fixed-memory chainSheet numbers r (lineOf rest) few ∙ ap (λ b. stepOf chainSheet numbers r (seenOf b (lineOf rest))) (sym q)
+          is ∙ fixed-memory chainSheet rows r (lineOf rest) few ∙ ap (λ b. stepOf chainSheet rows r (seenOf b (lineOf rest))) (sym q)
 
-      pub turned-back : (x : Refusal) → st .verdict ≡ verdict.Refused x → st ≡ readFrom chainSheet numbers s r at
+      pub turned-back : (x : Refusal) → st .verdict ≡ verdict.Refused x → st ≡ readFrom chainSheet rows s r at
       turned-back x e =
           same
-          ∙ line-stops chainSheet numbers r (firstLine rest) (linesOf (drop next s)) x (ap (λ t. t .verdict) (sym same) ∙ e)
-          ∙ ap (readLines chainSheet numbers r) (sym split)
+          ∙ line-stops chainSheet rows r (firstLine rest) (linesOf (drop next s)) x (ap (λ t. t .verdict) (sym same) ∙ e)
+          ∙ ap (readLines chainSheet rows r) (sym split)
 
-      pub onward : st .verdict ≡ verdict.Accepted → readFrom chainSheet numbers s (st .reading) next ≡ readFrom chainSheet numbers s r at
+      pub onward : st .verdict ≡ verdict.Accepted → readFrom chainSheet rows s (st .reading) next ≡ readFrom chainSheet rows s r at
       onward e =
-          ap (λ t. readFrom chainSheet numbers s (t .reading) next) same
-          ∙ line-goes chainSheet numbers r (firstLine rest) (linesOf (drop next s)) (ap (λ t. t .verdict) (sym same) ∙ e)
-          ∙ ap (readLines chainSheet numbers r) (sym split)
+          ap (λ t. readFrom chainSheet rows s (t .reading) next) same
+          ∙ line-goes chainSheet rows r (firstLine rest) (linesOf (drop next s)) (ap (λ t. t .verdict) (sym same) ∙ e)
+          ∙ ap (readLines chainSheet rows r) (sym split)

@@ -16,16 +16,16 @@ use Rattle.model.specs.declared.Order.{Order}
 use Rattle.model.specs.Lists.{tabulate, upTo}
 use Rattle.model.specs.Grounds.{Ground}
 use Rattle.model.specs.Values.{sizesOf, dimsOf, entryOf, offsetOf, offsetsOf, capacityOf, capacitiesOf, orderOf}
-use Rattle.model.specs.Lines.{lineFeed}
-use Rattle.model.specs.Frames.{digitsOf, framed}
-use Rattle.model.specs.Numbers.{halfBytes, wordBytes, pattern}
-use Rattle.model.specs.Writing.{groundLine, gridLine, offsetLine, indexPair, boxLines, capacityLine, orderLines, kernelLine, chainLines, sheetOf, longestSheet}
-use Rattle.model.proofs.ListLaws.{length-tabulate}
-use Rattle.model.proofs.ChainLaws.{sizes-count, length-order, dims-flat, ground-flat, dims-skewed}
-use Rattle.sheet_laws.specs.Rows.{rowsLine, gridLen}
+use Rattle.model_sheet.specs.Lines.{lineFeed}
+use Rattle.model_sheet.specs.Frames.{digitsOf, framed}
+use Rattle.model_sheet.specs.Numbers.{halfBytes, wordBytes, pattern}
+use Rattle.model_sheet.specs.Writing.{groundLine, gridLine, offsetLine, indexPair, boxLines, capacityLine, orderLines, kernelLine, chainLines, sheetOf, longestSheet}
+use Rattle.grid_laws.proofs.ListLaws.{length-tabulate}
+use Rattle.grid_laws.proofs.ChainLaws.{sizes-count, length-order, dims-flat, ground-flat, dims-skewed}
+use Rattle.sheet_laws.specs.Sections.{rowsLine, gridLen}
 use Rattle.sheet_laws.proofs.Cases.{by-bool}
 use Rattle.sheet_laws.proofs.AcceptedChains.{few-rows, Accepted}
-use Rattle.sheet_laws.proofs.SheetRows.{rows-line}
+use Rattle.sheet_laws.proofs.SheetSections.{rows-line}
 
 pub digits-length : (bs : List ℕ) → length (digitsOf bs) ≡ 2 * length bs
 unfolding digitsOf
@@ -117,19 +117,19 @@ unfolding flatMap halfBytes
 halves-length [] = refl
 halves-length (x ∷ xs) = omega (arith, halves-length xs)
 
-pub rows-length : (n : ℕ) (numbers : List ℕ) → length (rowsLine n numbers) ≡ 3 + 4 * n
+pub rows-length : (n : ℕ) (rows : List ℕ) → length (rowsLine n rows) ≡ 3 + 4 * n
 unfolding rowsLine halfBytes
-rows-length n numbers = omega (arith, halves-length (tabulate (2 * n) (λ i. getD numbers i 0)), length-tabulate (2 * n) (λ i. getD numbers i 0))
+rows-length n rows = omega (arith, halves-length (tabulate (2 * n) (λ i. getD rows i 0)), length-tabulate (2 * n) (λ i. getD rows i 0))
 
-module _ (g : Grid) (numbers : List ℕ) where
-  skewed-length : g .skewed ≡ true → length (gridLine g numbers) ≡ 3 + 4 * g .rows
-  skewed-length e = ap length (rows-line g numbers e) ∙ rows-length (g .rows) numbers
+module _ (g : Grid) (rows : List ℕ) where
+  skewed-length : g .skewed ≡ true → length (gridLine g rows) ≡ 3 + 4 * g .rows
+  skewed-length e = ap length (rows-line g rows e) ∙ rows-length (g .rows) rows
 
-  flat-length : g .skewed ≡ false → length (gridLine g numbers) ≡ 2 + 4 * g .dims
+  flat-length : g .skewed ≡ false → length (gridLine g rows) ≡ 2 + 4 * g .dims
   unfolding groundLine
-  flat-length e = ap (λ (t : Ground). length (groundLine (dimsOf g) t)) (ground-flat g e numbers) ∙ omega (arith, words-length (sizesOf g), sizes-count g)
+  flat-length e = ap (λ (t : Ground). length (groundLine (dimsOf g) t)) (ground-flat g e rows) ∙ omega (arith, words-length (sizesOf g), sizes-count g)
 
-  pub grid-length : length (gridLine g numbers) ≡ gridLen g
+  pub grid-length : length (gridLine g rows) ≡ gridLen g
   unfolding gridLen
   grid-length =
       by-bool (g .skewed)
@@ -137,10 +137,10 @@ module _ (g : Grid) (numbers : List ℕ) where
       (λ e. flat-length e ∙ ap (λ (b : Bool). cond b (3 + 4 * g .rows) (2 + 4 * g .dims)) (sym e))
 
 -- A sheet by the dimensions of its grid.
-by-dims : (c : Chain) (numbers : List ℕ) (d : ℕ) → dimsOf (c .grid) ≡ d → c .window .count ≤ 32
-    → length (sheetOf c numbers) ≤ 2 * length (gridLine (c .grid) numbers) + 1 + c .window .count * (4 * d + 3) + (16 * d + 3) + 11 * (c .window .count - 1) + 67 + 21
+by-dims : (c : Chain) (rows : List ℕ) (d : ℕ) → dimsOf (c .grid) ≡ d → c .window .count ≤ 32
+    → length (sheetOf c rows) ≤ 2 * length (gridLine (c .grid) rows) + 1 + c .window .count * (4 * d + 3) + (16 * d + 3) + 11 * (c .window .count - 1) + 67 + 21
 unfolding sheetOf chainLines flatMap offsetsOf offsetOf capacitiesOf
-by-dims c numbers d e count =
+by-dims c rows d e count =
     let dims : ℕ = dimsOf (c .grid) in
     let offsets = map offsetLine (offsetsOf dims (c .window)) in
     let box = boxLines dims (c .bounds) in
@@ -149,8 +149,8 @@ by-dims c numbers d e count =
     let kernel = kernelLine (c .kernel) ∷ [] in
     omega (
       arith,
-      length-append (framed (gridLine (c .grid) numbers)) (flatMap framed (offsets ++ (box ++ (capacities ++ (order ++ kernel))))),
-      framed-length (gridLine (c .grid) numbers),
+      length-append (framed (gridLine (c .grid) rows)) (flatMap framed (offsets ++ (box ++ (capacities ++ (order ++ kernel))))),
+      framed-length (gridLine (c .grid) rows),
       flat-append framed offsets (box ++ (capacities ++ (order ++ kernel))),
       flat-append framed box (capacities ++ (order ++ kernel)),
       flat-append framed capacities (order ++ kernel),
@@ -165,27 +165,27 @@ by-dims c numbers d e count =
 
 -- An `09` line of 4,103 characters, 32 `02` lines of 11, an `08` line of 35, 31 `03` lines of 11, an `06` line of 67 and an `04` line of 21. On a rectangle the lines `01`, `02` and `08`
 -- have up to 37, 19 and 67 characters.
-pub sheet-length : (c : Chain) (numbers : List ℕ) → Accepted c numbers → length (sheetOf c numbers) ≤ longestSheet
-sheet-length c numbers a = by-bool (c .grid .skewed) skewed flat
+pub sheet-length : (c : Chain) (rows : List ℕ) → Accepted c rows → length (sheetOf c rows) ≤ longestSheet
+sheet-length c rows a = by-bool (c .grid .skewed) skewed flat
   where
-    skewed : c .grid .skewed ≡ true → length (sheetOf c numbers) ≤ longestSheet
+    skewed : c .grid .skewed ≡ true → length (sheetOf c rows) ≤ longestSheet
     skewed e =
         omega (
           arith,
-          by-dims c numbers 2 (dims-skewed (c .grid) e) (a .few),
-          skewed-length (c .grid) numbers e,
-          few-rows (c .grid .rows) numbers (a .rows e),
+          by-dims c rows 2 (dims-skewed (c .grid) e) (a .few),
+          skewed-length (c .grid) rows e,
+          few-rows (c .grid .rows) rows (a .good-rows e),
           a .few,
         )
 
-    flat : c .grid .skewed ≡ false → length (sheetOf c numbers) ≤ longestSheet
+    flat : c .grid .skewed ≡ false → length (sheetOf c rows) ≤ longestSheet
     flat e =
         let d : ℕ = dimsOf (c .grid) in
         let most : 4 * d + 3 ≤ 19 = omega (arith, a .few-dims) in
         omega (
           arith,
-          by-dims c numbers d refl (a .few),
-          flat-length (c .grid) numbers e,
+          by-dims c rows d refl (a .few),
+          flat-length (c .grid) rows e,
           dims-flat (c .grid) e,
           a .few-dims,
           mul-le-mul-left (c .window .count) most,

@@ -11,8 +11,8 @@ use Rattle.model.specs.Answers.{byVerdict}
 use Rattle.model.specs.Values.{requestOf}
 use Rattle.model.specs.Judging.{judgeChain}
 use Rattle.model.specs.Planning.{judgeRequest}
-use Rattle.model.specs.Lines.{linesOf}
-use Rattle.model.specs.Reading.{start, complete, readLines, endVerdict, numbersIn, readChain, readRequest}
+use Rattle.model_sheet.specs.Lines.{linesOf}
+use Rattle.model_sheet.specs.Reading.{start, complete, readLines, endVerdict, numbersIn, readChain, readRequest}
 use Rattle.sheet_laws.proofs.Cases.{by-bool}
 use Rattle.sheet_laws.proofs.AcceptedLines.{refused-accepted}
 

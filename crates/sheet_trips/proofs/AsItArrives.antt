@@ -14,13 +14,13 @@ use Rattle.model.specs.declared.Refusal.the-variants as refusal
 use Rattle.model.specs.declared.Verdict.{Verdict}
 use Rattle.model.specs.declared.Verdict.the-variants as verdict
 use Rattle.model.specs.Answers.{byVerdict}
-use Rattle.model.specs.Lines.{Line, lineFeed, linesOf, into}
-use Rattle.model.specs.Frames.{isDigit, whole, bytesOf, Seen, seenOf, emptyFrame, fed, feeds, shown, rowNumbers, numbersFed, numbersFeeds}
-use Rattle.model.specs.Reading.{numbersOn, taken, withGrid, withRows, withOffset, withName, withBox, withCapacity, withOrder, withKernel, stepOf, start, readLines, firstNumbers, numbersIn}
-use Rattle.model.specs.Arriving.{closed, arrives, stoodFirst, numbersArrive, Arrived, arrive, finished}
+use Rattle.model_sheet.specs.Lines.{Line, lineFeed, linesOf, into}
+use Rattle.model_sheet.specs.Frames.{isDigit, whole, bytesOf, Seen, seenOf, emptyFrame, fed, feeds, shown, rowNumbers, numbersFed, numbersFeeds}
+use Rattle.model_sheet.specs.Reading.{numbersOn, taken, withGrid, withRows, withOffset, withName, withBox, withCapacity, withOrder, withKernel, stepOf, start, readLines, firstNumbers, numbersIn}
+use Rattle.model_sheet.specs.Arriving.{closed, arrives, stoodFirst, numbersArrive, Arrived, arrive, finished}
 use Rattle.sheet_laws.proofs.Cases.{by-bool, by-eq, never}
 use Rattle.sheet_laws.proofs.AcceptedLines.{Admitted, admitted, refused-accepted, taken-grid, taken-rows, taken-offset, taken-name, taken-box, taken-capacity, taken-order, taken-kernel}
-use Rattle.sheet_laws.proofs.AcceptedLines.Admitted.{grid, rows, offset, box, capacity, order, kernel, name}
+use Rattle.sheet_laws.proofs.AcceptedLines.Admitted.{grid, skewedGrid, offset, box, capacity, order, kernel, name}
 use Rattle.sheet_laws.proofs.FixedMemory.{Bounded, start-bounded, unsound-verdict, fixed-memory, no-line-feed, keeps-bounded}
 use Rattle.sheet_laws.proofs.NumbersLaws.{numbers-whole, numbers-pieces, numbers-step}
 use Rattle.sheet_laws.proofs.ReadingLaws.{line-stops, line-goes}
@@ -28,7 +28,7 @@ use Rattle.sheet_trips.specs.Arriving.{AsItArrives, InPieces}
 
 -- One character more.
 abbrev pub more : Bool → Arrived → ℕ → Arrived
-more chained a c = record { sheet = arrives chained (a .numbers) (a .sheet) c; numbers = numbersArrive (a .numbers) (a .sheet) c }
+more chained a c = record { sheet = arrives chained (a .rows) (a .sheet) c; rows = numbersArrive (a .rows) (a .sheet) c }
 
 pub in-pieces : InPieces
 unfolding arrive
@@ -39,16 +39,16 @@ in-pieces chained a (x ∷ xs) ys = in-pieces chained (more chained a x) xs ys
 by-refused : {A : Type 0} (v : Verdict) (a : A) (f : Refusal → A) (x : Refusal) → v ≡ verdict.Refused x → byVerdict v a f ≡ f x
 by-refused v a f x e = rw e
 
-sheet-unmoved : (chained : Bool) (numbers : List ℕ) (a : Arriving) (x : Refusal) (b : ℕ) → a .verdict ≡ verdict.Refused x → arrives chained numbers a b ≡ a
+sheet-unmoved : (chained : Bool) (rows : List ℕ) (a : Arriving) (x : Refusal) (b : ℕ) → a .verdict ≡ verdict.Refused x → arrives chained rows a b ≡ a
 unfolding arrives
-sheet-unmoved chained numbers a x b e = by-refused (a .verdict) _ (λ y. a) x e
+sheet-unmoved chained rows a x b e = by-refused (a .verdict) _ (λ y. a) x e
 
-numbers-unmoved : (numbers : List ℕ) (a : Arriving) (x : Refusal) (b : ℕ) → a .verdict ≡ verdict.Refused x → numbersArrive numbers a b ≡ numbers
+numbers-unmoved : (rows : List ℕ) (a : Arriving) (x : Refusal) (b : ℕ) → a .verdict ≡ verdict.Refused x → numbersArrive rows a b ≡ rows
 unfolding numbersArrive
-numbers-unmoved numbers a x b e = by-refused (a .verdict) _ (λ y. numbers) x e
+numbers-unmoved rows a x b e = by-refused (a .verdict) _ (λ y. rows) x e
 
 unmoved : (chained : Bool) (a : Arrived) (x : Refusal) (b : ℕ) → a .sheet .verdict ≡ verdict.Refused x → more chained a b ≡ a
-unmoved chained a x b e = λ i. record { sheet = sheet-unmoved chained (a .numbers) (a .sheet) x b e i; numbers = numbers-unmoved (a .numbers) (a .sheet) x b e i }
+unmoved chained a x b e = λ i. record { sheet = sheet-unmoved chained (a .rows) (a .sheet) x b e i; rows = numbers-unmoved (a .rows) (a .sheet) x b e i }
 
 pub stays : (chained : Bool) (a : Arrived) (x : Refusal) (bs : List ℕ) → a .sheet .verdict ≡ verdict.Refused x → arrive chained a bs ≡ a
 unfolding arrive
@@ -98,12 +98,12 @@ abbrev pub held : (all : List ℕ) → Reading → List ℕ → List ℕ
 held all r p = cond (stoodFirst (r .last)) (numbersFeeds (replicate rowNumbers 0) emptyFrame p) all
 
 abbrev pub standing : (all : List ℕ) → Reading → List ℕ → Arrived
-standing all r p = record { sheet = midway r p; numbers = held all r p }
+standing all r p = record { sheet = midway r p; rows = held all r p }
 
 -- A character that is no LF.
-pub arrives-other : (chained : Bool) (numbers : List ℕ) (r : Reading) (p : List ℕ) (b : ℕ) → (b ≡ lineFeed → ⊥) → arrives chained numbers (midway r p) b ≡ midway r (p ++ (b ∷ []))
+pub arrives-other : (chained : Bool) (rows : List ℕ) (r : Reading) (p : List ℕ) (b : ℕ) → (b ≡ lineFeed → ⊥) → arrives chained rows (midway r p) b ≡ midway r (p ++ (b ∷ []))
 unfolding arrives
-arrives-other chained numbers r p b n = rw (ne-eqb _ _ n, feeds-more emptyFrame p b, some-more p b)
+arrives-other chained rows r p b n = rw (ne-eqb _ _ n, feeds-more emptyFrame p b, some-more p b)
 
 numbers-other : (all : List ℕ) (r : Reading) (p : List ℕ) (b : ℕ) → numbersArrive (held all r p) (midway r p) b ≡ held all r (p ++ (b ∷ []))
 unfolding numbersArrive numbersFeeds
@@ -113,22 +113,22 @@ numbers-other all r p b =
     (λ e. rw e)
 
 pub more-other : (chained : Bool) (all : List ℕ) (r : Reading) (p : List ℕ) (b : ℕ) → (b ≡ lineFeed → ⊥) → more chained (standing all r p) b ≡ standing all r (p ++ (b ∷ []))
-more-other chained all r p b n = λ i. record { sheet = arrives-other chained (held all r p) r p b n i; numbers = numbers-other all r p b i }
+more-other chained all r p b n = λ i. record { sheet = arrives-other chained (held all r p) r p b n i; rows = numbers-other all r p b i }
 
 -- The LF, where the numbers on the first line are `all`.
 abbrev pub Own : (all : List ℕ) → Reading → List ℕ → Type 0
 Own all r p = stoodFirst (r .last) ≡ true → all ≡ numbersOn (bytesOf p)
 
-pub arrives-feed : (chained : Bool) (numbers : List ℕ) (r : Reading) (p : List ℕ) (b : ℕ) → b ≡ lineFeed
-    → arrives chained numbers (midway r p) b ≡ closed (stepOf chained numbers r (shown (feeds emptyFrame p)))
+pub arrives-feed : (chained : Bool) (rows : List ℕ) (r : Reading) (p : List ℕ) (b : ℕ) → b ≡ lineFeed
+    → arrives chained rows (midway r p) b ≡ closed (stepOf chained rows r (shown (feeds emptyFrame p)))
 unfolding arrives
-arrives-feed chained numbers r p b e = rw e
+arrives-feed chained rows r p b e = rw e
 
-numbers-feed : (numbers : List ℕ) (r : Reading) (p : List ℕ) (b : ℕ) → b ≡ lineFeed → numbersArrive numbers (midway r p) b ≡ numbers
+numbers-feed : (rows : List ℕ) (r : Reading) (p : List ℕ) (b : ℕ) → b ≡ lineFeed → numbersArrive rows (midway r p) b ≡ rows
 unfolding numbersArrive numbersFed isDigit
-numbers-feed numbers r p b e = rw e (either (stoodFirst (r .last)) (feeds emptyFrame p .half) _)
+numbers-feed rows r p b e = rw e (either (stoodFirst (r .last)) (feeds emptyFrame p .half) _)
   where
-    either : (first half : Bool) (xs : List ℕ) → cond first (cond (half && false) xs numbers) numbers ≡ numbers
+    either : (first half : Bool) (xs : List ℕ) → cond first (cond (half && false) xs rows) rows ≡ rows
     either true true xs = refl
     either true false xs = refl
     either false half xs = refl
@@ -137,14 +137,14 @@ step-own : (chained : Bool) (all : List ℕ) (r : Reading) (p : List ℕ) → Bo
     → stepOf chained (held all r p) r (shown (feeds emptyFrame p)) ≡ stepOf chained all r (seenOf true p)
 step-own chained all r p few own =
     by-bool (stoodFirst (r .last))
-    (λ e. rw e (numbers-step chained r p few ∙ ap (λ ns. stepOf chained ns r (seenOf true p)) (sym (own e))))
+    (λ e. rw e (numbers-step chained r p few ∙ ap (λ rows. stepOf chained rows r (seenOf true p)) (sym (own e))))
     (λ e. rw e (fixed-memory chained all r p few))
 
 pub more-feed : (chained : Bool) (all : List ℕ) (r : Reading) (p : List ℕ) (b : ℕ) → b ≡ lineFeed → Bounded r → Own all r p
-    → more chained (standing all r p) b ≡ record { sheet = closed (stepOf chained all r (seenOf true p)); numbers = held all r p }
+    → more chained (standing all r p) b ≡ record { sheet = closed (stepOf chained all r (seenOf true p)); rows = held all r p }
 more-feed chained all r p b e few own =
     let s = arrives-feed chained (held all r p) r p b e ∙ ap closed (step-own chained all r p few own) in
-    λ i. record { sheet = s i; numbers = numbers-feed (held all r p) r p b e i }
+    λ i. record { sheet = s i; rows = numbers-feed (held all r p) r p b e i }
 
 -- Behind a line that is accepted the first line was read, and the numbers are its own.
 pub behind-first : (chained : Bool) (all : List ℕ) (r : Reading) (l : Seen) → stepOf chained all r l .verdict ≡ verdict.Accepted
@@ -154,7 +154,7 @@ behind-first chained all r l h = rw h (by (admitted chained all r l h .1))
   where
     by : Admitted chained all r l → stoodFirst (taken r (l .first) .last) ≡ false
     by (grid e last some few len sizes) = rw (taken-grid _ _ e)
-    by (rows e last some few len cells) = rw (taken-rows _ _ e)
+    by (skewedGrid e last some few len cells) = rw (taken-rows _ _ e)
     by (offset e last len count) = rw (taken-offset _ _ e)
     by (box e last len) = rw (taken-box _ _ e)
     by (capacity e last chain given len) = rw (taken-capacity _ _ e)
@@ -180,7 +180,7 @@ more-accepted chained all r p b e few own h =
     more-feed chained all r p b e few own
     ∙ (λ i. record {
       sheet = record { verdict = h i; reading = t; frame = emptyFrame; begun = false };
-      numbers = (held-own chained all r p own h ∙ sym (ap (λ (first : Bool). cond first (numbersFeeds (replicate rowNumbers 0) emptyFrame []) all) (behind-first chained all r (seenOf true p) h))) i;
+      rows = (held-own chained all r p own h ∙ sym (ap (λ (first : Bool). cond first (numbersFeeds (replicate rowNumbers 0) emptyFrame []) all) (behind-first chained all r (seenOf true p) h))) i;
     })
 
 -- At the end of the characters.
@@ -198,14 +198,14 @@ behind-begins chained all r l ls h = λ e. absurd (never (sym e ∙ behind-first
 
 record Ends (chained : Bool) (all : List ℕ) (a : Arrived) (bs : List ℕ) (s : LineStep) : Type 0 where
   read : finished (arrive chained a bs .sheet) ≡ s
-  numbers : s .verdict ≡ verdict.Accepted → arrive chained a bs .numbers ≡ all
+  rows : s .verdict ≡ verdict.Accepted → arrive chained a bs .rows ≡ all
 
 -- One character more, and the rest behind it.
 ends-on : (chained : Bool) (all : List ℕ) (a c : Arrived) (b : ℕ) (bs : List ℕ) (s t : LineStep) → more chained a b ≡ c → s ≡ t → Ends chained all c bs s → Ends chained all a (b ∷ bs) t
 unfolding arrive
 ends-on chained all a c b bs s t p q e = record {
   read = ap (λ (x : Arrived). finished (arrive chained x bs .sheet)) p ∙ e .read ∙ q;
-  numbers = λ h. ap (λ (x : Arrived). arrive chained x bs .numbers) p ∙ e .numbers (ap (λ (x : LineStep). x .verdict) q ∙ h);
+  rows = λ h. ap (λ (x : Arrived). arrive chained x bs .rows) p ∙ e .rows (ap (λ (x : LineStep). x .verdict) q ∙ h);
 }
 
 at-feed : (chained : Bool) (all : List ℕ) (r : Reading) (p : List ℕ) (b : ℕ) (bs : List ℕ) → b ≡ lineFeed → Bounded r → Own all r p
@@ -219,10 +219,10 @@ at-feed chained all r p b bs e few own behind = go (s .verdict) refl
     s : LineStep
     s = stepOf chained all r (seenOf true p)
 
-    back : (x : Refusal) → s .verdict ≡ verdict.Refused x → Ends chained all (record { sheet = closed s; numbers = held all r p }) bs s
+    back : (x : Refusal) → s .verdict ≡ verdict.Refused x → Ends chained all (record { sheet = closed s; rows = held all r p }) bs s
     back x h = record {
-      read = ap (λ (a : Arrived). finished (a .sheet)) (stays chained (record { sheet = closed s; numbers = held all r p }) x bs h) ∙ refused s x h;
-      numbers = λ q. absurd (refused-accepted (sym h ∙ q));
+      read = ap (λ (a : Arrived). finished (a .sheet)) (stays chained (record { sheet = closed s; rows = held all r p }) x bs h) ∙ refused s x h;
+      rows = λ q. absurd (refused-accepted (sym h ∙ q));
     }
 
     go : (v : Verdict) → s .verdict ≡ v → Ends chained all (standing all r p) (b ∷ bs) (readLines chained all r (l ∷ linesOf bs))
@@ -260,12 +260,12 @@ none-left all r begins =
 by-characters : (chained : Bool) (all bs : List ℕ) (r : Reading) (p : List ℕ) → Bounded r → Begins all r (infront p (linesOf bs))
     → Ends chained all (standing all r p) bs (readLines chained all r (infront p (linesOf bs)))
 unfolding arrive finished linesOf infront some readLines
-by-characters chained all [] r [] few begins = record { read = refl; numbers = λ h. none-left all r begins }
+by-characters chained all [] r [] few begins = record { read = refl; rows = λ h. none-left all r begins }
 by-characters chained all [] r (b ∷ p) few begins =
     let l : Line = record { chars = b ∷ p; ended = false } in
     let e = no-line-feed chained all r (b ∷ p) in
     let s = sym e ∙ line-stops chained all r l [] refusal.Malformed (ap (λ t. t .verdict) e) ∙ ap (readLines chained all r) (sym (last-line b p)) in
-    record { read = s; numbers = λ h. absurd (refused-accepted (ap (λ t. t .verdict) s ∙ h)) }
+    record { read = s; rows = λ h. absurd (refused-accepted (ap (λ t. t .verdict) s ∙ h)) }
 by-characters chained all (b ∷ bs) r p few begins =
     by-eq b lineFeed
     (λ e. rw (front-feed p b bs e)
@@ -277,4 +277,4 @@ pub as-it-arrives : AsItArrives
 unfolding feeds some infront numbersIn stoodFirst numbersFeeds
 as-it-arrives chained sheet =
     let e = by-characters chained (numbersIn sheet) sheet start [] start-bounded (λ q. refl) in
-    record { read = e .read; numbers = e .numbers }
+    record { read = e .read; rows = e .rows }

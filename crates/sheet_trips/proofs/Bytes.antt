@@ -9,11 +9,11 @@ use lib.ListN.{length, take, drop, getD, replicate, length-append, List·getD-ap
 use lib.Seq.{drop-cons, take-take, take-append-le, take-length, length-take-le, getD-take, getD-append-add}
 use borrow.Author.Tests.{lt-ltb, le-ltb, le-leb, lt-leb, leb-true, ne-eqb}
 use Rattle.model.specs.Lists.{tabulate}
-use Rattle.model.specs.Lines.{lineFeed, linesOf, into}
-use Rattle.model.specs.Frames.{isDigit, valueOf, digitOf, whole, bytesOf, digitsOf, framed, kept, padded, Seen, seenOf}
-use Rattle.model.specs.Numbers.{byteAt, halfAt, wordAt, halfBytes, wordBytes}
-use Rattle.model.specs.Reading.{filtersIn}
-use Rattle.model.proofs.ListLaws.{length-tabulate, getD-tabulate, tabulate-back}
+use Rattle.model_sheet.specs.Lines.{lineFeed, linesOf, into}
+use Rattle.model_sheet.specs.Frames.{isDigit, valueOf, digitOf, whole, bytesOf, digitsOf, framed, kept, padded, Seen, seenOf}
+use Rattle.model_sheet.specs.Numbers.{byteAt, halfAt, wordAt, halfBytes, wordBytes}
+use Rattle.model_sheet.specs.Reading.{filtersIn}
+use Rattle.grid_laws.proofs.ListLaws.{length-tabulate, getD-tabulate, tabulate-back}
 use Rattle.sheet_laws.proofs.Cases.{by-lt, never, and-true}
 use Rattle.sheet_laws.proofs.FrameLaws.{value-small}
 

@@ -18,13 +18,13 @@ use Rattle.model.specs.Lists.{all, any}
 use Rattle.model.specs.Values.{rowsOf, dimsOf, withReference, setWindow}
 use Rattle.model.specs.Answers.{firstOf}
 use Rattle.model.specs.Judging.{badDims, badSizes, badRow, badRowCount}
-use Rattle.model.specs.Lines.{linesOf}
-use Rattle.model.specs.Frames.{padded, framed, Seen}
-use Rattle.model.specs.Numbers.{byteAt, halfAt, halfBytes, signed, pattern}
-use Rattle.model.specs.NamedWindows.{badName}
-use Rattle.model.specs.Reading.{badForm, malformed, nextInRequest, nextInChain, miscounted, among, misplaced, badLength, sizesIn, entriesIn, lineChecks, lineVerdict}
-use Rattle.model.specs.Reading.{taken, withOffset, stepOf, readLines}
-use Rattle.model.specs.Writing.{offsetLine}
+use Rattle.model_sheet.specs.Lines.{linesOf}
+use Rattle.model_sheet.specs.Frames.{padded, framed, Seen}
+use Rattle.model_sheet.specs.Numbers.{byteAt, halfAt, halfBytes, signed, pattern}
+use Rattle.model_sheet.specs.NamedWindows.{badName}
+use Rattle.model_sheet.specs.Reading.{badForm, malformed, nextInRequest, nextInChain, miscounted, among, misplaced, badLength, sizesIn, entriesIn, lineChecks, lineVerdict}
+use Rattle.model_sheet.specs.Reading.{taken, withOffset, stepOf, readLines}
+use Rattle.model_sheet.specs.Writing.{offsetLine}
 use Rattle.sheet_laws.proofs.Cases.{and-true}
 use Rattle.sheet_laws.proofs.AcceptedLines.{taken-offset}
 use Rattle.sheet_laws.proofs.SheetLength.{entries-length}
@@ -32,7 +32,7 @@ use Rattle.sheet_trips.proofs.Bytes.{Small, small-append, small-half, l
 use Rattle.sheet_trips.proofs.Bytes.Small.{none, more}
 use Rattle.sheet_trips.proofs.Values.{signed-pattern, pattern-small}
 
-module _ (chainSheet : Bool) (numbers : List ℕ) where
+module _ (chainSheet : Bool) (rows : List ℕ) where
   -- No condition holds.
   pub all-clear : (r : Reading) (l : Seen)
       → malformed (l .sound) (l .len) (byteAt (l .first) 0) (byteAt (l .first) 1) ≡ false
@@ -41,23 +41,23 @@ module _ (chainSheet : Bool) (numbers : List ℕ) where
       → (eqb (byteAt (l .first) 0) 9 && badRowCount (halfAt (l .first) 1)) ≡ false
       → badLength (l .len) (byteAt (l .first) 0) (byteAt (l .first) 1) (halfAt (l .first) 1) (dimsOf (r .chain .grid)) (r .chain .window .count) ≡ false
       → (eqb (byteAt (l .first) 0) 1 && badSizes (take (byteAt (l .first) 1) (sizesIn (l .first)))) ≡ false
-      → (eqb (byteAt (l .first) 0) 9 && any badRow (rowsOf (halfAt (l .first) 1) numbers)) ≡ false
+      → (eqb (byteAt (l .first) 0) 9 && any badRow (rowsOf (halfAt (l .first) 1) rows)) ≡ false
       → (eqb (byteAt (l .first) 0) 2 && leb 32 (r .chain .window .count)) ≡ false
       → (eqb (byteAt (l .first) 0) 7 && badName (byteAt (l .first) 1) (dimsOf (r .chain .grid))) ≡ false
-      → lineVerdict chainSheet numbers r l ≡ verdict.Accepted
+      → lineVerdict chainSheet rows r l ≡ verdict.Accepted
   unfolding lineVerdict lineChecks firstOf
   all-clear r l a b c d e f g h i = rw (a, b, c, d, e, f, g, h, i)
 
   -- A line of these bytes takes the reading r to t.
   abbrev pub Goes : Reading → List ℕ → Reading → Type 0
-  Goes r bs t = (lineVerdict chainSheet numbers r (lineSeen bs) ≡ verdict.Accepted) × (taken r (padded bs) ≡ t)
+  Goes r bs t = (lineVerdict chainSheet rows r (lineSeen bs) ≡ verdict.Accepted) × (taken r (padded bs) ≡ t)
 
-  step-goes : (r t : Reading) (bs : List ℕ) → Goes r bs t → stepOf chainSheet numbers r (lineSeen bs) ≡ record { verdict = verdict.Accepted; reading = t }
+  step-goes : (r t : Reading) (bs : List ℕ) → Goes r bs t → stepOf chainSheet rows r (lineSeen bs) ≡ record { verdict = verdict.Accepted; reading = t }
   unfolding stepOf
   step-goes r t bs g = rw (g .0, g .1)
 
   pub line-goes : (r t : Reading) (bs rest : List ℕ) → Small bs → Goes r bs t
-      → readLines chainSheet numbers r (linesOf (framed bs ++ rest)) ≡ readLines chainSheet numbers t (linesOf rest)
+      → readLines chainSheet rows r (linesOf (framed bs ++ rest)) ≡ readLines chainSheet rows t (linesOf rest)
   unfolding readLines
   line-goes r t bs rest s g = rw (frame-line bs rest, seen-back s, step-goes r t bs g)
 
@@ -112,14 +112,14 @@ offset-comes false last given count (inr e) = rw e
 abbrev pub added : Reading → List ℤ → Reading
 added r entries = record { last = stood.Offset; given = r .given; chain = setWindow (withReference (r .chain .window) entries) (r .chain) }
 
-pub offset-goes : (chainSheet : Bool) (numbers : List ℕ) (r : Reading) (o : List ℤ) → (r .last ≡ stood.Grid) ⊎ (r .last ≡ stood.Offset)
-    → length o ≡ dimsOf (r .chain .grid) → length o ≤ 4 → Fits o → r .chain .window .count < 32 → Goes chainSheet numbers r (offsetLine o) (added r (four o))
+pub offset-goes : (chainSheet : Bool) (rows : List ℕ) (r : Reading) (o : List ℤ) → (r .last ≡ stood.Grid) ⊎ (r .last ≡ stood.Offset)
+    → length o ≡ dimsOf (r .chain .grid) → length o ≤ 4 → Fits o → r .chain .window .count < 32 → Goes chainSheet rows r (offsetLine o) (added r (four o))
 unfolding malformed badForm badLength padded offsetLine withOffset
-offset-goes chainSheet numbers r o last sized few fits room =
+offset-goes chainSheet rows r o last sized few fits room =
     let len : length (flatMap (λ e. halfBytes (pattern e)) o) ≡ 2 * length o = entries-length o in
     let due : length (offsetLine o) ≡ 1 + 2 * dimsOf (r .chain .grid) = omega (arith, len, sized) in
     let some : length (offsetLine o) ≡ 0 → ⊥ = λ e. omega (arith, due) in (
-      all-clear chainSheet numbers r (lineSeen (offsetLine o))
+      all-clear chainSheet rows r (lineSeen (offsetLine o))
           (rw (ne-eqb _ _ some))
           (offset-comes chainSheet (r .last) (r .given) (r .chain .window .count) last)
           refl

@@ -10,12 +10,12 @@ use lib.Seq.{take-take}
 use borrow.Author.Tests.{eq-eqb, ne-eqb, lt-leb, eqb-true, not-false}
 use Rattle.model.specs.Values.{orderOf}
 use Rattle.model.specs.Judging.{notFinite, badFactor}
-use Rattle.model.specs.Frames.{kept, padded}
-use Rattle.model.specs.Numbers.{byteAt, halfAt, wordAt, halfBytes, wordBytes, signed, pattern, signedWord, wordPattern}
-use Rattle.model.specs.Reading.{badKernel, sizesIn, lowestIn, highestIn, filtersIn, kernelIn}
-use Rattle.model.specs.Writing.{indexPair, capacityLine, kernelLine}
-use Rattle.model.proofs.ListLaws.{getD-tabulate, tabulate-back}
-use Rattle.sheet_laws.specs.Rows.{gridRow, boxRow}
+use Rattle.model_sheet.specs.Frames.{kept, padded}
+use Rattle.model_sheet.specs.Numbers.{byteAt, halfAt, wordAt, halfBytes, wordBytes, signed, pattern, signedWord, wordPattern}
+use Rattle.model_sheet.specs.Reading.{badKernel, sizesIn, lowestIn, highestIn, filtersIn, kernelIn}
+use Rattle.model_sheet.specs.Writing.{indexPair, capacityLine, kernelLine}
+use Rattle.grid_laws.proofs.ListLaws.{getD-tabulate, tabulate-back}
+use Rattle.sheet_laws.specs.Sections.{gridRow, boxRow}
 use Rattle.sheet_laws.proofs.Cases.{by-eq, never, or-false}
 use Rattle.sheet_trips.proofs.Bytes.{Small, small-at, small-padded, length-padded, take-padded, filters-read, half-back, word-back, half-small, word-small, upto, by-entries}
 use Rattle.sheet_trips.proofs.Values.{pattern-signed, word-pattern-signed, bits-back}

@@ -24,15 +24,15 @@ use Rattle.model.specs.Lists.{all, any}
 use Rattle.model.specs.Values.{dimsOf, blankWindow, blankChain, requestOf, setWindow}
 use Rattle.model.specs.Answers.{byVerdict}
 use Rattle.model.specs.Planning.{judgeRequest, plannedChain, planOf}
-use Rattle.model.specs.Lines.{Line, lineOf, linesOf}
-use Rattle.model.specs.Frames.{valueOf, digitOf, whole, bytesOf, digitsOf, framed, padded, Seen, seenOf}
-use Rattle.model.specs.Numbers.{byteAt}
-use Rattle.model.specs.NamedWindows.{windows, isName, namedOf, badName, entriesOf, offsetsNamed, withReferences, windowNamed}
-use Rattle.model.specs.Reading.{kindOf, badForm, malformed, nextInRequest, among, misplaced, badLength, lineChecks, lineVerdict}
-use Rattle.model.specs.Reading.{numbersOn, taken, withGrid, withRows, withName, withBox, withKernel, stepOf, start, closes, complete, readLines, endVerdict, numbersIn, readRequest}
-use Rattle.model.specs.Writing.{offsetLine, sheetOf}
-use Rattle.model.specs.Programs.{refusalText, planText}
-use Rattle.model.proofs.NameLaws.{by-name}
+use Rattle.model_sheet.specs.Lines.{Line, lineOf, linesOf}
+use Rattle.model_sheet.specs.Frames.{valueOf, digitOf, whole, bytesOf, digitsOf, framed, padded, Seen, seenOf}
+use Rattle.model_sheet.specs.Numbers.{byteAt}
+use Rattle.model_sheet.specs.NamedWindows.{windows, isName, namedOf, badName, entriesOf, offsetsNamed, withReferences, windowNamed}
+use Rattle.model_sheet.specs.Reading.{kindOf, badForm, malformed, nextInRequest, among, misplaced, badLength, lineChecks, lineVerdict}
+use Rattle.model_sheet.specs.Reading.{numbersOn, taken, withGrid, withRows, withName, withBox, withKernel, stepOf, start, closes, complete, readLines, endVerdict, numbersIn, readRequest}
+use Rattle.model_sheet.specs.Writing.{offsetLine, sheetOf}
+use Rattle.model_program.specs.Programs.{refusalText, planText}
+use Rattle.model_sheet.proofs.NameLaws.{by-name}
 use Rattle.sheet_laws.proofs.Cases.{by-bool, never, and-true}
 use Rattle.sheet_laws.proofs.AcceptedLines.{clear, taken-grid, taken-rows, taken-kernel, taken-name, taken-box}
 use Rattle.sheet_laws.proofs.FixedMemory.{unsound-verdict}
@@ -52,20 +52,20 @@ unfoldable allAdded : Reading → List (List ℤ) → Reading
 allAdded r [] = r
 allAdded r (o ∷ os) = allAdded (added r (four o)) os
 
-offsets-read : (chainSheet : Bool) (numbers : List ℕ) (os : List (List ℤ)) (r : Reading) (rest : List ℕ) → (r .last ≡ stood.Grid) ⊎ (r .last ≡ stood.Offset)
+offsets-read : (chainSheet : Bool) (rows : List ℕ) (os : List (List ℤ)) (r : Reading) (rest : List ℕ) → (r .last ≡ stood.Grid) ⊎ (r .last ≡ stood.Offset)
     → dimsOf (r .chain .grid) ≤ 4 → all (fitting (dimsOf (r .chain .grid))) os ≡ true → r .chain .window .count + length os ≤ 32
-    → readLines chainSheet numbers r (linesOf (flatMap framed (map offsetLine os) ++ rest)) ≡ readLines chainSheet numbers (allAdded r os) (linesOf rest)
+    → readLines chainSheet rows r (linesOf (flatMap framed (map offsetLine os) ++ rest)) ≡ readLines chainSheet rows (allAdded r os) (linesOf rest)
 unfolding allAdded flatMap all fitting
-offsets-read chainSheet numbers [] r rest last few h room = refl
-offsets-read chainSheet numbers (o ∷ os) r rest last few h room =
+offsets-read chainSheet rows [] r rest last few h room = refl
+offsets-read chainSheet rows (o ∷ os) r rest last few h room =
     let dims = dimsOf (r .chain .grid) in
     let f = and-true (fitting dims o) (all (fitting dims) os) h in
     let g = and-true (eqb (length o) dims) (smallEntries o) (f .0) in
     let sized : length o ≡ dimsOf (r .chain .grid) = eqb-true _ _ (g .0) in
-    ap (λ t. readLines chainSheet numbers r (linesOf t)) (append-assoc (framed (offsetLine o)) (flatMap framed (map offsetLine os)) rest)
-    ∙ line-goes chainSheet numbers r (added r (four o)) (offsetLine o) _ (small-offset o (small-fits o (g .1)))
-    (offset-goes chainSheet numbers r o last sized (omega (arith, sized)) (small-fits o (g .1)) (omega arith))
-    ∙ offsets-read chainSheet numbers os (added r (four o)) rest (inr refl) few (f .1) (omega arith)
+    ap (λ t. readLines chainSheet rows r (linesOf t)) (append-assoc (framed (offsetLine o)) (flatMap framed (map offsetLine os)) rest)
+    ∙ line-goes chainSheet rows r (added r (four o)) (offsetLine o) _ (small-offset o (small-fits o (g .1)))
+    (offset-goes chainSheet rows r o last sized (omega (arith, sized)) (small-fits o (g .1)) (omega arith))
+    ∙ offsets-read chainSheet rows os (added r (four o)) rest (inr refl) few (f .1) (omega arith)
 
 -- The list, entry by entry.
 abbrev named : (ℕ → Type 0) → ℕ → Type 0
@@ -134,10 +134,10 @@ first-taken name h first (sized bytes) =
 first-taken name h first (rowed two bytes) = rw (taken-rows start (firstBytes first) (rowed-head bytes)) (record { last = refl; blank = refl; dims = sym two })
 
 -- A name's line behind it.
-name-goes : (numbers : List ℕ) (name : ℕ) → isName name ≡ true → (r : Reading) → OnGrid name r → Goes false numbers r (7 ∷ name ∷ []) (behind stood.Name r name)
+name-goes : (rows : List ℕ) (name : ℕ) → isName name ≡ true → (r : Reading) → OnGrid name r → Goes false rows r (7 ∷ name ∷ []) (behind stood.Name r name)
 unfolding malformed badForm misplaced among any nextInRequest badLength badName padded withName windowNamed
-name-goes numbers name h r on = (
-  all-clear false numbers r (lineSeen (7 ∷ name ∷ []))
+name-goes rows name h r on = (
+  all-clear false rows r (lineSeen (7 ∷ name ∷ []))
       refl
       (rw (on .last))
       refl
@@ -163,18 +163,18 @@ same-ends : {one other : LineStep} → one ≡ other → Alike one other
 same-ends e = record { verdict = ap (λ s. s .verdict) e; complete = ap (λ s. complete (s .reading)) e; chain = ap (λ s. s .reading .chain) e }
 
 -- A line behind the window that is no `02` line: it is judged alike, and where it is not turned back it is the box's or the kernel's.
-module _ (numbers : List ℕ) (r : Reading) (name : ℕ) (l : Seen) (other : kindOf l ≡ 2 → ⊥) where
+module _ (rows : List ℕ) (r : Reading) (name : ℕ) (l : Seen) (other : kindOf l ≡ 2 → ⊥) where
   abbrev afterName : Reading
   afterName = behind stood.Name r name
 
   abbrev afterOffset : Reading
   afterOffset = behind stood.Offset r name
 
-  judged-alike : lineVerdict false numbers afterName l ≡ lineVerdict false numbers afterOffset l
+  judged-alike : lineVerdict false rows afterName l ≡ lineVerdict false rows afterOffset l
   unfolding lineVerdict lineChecks misplaced among any nextInRequest
   judged-alike = rw (ne-eqb _ _ other)
 
-  box-or-kernel : lineVerdict false numbers afterName l ≡ verdict.Accepted → (kindOf l ≡ 8) ⊎ (kindOf l ≡ 4)
+  box-or-kernel : lineVerdict false rows afterName l ≡ verdict.Accepted → (kindOf l ≡ 8) ⊎ (kindOf l ≡ 4)
   unfolding lineVerdict lineChecks misplaced among any nextInRequest
   box-or-kernel h = either (not-false _ (clear _ _ _ (clear _ _ _ h .1) .0))
     where
@@ -204,27 +204,27 @@ offset-first rest w e =
     sym (take-take 2 (length (lineOf rest)) rest (omega (arith, ap length q))) ∙ ap (take 2) (line-front rest ∙ q)
 
 -- The lines behind the window are read alike.
-module _ (numbers : List ℕ) (r : Reading) (name : ℕ) where
+module _ (rows : List ℕ) (r : Reading) (name : ℕ) where
   line-alike : (l : Line) (ls : List Line) → (whole (l .chars) ≡ true → byteAt (padded (bytesOf (l .chars))) 0 ≡ 2 → ⊥)
-      → Alike (readLines false numbers (behind stood.Name r name) (l ∷ ls)) (readLines false numbers (behind stood.Offset r name) (l ∷ ls))
+      → Alike (readLines false rows (behind stood.Name r name) (l ∷ ls)) (readLines false rows (behind stood.Offset r name) (l ∷ ls))
   unfolding readLines stepOf complete closes
   line-alike l ls other =
       by-bool (seen .sound)
-      (λ s. let no-offset = other (and-true (l .ended) (whole (l .chars)) s .1) in by-verdict no-offset (lineVerdict false numbers (behind stood.Name r name) seen) refl)
-      (λ s. rw (unsound-verdict false numbers (behind stood.Name r name) seen s, unsound-verdict false numbers (behind stood.Offset r name) seen s)
+      (λ s. let no-offset = other (and-true (l .ended) (whole (l .chars)) s .1) in by-verdict no-offset (lineVerdict false rows (behind stood.Name r name) seen) refl)
+      (λ s. rw (unsound-verdict false rows (behind stood.Name r name) seen s, unsound-verdict false rows (behind stood.Offset r name) seen s)
       (record { verdict = refl; complete = refl; chain = refl }))
     where
       seen : Seen
       seen = seenOf (l .ended) (l .chars)
 
-      by-verdict : (kindOf seen ≡ 2 → ⊥) → (v : Verdict) → lineVerdict false numbers (behind stood.Name r name) seen ≡ v
-          → Alike (readLines false numbers (behind stood.Name r name) (l ∷ ls)) (readLines false numbers (behind stood.Offset r name) (l ∷ ls))
+      by-verdict : (kindOf seen ≡ 2 → ⊥) → (v : Verdict) → lineVerdict false rows (behind stood.Name r name) seen ≡ v
+          → Alike (readLines false rows (behind stood.Name r name) (l ∷ ls)) (readLines false rows (behind stood.Offset r name) (l ∷ ls))
       by-verdict n verdict.Accepted e =
-          rw (e, sym (judged-alike numbers r name seen n) ∙ e) (same-ends (ap (λ t. readLines false numbers t ls) (taken-alike numbers r name seen n (box-or-kernel numbers r name seen n e))))
-      by-verdict n (verdict.Refused x) e = rw (e, sym (judged-alike numbers r name seen n) ∙ e) (record { verdict = refl; complete = refl; chain = refl })
+          rw (e, sym (judged-alike rows r name seen n) ∙ e) (same-ends (ap (λ t. readLines false rows t ls) (taken-alike rows r name seen n (box-or-kernel rows r name seen n e))))
+      by-verdict n (verdict.Refused x) e = rw (e, sym (judged-alike rows r name seen n) ∙ e) (record { verdict = refl; complete = refl; chain = refl })
 
   lines-alike : (rest : List ℕ) → (BeginsWithOffset rest → ⊥)
-      → Alike (readLines false numbers (behind stood.Name r name) (linesOf rest)) (readLines false numbers (behind stood.Offset r name) (linesOf rest))
+      → Alike (readLines false rows (behind stood.Name r name) (linesOf rest)) (readLines false rows (behind stood.Offset r name) (linesOf rest))
   unfolding linesOf readLines complete closes
   lines-alike [] h = record { verdict = refl; complete = refl; chain = refl }
   lines-alike (b ∷ bs) h =
@@ -242,51 +242,51 @@ module _ (name : ℕ) (first rest : List ℕ) (h : isName name ≡ true) (on : F
   abbrev r : Reading
   r = taken start (firstBytes first)
 
-  abbrev numbers : List ℕ
-  numbers = numbersOn (bytesOf (digitsOf first))
+  abbrev rows : List ℕ
+  rows = numbersOn (bytesOf (digitsOf first))
 
-  behind-grid : Alike (readLines false numbers r (linesOf (framed (7 ∷ name ∷ []) ++ rest)))
-      (readLines false numbers r (linesOf (flatMap framed (map offsetLine (offsetsNamed name)) ++ rest)))
+  behind-grid : Alike (readLines false rows r (linesOf (framed (7 ∷ name ∷ []) ++ rest)))
+      (readLines false rows r (linesOf (flatMap framed (map offsetLine (offsetsNamed name)) ++ rest)))
   behind-grid =
       let grid = first-taken name h first on in
       let dims : dimsOf (r .chain .grid) ≡ namedOf name .dims = grid .dims in
       let none : r .chain .window .count ≡ 0 = ap (λ (w : Window). w .count) (grid .blank) in
       let (fit, few, most) = named-fit name h in
       alike-by
-      (line-goes false numbers r (behind stood.Name r name) (7 ∷ name ∷ []) rest (name-small name h) (name-goes numbers name h r grid))
-      (offsets-read false numbers (offsetsNamed name) r rest (inl (grid .last)) (omega (arith, dims, most)) (rw dims fit) (omega (arith, none, few))
-      ∙ ap (λ t. readLines false numbers t (linesOf rest)) (named-added name h r))
-      (lines-alike numbers r name rest none-first)
+      (line-goes false rows r (behind stood.Name r name) (7 ∷ name ∷ []) rest (name-small name h) (name-goes rows name h r grid))
+      (offsets-read false rows (offsetsNamed name) r rest (inl (grid .last)) (omega (arith, dims, most)) (rw dims fit) (omega (arith, none, few))
+      ∙ ap (λ t. readLines false rows t (linesOf rest)) (named-added name h r))
+      (lines-alike rows r name rest none-first)
 
-  read-alike : Alike (readLines false numbers start (linesOf (byName name first rest))) (readLines false numbers start (linesOf (writtenOut name first rest)))
+  read-alike : Alike (readLines false rows start (linesOf (byName name first rest))) (readLines false rows start (linesOf (writtenOut name first rest)))
   unfolding readLines stepOf
   read-alike =
       alike-by
-      (ap (readLines false numbers start) (frame-line first _))
-      (ap (readLines false numbers start) (frame-line first _))
-      (go (lineVerdict false numbers start seen) refl)
+      (ap (readLines false rows start) (frame-line first _))
+      (ap (readLines false rows start) (frame-line first _))
+      (go (lineVerdict false rows start seen) refl)
     where
-      go : (v : Verdict) → lineVerdict false numbers start seen ≡ v
-          → Alike (readLines false numbers start (lineWith first ∷ linesOf (framed (7 ∷ name ∷ []) ++ rest)))
-          (readLines false numbers start (lineWith first ∷ linesOf (flatMap framed (map offsetLine (offsetsNamed name)) ++ rest)))
+      go : (v : Verdict) → lineVerdict false rows start seen ≡ v
+          → Alike (readLines false rows start (lineWith first ∷ linesOf (framed (7 ∷ name ∷ []) ++ rest)))
+          (readLines false rows start (lineWith first ∷ linesOf (flatMap framed (map offsetLine (offsetsNamed name)) ++ rest)))
       go verdict.Accepted e = rw e behind-grid
       go (verdict.Refused x) e = rw e (same-ends refl)
 
 -- What reading a request says of the end of its lines.
 answered : List ℕ → Verdict → Bool → Chain → ReadRequest
-answered numbers v whole c =
-    let w = byVerdict v (cond whole (judgeRequest (requestOf c) numbers) (verdict.Refused refusal.Misplaced)) verdict.Refused in
+answered rows v whole c =
+    let w = byVerdict v (cond whole (judgeRequest (requestOf c) rows) (verdict.Refused refusal.Misplaced)) verdict.Refused in
     record { verdict = w; request = requestOf (byVerdict w c (λ x. blankChain)) }
 
-module _ (one other numbers : List ℕ) (p : numbersIn one ≡ numbers) (q : numbersIn other ≡ numbers) where
-  read-by : (sheet : List ℕ) → numbersIn sheet ≡ numbers
-      → (let s = readLines false numbers start (linesOf sheet) in readRequest sheet ≡ answered numbers (s .verdict) (complete (s .reading)) (s .reading .chain))
+module _ (one other rows : List ℕ) (p : numbersIn one ≡ rows) (q : numbersIn other ≡ rows) where
+  read-by : (sheet : List ℕ) → numbersIn sheet ≡ rows
+      → (let s = readLines false rows start (linesOf sheet) in readRequest sheet ≡ answered rows (s .verdict) (complete (s .reading)) (s .reading .chain))
   unfolding answered readRequest endVerdict
   read-by sheet e =
-      ap (λ (ns : List ℕ). let s = readLines false ns start (linesOf sheet) in answered ns (s .verdict) (complete (s .reading)) (s .reading .chain)) e
+      ap (λ (rows : List ℕ). let s = readLines false rows start (linesOf sheet) in answered rows (s .verdict) (complete (s .reading)) (s .reading .chain)) e
 
-  requests-alike : Alike (readLines false numbers start (linesOf one)) (readLines false numbers start (linesOf other)) → readRequest one ≡ readRequest other
-  requests-alike a = read-by one p ∙ (λ i. answered numbers (a .verdict i) (a .complete i) (a .chain i)) ∙ sym (read-by other q)
+  requests-alike : Alike (readLines false rows start (linesOf one)) (readLines false rows start (linesOf other)) → readRequest one ≡ readRequest other
+  requests-alike a = read-by one p ∙ (λ i. answered rows (a .verdict i) (a .complete i) (a .chain i)) ∙ sym (read-by other q)
 
 planned : ReadRequest → List ℕ → List ℕ
 planned r rows = byVerdict (r .verdict) (sheetOf (plannedChain (r .request) rows) rows) refusalText

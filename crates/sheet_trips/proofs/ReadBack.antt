@@ -15,8 +15,8 @@ use Rattle.model.specs.declared.Order.{Order}
 use Rattle.model.specs.declared.Window.{Window}
 use Rattle.model.specs.Lists.{tabulate}
 use Rattle.model.specs.Values.{sizesOf, groundOf, dimsOf, entryOf, offsetOf, offsetsOf, capacityOf, capacitiesOf, orderOf, partOf, trimmed, boundsOf, sizeArray, normalGrid, chainOf}
-use Rattle.model.proofs.ListLaws.{length-tabulate, getD-tabulate, tabulate-same}
-use Rattle.model.proofs.ChainLaws.{grid-normal, same-normal}
+use Rattle.grid_laws.proofs.ListLaws.{length-tabulate, getD-tabulate, tabulate-same}
+use Rattle.grid_laws.proofs.ChainLaws.{grid-normal, same-normal}
 use Rattle.sheet_laws.proofs.Cases.{by-lt}
 use Rattle.sheet_laws.proofs.AcceptedChains.{Accepted}
 use Rattle.sheet_trips.proofs.Bytes.{blank-at}
@@ -163,10 +163,10 @@ normal-dims g = go (g .skewed)
     go true = refl
     go false = refl
 
-pub normal-chain : (c : Chain) (numbers : List ℕ) → c .window .count ≤ 32 → readBack c ≡ chainOf (trimmed c numbers)
+pub normal-chain : (c : Chain) (rows : List ℕ) → c .window .count ≤ 32 → readBack c ≡ chainOf (trimmed c rows)
 unfolding readBack chainOf trimmed readOrder orderOf
-normal-chain c numbers few = λ i. record {
-  grid = sym (grid-normal (c .grid) numbers) i;
+normal-chain c rows few = λ i. record {
+  grid = sym (grid-normal (c .grid) rows) i;
   window = record { count = c .window .count; offsets = normal-offsets (dimsOf (c .grid)) (c .window) few i };
   bounds = boundsOf (partOf (dimsOf (c .grid)) (c .bounds));
   capacities = normal-capacities c few i;
@@ -189,6 +189,6 @@ same-rows c one other e = λ i. record {
   kernel = c .kernel;
 }
 
-pub same-chain : (c : Chain) (numbers told : List ℕ) → Accepted c numbers → groundOf (c .grid) told ≡ groundOf (c .grid) numbers → trimmed (readBack c) told ≡ trimmed c numbers
-same-chain c numbers told ok e =
-    ap (λ (d : Chain). trimmed d told) (normal-chain c told (ok .few)) ∙ same-normal c told (ok .few-dims) (ok .few) ∙ same-rows c told numbers e
+pub same-chain : (c : Chain) (rows told : List ℕ) → Accepted c rows → groundOf (c .grid) told ≡ groundOf (c .grid) rows → trimmed (readBack c) told ≡ trimmed c rows
+same-chain c rows told ok e =
+    ap (λ (d : Chain). trimmed d told) (normal-chain c told (ok .few)) ∙ same-normal c told (ok .few-dims) (ok .few) ∙ same-rows c told rows e

@@ -19,23 +19,23 @@ use Rattle.model.specs.declared.Reading.{Reading}
 use Rattle.model.specs.declared.Refusal.{Refusal}
 use Rattle.model.specs.declared.Verdict.{Verdict}
 use Rattle.model.specs.declared.Verdict.the-variants as verdict
-use Rattle.model.specs.Arriving.{stoodFirst}
+use Rattle.model_sheet.specs.Arriving.{stoodFirst}
 use Rattle.model.specs.Values.{dimsOf}
 use Rattle.model.specs.Judging.{badFactor}
-use Rattle.model.specs.Lines.{Line, lineFeed, linesOf, into}
-use Rattle.model.specs.Frames.{framed, whole, bytesOf, padded, seenOf}
-use Rattle.model.specs.Numbers.{byteAt, halfAt, wordAt}
-use Rattle.model.specs.Reading.{badKernel, numbersOn, entriesIn, kernelIn, lineVerdict}
-use Rattle.model.specs.Reading.{taken, withGrid, withRows, withOffset, withBox, withCapacity, withOrder, withKernel, stepOf, start, closes, complete, readLines, numbersIn}
-use Rattle.model.specs.Writing.{gridLine, capacityLine, sheetOf}
-use Rattle.sheet_laws.specs.Rows.{rowsLine, offsetRow, toCapacities, linesBehind, lineAt, linesFrom}
+use Rattle.model_sheet.specs.Lines.{Line, lineFeed, linesOf, into}
+use Rattle.model_sheet.specs.Frames.{framed, whole, bytesOf, padded, seenOf}
+use Rattle.model_sheet.specs.Numbers.{byteAt, halfAt, wordAt}
+use Rattle.model_sheet.specs.Reading.{badKernel, numbersOn, entriesIn, kernelIn, lineVerdict}
+use Rattle.model_sheet.specs.Reading.{taken, withGrid, withRows, withOffset, withBox, withCapacity, withOrder, withKernel, stepOf, start, closes, complete, readLines, numbersIn}
+use Rattle.model_sheet.specs.Writing.{gridLine, capacityLine, sheetOf}
+use Rattle.sheet_laws.specs.Sections.{rowsLine, offsetRow, toCapacities, linesBehind, lineAt, linesFrom}
 use Rattle.sheet_laws.proofs.Cases.{by-bool, by-eq, by-lt, never, and-true}
 use Rattle.sheet_laws.proofs.AcceptedLines.{BehindOffsets, BehindWindow, Admitted, admitted, refused-accepted, not-complete, taken-grid, taken-rows, taken-offset, taken-box, taken-capacity, taken-order, taken-kernel}
 use Rattle.sheet_laws.proofs.AcceptedLines.BehindOffsets.{offsets, bounds, capacities}
 use Rattle.sheet_laws.proofs.AcceptedLines.BehindWindow.{filters, terms, named}
-use Rattle.sheet_laws.proofs.AcceptedLines.Admitted.{grid, rows, offset, box, capacity, order, kernel, name}
+use Rattle.sheet_laws.proofs.AcceptedLines.Admitted.{grid, skewedGrid, offset, box, capacity, order, kernel, name}
 use Rattle.sheet_laws.proofs.AcceptedChains.{accepted-chain}
-use Rattle.sheet_laws.proofs.SheetRows.{box-front, line-grid, line-rows, line-offset, line-box, line-capacity, line-order, line-kernel, lines-join, sheet-rows}
+use Rattle.sheet_laws.proofs.SheetSections.{box-front, line-grid, line-rows, line-offset, line-box, line-capacity, line-order, line-kernel, lines-join, sheet-rows}
 use Rattle.sheet_trips.specs.RoundTrips.{ReadWrite}
 use Rattle.sheet_trips.proofs.Bytes.{Small, small-bytes, digits-back, take-padded, lineSeen}
 use Rattle.sheet_trips.proofs.Values.{sets-before, sets-at}
@@ -62,24 +62,24 @@ text-back (b ∷ bs) =
     (λ e. rw (eq-eqb _ _ e) (ap (λ t. lineFeed ∷ t) (text-back bs) ∙ ap (λ c. c ∷ bs) (sym e)))
     (λ n. rw (ne-eqb _ _ n) (into-text b (linesOf bs) ∙ ap (λ t. b ∷ t) (text-back bs)))
 
--- The first lines of two chains that agree there, and one line more; of either `numbers` stand beside it.
-module _ (numbers : List ℕ) where
-  lines-same : (c d : Chain) (m k : ℕ) → ((j : ℕ) → j < m + k → lineAt c numbers j ≡ lineAt d numbers j) → linesFrom c numbers m k ≡ linesFrom d numbers m k
+-- The first lines of two chains that agree there, and one line more; of either `rows` stand beside it.
+module _ (rows : List ℕ) where
+  lines-same : (c d : Chain) (m k : ℕ) → ((j : ℕ) → j < m + k → lineAt c rows j ≡ lineAt d rows j) → linesFrom c rows m k ≡ linesFrom d rows m k
   unfolding linesFrom
   lines-same c d m zero h = refl
   lines-same c d m (suc k) h = rw (h m (omega arith), lines-same c d (m + 1) k (λ j l. h j (omega arith)))
 
-  one-line : (c : Chain) (m : ℕ) → linesFrom c numbers m 1 ≡ framed (lineAt c numbers m)
+  one-line : (c : Chain) (m : ℕ) → linesFrom c rows m 1 ≡ framed (lineAt c rows m)
   unfolding linesFrom
-  one-line c m = append-nil (framed (lineAt c numbers m))
+  one-line c m = append-nil (framed (lineAt c rows m))
 
-  grown : (c d : Chain) (k : ℕ) (bs : List ℕ) → ((j : ℕ) → j < k → lineAt d numbers j ≡ lineAt c numbers j) → lineAt d numbers k ≡ bs
-      → linesFrom d numbers 0 (k + 1) ≡ linesFrom c numbers 0 k ++ framed bs
+  grown : (c d : Chain) (k : ℕ) (bs : List ℕ) → ((j : ℕ) → j < k → lineAt d rows j ≡ lineAt c rows j) → lineAt d rows k ≡ bs
+      → linesFrom d rows 0 (k + 1) ≡ linesFrom c rows 0 k ++ framed bs
   grown c d k bs h e =
       let z : 0 + k ≡ k = omega arith in
-      sym (lines-join d numbers 0 k 1)
-      ∙ ap (λ t. t ++ linesFrom d numbers (0 + k) 1) (lines-same d c 0 k (λ j l. h j (omega arith)))
-      ∙ ap (λ t. linesFrom c numbers 0 k ++ t) (ap (λ m. linesFrom d numbers m 1) z ∙ one-line d k ∙ ap framed e)
+      sym (lines-join d rows 0 k 1)
+      ∙ ap (λ t. t ++ linesFrom d rows (0 + k) 1) (lines-same d c 0 k (λ j l. h j (omega arith)))
+      ∙ ap (λ t. linesFrom c rows 0 k ++ t) (ap (λ m. linesFrom d rows m 1) z ∙ one-line d k ∙ ap framed e)
 
 -- How many lines were read, and what was read, written.
 unfoldable linesTo : Last → (boxed ordered : Bool) (count given : ℕ) → ℕ
@@ -95,16 +95,16 @@ linesTo stood.Kernel boxed ordered count given = linesBehind boxed ordered count
 unfoldable linesRead : Reading → ℕ
 linesRead r = linesTo (r .last) (r .chain .bounds .stood) (r .chain .order .stood) (r .chain .window .count) (r .given)
 
-unfoldable written : (numbers : List ℕ) → Reading → List ℕ
-written numbers r = linesFrom (r .chain) numbers 0 (linesRead r)
+unfoldable written : (rows : List ℕ) → Reading → List ℕ
+written rows r = linesFrom (r .chain) rows 0 (linesRead r)
 
-Adds : (numbers : List ℕ) → Reading → Reading → List ℕ → Type 0
-Adds numbers r t bs = written numbers t ≡ written numbers r ++ framed bs
+Adds : (rows : List ℕ) → Reading → Reading → List ℕ → Type 0
+Adds rows r t bs = written rows t ≡ written rows r ++ framed bs
 
-adds : (numbers : List ℕ) (r t : Reading) (bs : List ℕ) (k : ℕ) → linesRead r ≡ k → linesRead t ≡ k + 1
-    → ((j : ℕ) → j < k → lineAt (t .chain) numbers j ≡ lineAt (r .chain) numbers j) → lineAt (t .chain) numbers k ≡ bs → Adds numbers r t bs
+adds : (rows : List ℕ) (r t : Reading) (bs : List ℕ) (k : ℕ) → linesRead r ≡ k → linesRead t ≡ k + 1
+    → ((j : ℕ) → j < k → lineAt (t .chain) rows j ≡ lineAt (r .chain) rows j) → lineAt (t .chain) rows k ≡ bs → Adds rows r t bs
 unfolding written Adds
-adds numbers r t bs k e f before new = rw (e, f) (grown numbers (r .chain) (t .chain) k bs before new)
+adds rows r t bs k e f before new = rw (e, f) (grown rows (r .chain) (t .chain) k bs before new)
 
 -- What is known of the counts, by what stood last.
 unfoldable Counted : Last → (count given : ℕ) → Type 0
@@ -168,26 +168,26 @@ unfolding linesBehind
 orders-place boxed true n j h l = (refl, omega arith)
 orders-place boxed false n j h l = absurd (omega arith)
 
-same-grid : (c d : Chain) (numbers : List ℕ) → c .grid ≡ d .grid → lineAt c numbers 0 ≡ lineAt d numbers 0
+same-grid : (c d : Chain) (rows : List ℕ) → c .grid ≡ d .grid → lineAt c rows 0 ≡ lineAt d rows 0
 unfolding lineAt
-same-grid c d numbers e = ap (λ (g : Grid). gridLine g numbers) e
+same-grid c d rows e = ap (λ (g : Grid). gridLine g rows) e
 
 -- A chain with other capacities, order and kernel: the lines up to its capacities' are the same.
 abbrev behindBox : Chain → List ℕ → Order → Kernel → Chain
 behindBox c a o k = record { grid = c .grid; window = c .window; bounds = c .bounds; capacities = a; order = o; kernel = k }
 
-same-front : (c : Chain) (a : List ℕ) (o : Order) (k : Kernel) (numbers : List ℕ) → dimsOf (c .grid) ≤ 4 → (j : ℕ)
-    → ((i : ℕ) → j ≡ 1 + toCapacities (c .bounds .stood) (c .window .count) + i → lineAt (behindBox c a o k) numbers j ≡ lineAt c numbers j)
-    → lineAt (behindBox c a o k) numbers j ≡ lineAt c numbers j
-same-front c a o k numbers few j rest =
+same-front : (c : Chain) (a : List ℕ) (o : Order) (k : Kernel) (rows : List ℕ) → dimsOf (c .grid) ≤ 4 → (j : ℕ)
+    → ((i : ℕ) → j ≡ 1 + toCapacities (c .bounds .stood) (c .window .count) + i → lineAt (behindBox c a o k) rows j ≡ lineAt c rows j)
+    → lineAt (behindBox c a o k) rows j ≡ lineAt c rows j
+same-front c a o k rows few j rest =
     let d = behindBox c a o k in
     by-place (c .bounds .stood) (c .window .count) j
-    (λ z. rw z (same-grid d c numbers refl))
-    (λ i h z. rw z (line-offset d numbers i h ∙ sym (line-offset c numbers i h)))
-    (λ is z. rw z (line-box d numbers is few ∙ sym (line-box c numbers is few)))
+    (λ z. rw z (same-grid d c rows refl))
+    (λ i h z. rw z (line-offset d rows i h ∙ sym (line-offset c rows i h)))
+    (λ is z. rw z (line-box d rows is few ∙ sym (line-box c rows is few)))
     rest
 
-module _ (numbers : List ℕ) (r : Reading) (keeps : Kept r) (bs : List ℕ) (small : Small bs) where
+module _ (rows : List ℕ) (r : Reading) (keeps : Kept r) (bs : List ℕ) (small : Small bs) where
   abbrev x : List ℕ
   x = padded bs
 
@@ -214,22 +214,22 @@ module _ (numbers : List ℕ) (r : Reading) (keeps : Kept r) (bs : List ℕ) (sm
   offsets-only : c .bounds .stood ≡ false → (m : ℕ) → toCapacities (c .bounds .stood) m ≡ m
   offsets-only none m = rw none (omega arith)
 
-  grid-adds : byteAt x 0 ≡ 1 → r .last ≡ stood.Nothing → byteAt x 1 ≤ 4 → length bs ≡ 2 + 4 * byteAt x 1 → Adds numbers r (withGrid r x) bs
+  grid-adds : byteAt x 0 ≡ 1 → r .last ≡ stood.Nothing → byteAt x 1 ≤ 4 → length bs ≡ 2 + 4 * byteAt x 1 → Adds rows r (withGrid r x) bs
   unfolding withGrid linesRead linesTo Counted Boxed dimsOf
   grid-adds e p few len =
       let z = counted-at stood.Nothing p in
       let q : 1 + toCapacities (c .bounds .stood) n + r .given ≡ 0 + 1 = omega (arith, z .0, z .1, offsets-only (boxed-at stood.Nothing p) n) in
-      adds numbers r (withGrid r x) bs 0 (lines-at stood.Nothing p) q (λ j l. absurd (omega arith))
-      (line-grid _ numbers refl few ∙ front (2 + 4 * byteAt x 1) 18 bs _ (grid-row bs small e) (omega arith) (omega arith) len)
+      adds rows r (withGrid r x) bs 0 (lines-at stood.Nothing p) q (λ j l. absurd (omega arith))
+      (line-grid _ rows refl few ∙ front (2 + 4 * byteAt x 1) 18 bs _ (grid-row bs small e) (omega arith) (omega arith) len)
 
   -- The rows' line, on which these numbers stand.
-  rows-adds : byteAt x 0 ≡ 9 → r .last ≡ stood.Nothing → numbers ≡ numbersOn bs → halfAt x 1 ≤ 512 → length bs ≡ 3 + 4 * halfAt x 1 → Adds numbers r (withRows r x) bs
+  rows-adds : byteAt x 0 ≡ 9 → r .last ≡ stood.Nothing → rows ≡ numbersOn bs → halfAt x 1 ≤ 512 → length bs ≡ 3 + 4 * halfAt x 1 → Adds rows r (withRows r x) bs
   unfolding withRows linesRead linesTo Counted Boxed
   rows-adds e p own few len =
       let z = counted-at stood.Nothing p in
       let q : 1 + toCapacities (c .bounds .stood) n + r .given ≡ 0 + 1 = omega (arith, z .0, z .1, offsets-only (boxed-at stood.Nothing p) n) in
-      adds numbers r (withRows r x) bs 0 (lines-at stood.Nothing p) q (λ j l. absurd (omega arith))
-      (line-rows _ numbers refl ∙ ap (rowsLine (halfAt x 1)) own ∙ rows-row bs small e few len)
+      adds rows r (withRows r x) bs 0 (lines-at stood.Nothing p) q (λ j l. absurd (omega arith))
+      (line-rows _ rows refl ∙ ap (rowsLine (halfAt x 1)) own ∙ rows-row bs small e few len)
 
   -- Where an `02` line may come no capacity was read, no box and no order; where another line behind the `01` line may come, as many lines as offsets, boxes and
   -- capacities, and one.
@@ -262,7 +262,7 @@ module _ (numbers : List ℕ) (r : Reading) (keeps : Kept r) (bs : List ℕ) (sm
   behind-offsets (bounds p) = lines-at stood.Box p
   behind-offsets (capacities p) = lines-at stood.Capacity p
 
-  offset-adds : byteAt x 0 ≡ 2 → (r .last ≡ stood.Grid) ⊎ (r .last ≡ stood.Offset) → length bs ≡ 1 + 2 * dimsOf (c .grid) → n < 32 → Adds numbers r (withOffset r x) bs
+  offset-adds : byteAt x 0 ≡ 2 → (r .last ≡ stood.Grid) ⊎ (r .last ≡ stood.Offset) → length bs ≡ 1 + 2 * dimsOf (c .grid) → n < 32 → Adds rows r (withOffset r x) bs
   unfolding withOffset linesRead linesTo entriesIn offsetRow
   offset-adds e p len few =
       let g = none-given p in
@@ -275,16 +275,16 @@ module _ (numbers : List ℕ) (r : Reading) (keeps : Kept r) (bs : List ℕ) (sm
       let q′ : 1 + toCapacities (c .bounds .stood) (n + 1) + r .given ≡ 1 + n + 1 = omega (arith, offsets-only none (n + 1)) in
       let old : (i k : ℕ) → k < 4 → i < n → getD (sets o (4 * n) es) (4 * i + k) (pos 0) ≡ getD o (4 * i + k) (pos 0) =
       λ i k l h. sets-before es o (4 * n) (4 * i + k) (pos 0) (omega arith) in
-      adds numbers r (withOffset r x) bs (1 + n) (behind-grid p ∙ q) q′
+      adds rows r (withOffset r x) bs (1 + n) (behind-grid p ∙ q) q′
       (λ j l. by-place (c .bounds .stood) n j
-      (λ z. rw z (same-grid d c numbers refl))
+      (λ z. rw z (same-grid d c rows refl))
       (λ i h z. rw z
-      (line-offset d numbers i (omega arith)
+      (line-offset d rows i (omega arith)
       ∙ rw (old i 0 (omega arith) h, old i 1 (omega arith) h, old i 2 (omega arith) h, old i 3 (omega arith) h)
-      (sym (line-offset c numbers i h))))
+      (sym (line-offset c rows i h))))
       (λ is z. absurd (omega arith))
       (λ i z. absurd (omega arith)))
-      (line-offset d numbers n (omega arith)
+      (line-offset d rows n (omega arith)
       ∙ front (1 + 2 * dimsOf (c .grid)) 9 bs _
       (rw (
         sets-at es o (4 * n) 0 (pos 0) room (omega arith),
@@ -295,7 +295,7 @@ module _ (numbers : List ℕ) (r : Reading) (keeps : Kept r) (bs : List ℕ) (sm
       (offset-row bs small e))
       (omega (arith, keeps .dims)) (omega arith) len)
 
-  box-adds : byteAt x 0 ≡ 8 → r .last ≡ stood.Offset → length bs ≡ 1 + 8 * dimsOf (c .grid) → Adds numbers r (withBox r x) bs
+  box-adds : byteAt x 0 ≡ 8 → r .last ≡ stood.Offset → length bs ≡ 1 + 8 * dimsOf (c .grid) → Adds rows r (withBox r x) bs
   unfolding withBox linesRead linesTo
   box-adds e p len =
       let g = none-given (inr p) in
@@ -303,28 +303,28 @@ module _ (numbers : List ℕ) (r : Reading) (keeps : Kept r) (bs : List ℕ) (sm
       let d = withBox r x .chain in
       let q : 1 + ahead + r .given ≡ 1 + n = omega (arith, offsets-only none n) in
       let q′ : 1 + (n + 1) + r .given ≡ 1 + n + 1 = omega arith in
-      adds numbers r (withBox r x) bs (1 + n) (behind-grid (inr p) ∙ q) q′
+      adds rows r (withBox r x) bs (1 + n) (behind-grid (inr p) ∙ q) q′
       (λ j l. by-place (c .bounds .stood) n j
-      (λ z. rw z (same-grid d c numbers refl))
-      (λ i h z. rw z (line-offset d numbers i h ∙ sym (line-offset c numbers i h)))
+      (λ z. rw z (same-grid d c rows refl))
+      (λ i h z. rw z (line-offset d rows i h ∙ sym (line-offset c rows i h)))
       (λ is z. absurd (omega arith))
       (λ i z. absurd (omega arith)))
-      (line-box d numbers refl (keeps .dims)
+      (line-box d rows refl (keeps .dims)
       ∙ box-front (dimsOf (c .grid)) (d .bounds) (keeps .dims)
       ∙ front (1 + 8 * dimsOf (c .grid)) 33 bs _ (box-row bs small e) (omega (arith, keeps .dims)) (omega arith) len)
 
-  capacity-adds : byteAt x 0 ≡ 3 → BehindOffsets (r .last) → r .given + 1 < n → length bs ≡ 5 → Adds numbers r (withCapacity r x) bs
+  capacity-adds : byteAt x 0 ≡ 3 → BehindOffsets (r .last) → r .given + 1 < n → length bs ≡ 5 → Adds rows r (withCapacity r x) bs
   unfolding withCapacity linesRead linesTo
   capacity-adds e p g len =
       let d = withCapacity r x .chain in
       let a = c .capacities in
       let v = r .given in
       let q : 1 + ahead + (v + 1) ≡ 1 + ahead + v + 1 = omega arith in
-      adds numbers r (withCapacity r x) bs (1 + ahead + v) (behind-offsets p) q
-      (λ j l. same-front c (d .capacities) (d .order) (d .kernel) numbers (keeps .dims) j
+      adds rows r (withCapacity r x) bs (1 + ahead + v) (behind-offsets p) q
+      (λ j l. same-front c (d .capacities) (d .order) (d .kernel) rows (keeps .dims) j
       (λ i z. let y : i ≡ v → ⊥ = λ u. omega arith in
-      rw z (line-capacity d numbers i (omega arith) ∙ ap capacityLine (getD-set-other a v i (wordAt x 1) 0 y) ∙ sym (line-capacity c numbers i (omega arith)))))
-      (line-capacity d numbers v g
+      rw z (line-capacity d rows i (omega arith) ∙ ap capacityLine (getD-set-other a v i (wordAt x 1) 0 y) ∙ sym (line-capacity c rows i (omega arith)))))
+      (line-capacity d rows v g
       ∙ ap capacityLine (getD-set-same a v (wordAt x 1) 0 (omega (arith, keeps .capacities, keeps .count)))
       ∙ capacity-row bs small e ∙ take-padded 5 bs (sym len) (omega arith))
 
@@ -335,16 +335,16 @@ module _ (numbers : List ℕ) (r : Reading) (keeps : Kept r) (bs : List ℕ) (sm
   unordered (bounds p) = ordered-at stood.Box p
   unordered (capacities p) = ordered-at stood.Capacity p
 
-  order-adds : byteAt x 0 ≡ 6 → BehindOffsets (r .last) → n ≡ r .given + 1 → length bs ≡ 1 + n → Adds numbers r (withOrder r x) bs
+  order-adds : byteAt x 0 ≡ 6 → BehindOffsets (r .last) → n ≡ r .given + 1 → length bs ≡ 1 + n → Adds rows r (withOrder r x) bs
   unfolding withOrder linesRead linesTo
   order-adds e p g len =
       let d = withOrder r x .chain in
       let v = r .given in
       let w : 1 + ahead + v ≡ ahead + n = omega arith in
-      adds numbers r (withOrder r x) bs (1 + ahead + v) (behind-offsets p) refl
-      (λ j l. same-front c (d .capacities) (d .order) (d .kernel) numbers (keeps .dims) j
-      (λ i z. rw z (line-capacity d numbers i (omega arith) ∙ sym (line-capacity c numbers i (omega arith)))))
-      (ap (lineAt d numbers) w ∙ line-order d numbers refl (omega arith) (keeps .count) ∙ order-row n bs e len (keeps .count))
+      adds rows r (withOrder r x) bs (1 + ahead + v) (behind-offsets p) refl
+      (λ j l. same-front c (d .capacities) (d .order) (d .kernel) rows (keeps .dims) j
+      (λ i z. rw z (line-capacity d rows i (omega arith) ∙ sym (line-capacity c rows i (omega arith)))))
+      (ap (lineAt d rows) w ∙ line-order d rows refl (omega arith) (keeps .count) ∙ order-row n bs e len (keeps .count))
 
   -- Behind as many lines as a sheet has before its kernel's.
   before-kernel : BehindWindow true (r .last) → n ≡ r .given + 1 → linesRead r ≡ linesBehind (c .bounds .stood) (c .order .stood) n
@@ -354,30 +354,30 @@ module _ (numbers : List ℕ) (r : Reading) (keeps : Kept r) (bs : List ℕ) (sm
   before-kernel (named request p) g = absurd (never request)
 
   kernel-adds : byteAt x 0 ≡ 4 → BehindWindow true (r .last) → n ≡ r .given + 1 → badKernel (length bs) (byteAt x 1) ≡ false
-      → badFactor (kernelIn x) ≡ false → Adds numbers r (withKernel r x) bs
+      → badFactor (kernelIn x) ≡ false → Adds rows r (withKernel r x) bs
   unfolding withKernel linesRead linesTo
   kernel-adds e p g ok finite =
       let d = withKernel r x .chain in
       let some : 0 < n = omega arith in
-      adds numbers r (withKernel r x) bs (linesBehind (c .bounds .stood) (c .order .stood) n) (before-kernel p g) refl
-      (λ j l. same-front c (d .capacities) (d .order) (d .kernel) numbers (keeps .dims) j
+      adds rows r (withKernel r x) bs (linesBehind (c .bounds .stood) (c .order .stood) n) (before-kernel p g) refl
+      (λ j l. same-front c (d .capacities) (d .order) (d .kernel) rows (keeps .dims) j
       (λ i z. by-lt (i + 1) n
-      (λ h. rw z (line-capacity d numbers i h ∙ sym (line-capacity c numbers i h)))
+      (λ h. rw z (line-capacity d rows i h ∙ sym (line-capacity c rows i h)))
       (λ h. let (is, at) = orders-place (c .bounds .stood) (c .order .stood) n j (omega arith) l in
-      rw at (line-order d numbers is some (keeps .count) ∙ sym (line-order c numbers is some (keeps .count))))))
-      (line-kernel d numbers some ∙ kernel-row bs small e ok finite)
+      rw at (line-order d rows is some (keeps .count) ∙ sym (line-order c rows is some (keeps .count))))))
+      (line-kernel d rows some ∙ kernel-row bs small e ok finite)
 
 -- Nothing is accepted behind the kernel's line.
-ended : (numbers : List ℕ) (r : Reading) (ls : List Line) → complete r ≡ true → readLines true numbers r ls .verdict ≡ verdict.Accepted → readLines true numbers r ls .reading ≡ r
+ended : (rows : List ℕ) (r : Reading) (ls : List Line) → complete r ≡ true → readLines true rows r ls .verdict ≡ verdict.Accepted → readLines true rows r ls .reading ≡ r
 unfolding readLines stepOf
-ended numbers r [] e h = refl
-ended numbers r (l ∷ ls) e h = go (lineVerdict true numbers r (seenOf (l .ended) (l .chars))) refl
+ended rows r [] e h = refl
+ended rows r (l ∷ ls) e h = go (lineVerdict true rows r (seenOf (l .ended) (l .chars))) refl
   where
-    by : Admitted true numbers r (seenOf (l .ended) (l .chars)) → ⊥
-    by a = never (sym e ∙ not-complete true numbers r _ a)
+    by : Admitted true rows r (seenOf (l .ended) (l .chars)) → ⊥
+    by a = never (sym e ∙ not-complete true rows r _ a)
 
-    go : (v : Verdict) → lineVerdict true numbers r (seenOf (l .ended) (l .chars)) ≡ v → readLines true numbers r (l ∷ ls) .reading ≡ r
-    go verdict.Accepted q = absurd (by (admitted true numbers r _ q .1))
+    go : (v : Verdict) → lineVerdict true rows r (seenOf (l .ended) (l .chars)) ≡ v → readLines true rows r (l ∷ ls) .reading ≡ r
+    go verdict.Accepted q = absurd (by (admitted true rows r _ q .1))
     go (verdict.Refused x) q = absurd (refused-accepted (rw q at h))
 
 -- A reading whose kernel, once it was read, has finite factors.
@@ -390,69 +390,69 @@ by-verdict verdict.Accepted a f = a refl
 by-verdict (verdict.Refused x) a f = f x refl
 
 -- Any line that is not turned back.
-step-adds : (numbers : List ℕ) (r : Reading) → Kept r → (bs : List ℕ) → Small bs → (stoodFirst (r .last) ≡ true → numbers ≡ numbersOn bs)
-    → lineVerdict true numbers r (lineSeen bs) ≡ verdict.Accepted → Finite (taken r (padded bs))
-    → Adds numbers r (taken r (padded bs)) bs × Kept (taken r (padded bs))
+step-adds : (rows : List ℕ) (r : Reading) → Kept r → (bs : List ℕ) → Small bs → (stoodFirst (r .last) ≡ true → rows ≡ numbersOn bs)
+    → lineVerdict true rows r (lineSeen bs) ≡ verdict.Accepted → Finite (taken r (padded bs))
+    → Adds rows r (taken r (padded bs)) bs × Kept (taken r (padded bs))
 unfolding dimsOf withGrid withRows withOffset withBox withCapacity withOrder withKernel Finite Counted Boxed Ordered complete closes stoodFirst
-step-adds numbers r k bs small own h finite = go (admitted true numbers r _ h .1)
+step-adds rows r k bs small own h finite = go (admitted true rows r _ h .1)
   where
-    go : Admitted true numbers r (lineSeen bs) → Adds numbers r (taken r (padded bs)) bs × Kept (taken r (padded bs))
+    go : Admitted true rows r (lineSeen bs) → Adds rows r (taken r (padded bs)) bs × Kept (taken r (padded bs))
     go (grid e last some few len sizes) =
         rw (taken-grid _ _ e) (
-          grid-adds numbers r k bs small e last few len,
+          grid-adds rows r k bs small e last few len,
           record {
             offsets = k .offsets;
             capacities = k .capacities;
             dims = few;
             count = k .count;
-            counted = counted-at numbers r k bs small stood.Nothing last .1;
-            boxed = boxed-at numbers r k bs small stood.Nothing last;
-            ordered = ordered-at numbers r k bs small stood.Nothing last;
+            counted = counted-at rows r k bs small stood.Nothing last .1;
+            boxed = boxed-at rows r k bs small stood.Nothing last;
+            ordered = ordered-at rows r k bs small stood.Nothing last;
           },
         )
-    go (rows e last some few len cells) =
+    go (skewedGrid e last some few len cells) =
         rw (taken-rows _ _ e) (
-          rows-adds numbers r k bs small e last (own (ap stoodFirst last)) few len,
+          rows-adds rows r k bs small e last (own (ap stoodFirst last)) few len,
           record {
             offsets = k .offsets;
             capacities = k .capacities;
             dims = omega arith;
             count = k .count;
-            counted = counted-at numbers r k bs small stood.Nothing last .1;
-            boxed = boxed-at numbers r k bs small stood.Nothing last;
-            ordered = ordered-at numbers r k bs small stood.Nothing last;
+            counted = counted-at rows r k bs small stood.Nothing last .1;
+            boxed = boxed-at rows r k bs small stood.Nothing last;
+            ordered = ordered-at rows r k bs small stood.Nothing last;
           },
         )
     go (offset e last len count) =
         rw (taken-offset _ _ e) (
-          offset-adds numbers r k bs small e last len count,
+          offset-adds rows r k bs small e last len count,
           record {
             offsets = simp length-sets (k .offsets);
             capacities = k .capacities;
             dims = k .dims;
             count = omega arith;
-            counted = none-given numbers r k bs small last;
-            boxed = no-box numbers r k bs small last;
-            ordered = no-order numbers r k bs small last;
+            counted = none-given rows r k bs small last;
+            boxed = no-box rows r k bs small last;
+            ordered = no-order rows r k bs small last;
           },
         )
     go (box e (inl last) len) =
         rw (taken-box _ _ e) (
-          box-adds numbers r k bs small e last len,
+          box-adds rows r k bs small e last len,
           record {
             offsets = k .offsets;
             capacities = k .capacities;
             dims = k .dims;
             count = k .count;
-            counted = none-given numbers r k bs small (inr last);
+            counted = none-given rows r k bs small (inr last);
             boxed = tt;
-            ordered = no-order numbers r k bs small (inr last);
+            ordered = no-order rows r k bs small (inr last);
           },
         )
     go (box e (inr (request, last)) len) = absurd (never request)
     go (capacity e last chain given len) =
         rw (taken-capacity _ _ e) (
-          capacity-adds numbers r k bs small e last given len,
+          capacity-adds rows r k bs small e last given len,
           record {
             offsets = k .offsets;
             capacities = simp length-set (k .capacities);
@@ -460,12 +460,12 @@ step-adds numbers r k bs small own h finite = go (admitted true numbers r _ h .1
             count = k .count;
             counted = tt;
             boxed = tt;
-            ordered = unordered numbers r k bs small last;
+            ordered = unordered rows r k bs small last;
           },
         )
     go (order e last chain given len) =
         rw (taken-order _ _ e) (
-          order-adds numbers r k bs small e last given len,
+          order-adds rows r k bs small e last given len,
           record { offsets = k .offsets; capacities = k .capacities; dims = k .dims; count = k .count; counted = tt; boxed = tt; ordered = refl },
         )
     go (name e last request len ok) = absurd (never request)
@@ -473,26 +473,26 @@ step-adds numbers r k bs small own h finite = go (admitted true numbers r _ h .1
         let counted = given refl in
         let same = taken-kernel r (padded bs) e in
         rw same (
-          kernel-adds numbers r k bs small e last counted form ((rw same at finite) refl),
+          kernel-adds rows r k bs small e last counted form ((rw same at finite) refl),
           record { offsets = k .offsets; capacities = k .capacities; dims = k .dims; count = k .count; counted = omega arith; boxed = tt; ordered = tt },
         )
 
-line-adds : (numbers : List ℕ) (r : Reading) → Kept r → (l : Line) → (stoodFirst (r .last) ≡ true → numbers ≡ numbersOn (bytesOf (l .chars)))
-    → lineVerdict true numbers r (seenOf (l .ended) (l .chars)) ≡ verdict.Accepted → Finite (taken r (padded (bytesOf (l .chars))))
-    → (written numbers (taken r (padded (bytesOf (l .chars)))) ≡ written numbers r ++ (l .chars ++ cond (l .ended) (lineFeed ∷ []) [])) × Kept (taken r (padded (bytesOf (l .chars))))
+line-adds : (rows : List ℕ) (r : Reading) → Kept r → (l : Line) → (stoodFirst (r .last) ≡ true → rows ≡ numbersOn (bytesOf (l .chars)))
+    → lineVerdict true rows r (seenOf (l .ended) (l .chars)) ≡ verdict.Accepted → Finite (taken r (padded (bytesOf (l .chars))))
+    → (written rows (taken r (padded (bytesOf (l .chars)))) ≡ written rows r ++ (l .chars ++ cond (l .ended) (lineFeed ∷ []) [])) × Kept (taken r (padded (bytesOf (l .chars))))
 unfolding Adds framed
-line-adds numbers r k l own h finite =
-    let a = admitted true numbers r (seenOf (l .ended) (l .chars)) h .0 in
+line-adds rows r k l own h finite =
+    let a = admitted true rows r (seenOf (l .ended) (l .chars)) h .0 in
     let p = and-true (l .ended) (whole (l .chars)) a in
-    let t = step-adds numbers r k (bytesOf (l .chars)) (small-bytes (l .chars) (p .1)) own (rw a at h) finite in
-    (rw (p .0) (t .0 ∙ ap (λ d. written numbers r ++ (d ++ (lineFeed ∷ []))) (digits-back (l .chars) (p .1))), t .1)
+    let t = step-adds rows r k (bytesOf (l .chars)) (small-bytes (l .chars) (p .1)) own (rw a at h) finite in
+    (rw (p .0) (t .0 ∙ ap (λ d. written rows r ++ (d ++ (lineFeed ∷ []))) (digits-back (l .chars) (p .1))), t .1)
 
-all-written : (numbers : List ℕ) (r : Reading) → Kept r → complete r ≡ true → written numbers r ≡ sheetOf (r .chain) numbers
+all-written : (rows : List ℕ) (r : Reading) → Kept r → complete r ≡ true → written rows r ≡ sheetOf (r .chain) rows
 unfolding written linesRead complete closes linesTo Counted
-all-written numbers r k e = go (r .last) e (k .counted)
+all-written rows r k e = go (r .last) e (k .counted)
   where
     go : (l : Last) → closes l ≡ true → Counted l (r .chain .window .count) (r .given)
-        → linesFrom (r .chain) numbers 0 (linesTo l (r .chain .bounds .stood) (r .chain .order .stood) (r .chain .window .count) (r .given)) ≡ sheetOf (r .chain) numbers
+        → linesFrom (r .chain) rows 0 (linesTo l (r .chain .bounds .stood) (r .chain .order .stood) (r .chain .window .count) (r .given)) ≡ sheetOf (r .chain) rows
     go stood.Nothing h c = absurd (never (sym h))
     go stood.Grid h c = absurd (never (sym h))
     go stood.Offset h c = absurd (never (sym h))
@@ -500,42 +500,42 @@ all-written numbers r k e = go (r .last) e (k .counted)
     go stood.Box h c = absurd (never (sym h))
     go stood.Capacity h c = absurd (never (sym h))
     go stood.Order h c = absurd (never (sym h))
-    go stood.Kernel h c = sym (sheet-rows (r .chain) numbers (k .dims) c (k .count))
+    go stood.Kernel h c = sym (sheet-rows (r .chain) rows (k .dims) c (k .count))
 
--- The lines from a reading on; `numbers` stand on the first line.
-lines-back : (numbers : List ℕ) (ls : List Line) (r : Reading) → Kept r → Begins numbers r ls
-    → (let s = readLines true numbers r ls in
-    s .verdict ≡ verdict.Accepted → complete (s .reading) ≡ true → badFactor (s .reading .chain .kernel) ≡ false → written numbers r ++ text ls ≡ sheetOf (s .reading .chain) numbers)
+-- The lines from a reading on; `rows` stand on the first line.
+lines-back : (rows : List ℕ) (ls : List Line) (r : Reading) → Kept r → Begins rows r ls
+    → (let s = readLines true rows r ls in
+    s .verdict ≡ verdict.Accepted → complete (s .reading) ≡ true → badFactor (s .reading .chain .kernel) ≡ false → written rows r ++ text ls ≡ sheetOf (s .reading .chain) rows)
 unfolding readLines text stepOf Finite
-lines-back numbers [] r k begins h e f = append-nil (written numbers r) ∙ all-written numbers r k e
-lines-back numbers (l ∷ ls) r k begins h e f =
-    by-verdict (lineVerdict true numbers r (seenOf (l .ended) (l .chars)))
+lines-back rows [] r k begins h e f = append-nil (written rows r) ∙ all-written rows r k e
+lines-back rows (l ∷ ls) r k begins h e f =
+    by-verdict (lineVerdict true rows r (seenOf (l .ended) (l .chars)))
     (λ q. let t = taken r (padded (bytesOf (l .chars))) in
-    let h′ : readLines true numbers t ls .verdict ≡ verdict.Accepted = rw q at h in
-    let e′ : complete (readLines true numbers t ls .reading) ≡ true = rw q at e in
-    let f′ : badFactor (readLines true numbers t ls .reading .chain .kernel) ≡ false = rw q at f in
-    let b′ : Begins numbers t ls = rw q at (behind-begins true numbers r (seenOf (l .ended) (l .chars)) ls q) in
-    let a = line-adds numbers r k l begins q (λ z. ap (λ u. badFactor (u .chain .kernel)) (sym (ended numbers t ls z h′)) ∙ f′) in
+    let h′ : readLines true rows t ls .verdict ≡ verdict.Accepted = rw q at h in
+    let e′ : complete (readLines true rows t ls .reading) ≡ true = rw q at e in
+    let f′ : badFactor (readLines true rows t ls .reading .chain .kernel) ≡ false = rw q at f in
+    let b′ : Begins rows t ls = rw q at (behind-begins true rows r (seenOf (l .ended) (l .chars)) ls q) in
+    let a = line-adds rows r k l begins q (λ z. ap (λ u. badFactor (u .chain .kernel)) (sym (ended rows t ls z h′)) ∙ f′) in
     rw q
-    (sym (append-assoc (written numbers r) (l .chars ++ cond (l .ended) (lineFeed ∷ []) []) (text ls))
+    (sym (append-assoc (written rows r) (l .chars ++ cond (l .ended) (lineFeed ∷ []) []) (text ls))
     ∙ ap (λ w. w ++ text ls) (sym (a .0))
-    ∙ lines-back numbers ls t (a .1) b′ h′ e′ f′))
+    ∙ lines-back rows ls t (a .1) b′ h′ e′ f′))
     (λ x q. absurd (refused-accepted (rw q at h)))
 
 kept-start : Kept start
 unfolding Counted Boxed Ordered dimsOf
 kept-start = record { offsets = refl; capacities = refl; dims = omega arith; count = omega arith; counted = (refl, refl); boxed = refl; ordered = refl }
 
-none-written : (numbers : List ℕ) → written numbers start ≡ []
+none-written : (rows : List ℕ) → written rows start ≡ []
 unfolding written linesRead linesTo linesFrom
-none-written numbers = refl
+none-written rows = refl
 
 pub read-write : ReadWrite
 unfolding numbersIn
 read-write sheet h =
     let a = accepted-sheet sheet h in
-    let numbers = numbersIn sheet in
-    ap (λ (c : Chain). sheetOf c numbers) (accepted-read sheet h)
-    ∙ sym (lines-back numbers (linesOf sheet) start kept-start (λ q. refl) (a .0) (a .1 .0) (accepted-chain _ numbers (a .1 .1) .factors))
-    ∙ ap (λ w. w ++ text (linesOf sheet)) (none-written numbers)
+    let rows = numbersIn sheet in
+    ap (λ (c : Chain). sheetOf c rows) (accepted-read sheet h)
+    ∙ sym (lines-back rows (linesOf sheet) start kept-start (λ q. refl) (a .0) (a .1 .0) (accepted-chain _ rows (a .1 .1) .factors))
+    ∙ ap (λ w. w ++ text (linesOf sheet)) (none-written rows)
     ∙ text-back sheet

@@ -7,12 +7,12 @@ use lib.ListN.{length, getD}
 use Rattle.model.specs.Lists.{tabulate}
 use Rattle.model.specs.Values.{rowsOf}
 use Rattle.model.specs.Grounds.{Row}
-use Rattle.model.specs.Frames.{padded, bytesOf, digitsOf, framed}
-use Rattle.model.specs.Numbers.{byteAt, halfAt, halfBytes}
-use Rattle.model.specs.Reading.{numbersOn, firstNumbers, numbersIn}
-use Rattle.model.proofs.ListLaws.{length-tabulate, getD-tabulate, tabulate-back, tabulate-same}
-use Rattle.model.proofs.NumberLaws.{numbers-table}
-use Rattle.sheet_laws.specs.Rows.{rowsLine}
+use Rattle.model_sheet.specs.Frames.{padded, bytesOf, digitsOf, framed}
+use Rattle.model_sheet.specs.Numbers.{byteAt, halfAt, halfBytes}
+use Rattle.model_sheet.specs.Reading.{numbersOn, firstNumbers, numbersIn}
+use Rattle.grid_laws.proofs.ListLaws.{length-tabulate, getD-tabulate, tabulate-back, tabulate-same}
+use Rattle.model_sheet.proofs.NumberLaws.{numbers-table}
+use Rattle.sheet_laws.specs.Sections.{rowsLine}
 use Rattle.sheet_trips.proofs.Bytes.{Small, small-append, small-half, frame-back, frame-line}
 use Rattle.sheet_trips.proofs.Bytes.Small.{none, more}
 
@@ -67,27 +67,27 @@ behind-three a b c xs i =
     rw (e, f)
 
 -- The line of rows whose numbers have two bytes each.
-module _ (n : ℕ) (numbers : List ℕ) where
-  numbers-there : (i : ℕ) → halfAt (rowsLine n numbers) (3 + 2 * i) ≡ getD (tabulate (2 * n) (λ i. getD numbers i 0)) i 0
+module _ (n : ℕ) (rows : List ℕ) where
+  numbers-there : (i : ℕ) → halfAt (rowsLine n rows) (3 + 2 * i) ≡ getD (tabulate (2 * n) (λ i. getD rows i 0)) i 0
   unfolding rowsLine halfBytes
   numbers-there i =
-      let ws = tabulate (2 * n) (λ i. getD numbers i 0) in
+      let ws = tabulate (2 * n) (λ i. getD rows i 0) in
       behind-three 9 (n / 256) (n % 256) (flatMap halfBytes ws) (2 * i) ∙ halves-at ws i
 
-  pub small-rows : n ≤ 512 → ((i : ℕ) → i < 2 * n → getD numbers i 0 ≤ 4095) → Small (rowsLine n numbers)
+  pub small-rows : n ≤ 512 → ((i : ℕ) → i < 2 * n → getD rows i 0 ≤ 4095) → Small (rowsLine n rows)
   unfolding rowsLine
   small-rows few fits =
-      let ws = tabulate (2 * n) (λ i. getD numbers i 0) in
+      let ws = tabulate (2 * n) (λ i. getD rows i 0) in
       more {b = 9} (omega arith)
       (small-append (small-half n (omega arith))
       (small-halves ws
-      (λ i h. let l = rw length-tabulate at h in rw (getD-tabulate (2 * n) (λ i. getD numbers i 0) i 0 l) (omega (arith, fits i l)))))
+      (λ i h. let l = rw length-tabulate at h in rw (getD-tabulate (2 * n) (λ i. getD rows i 0) i 0 l) (omega (arith, fits i l)))))
 
   -- Read from it they are those that it was written of.
-  pub number-back : n ≤ 512 → (i : ℕ) → i < 2 * n → getD (numbersOn (rowsLine n numbers)) i 0 ≡ getD numbers i 0
-  number-back few i h = number-at (rowsLine n numbers) i (omega arith) ∙ numbers-there i ∙ getD-tabulate (2 * n) (λ i. getD numbers i 0) i 0 h
+  pub number-back : n ≤ 512 → (i : ℕ) → i < 2 * n → getD (numbersOn (rowsLine n rows)) i 0 ≡ getD rows i 0
+  number-back few i h = number-at (rowsLine n rows) i (omega arith) ∙ numbers-there i ∙ getD-tabulate (2 * n) (λ i. getD rows i 0) i 0 h
 
-  pub rows-heads : (byteAt (padded (rowsLine n numbers)) 0 ≡ 9) × (halfAt (padded (rowsLine n numbers)) 1 ≡ n)
+  pub rows-heads : (byteAt (padded (rowsLine n rows)) 0 ≡ 9) × (halfAt (padded (rowsLine n rows)) 1 ≡ n)
   unfolding padded rowsLine halfBytes halfAt
   rows-heads = (refl, omega arith)
 
@@ -103,7 +103,7 @@ rows-same n one other h =
     none-there = record { start = 0; length = 0 }
 
     rowIn : List ℕ → ℕ → Row
-    rowIn numbers i = record { start = getD numbers (2 * i) 0; length = getD numbers (2 * i + 1) 0 }
+    rowIn rows i = record { start = getD rows (2 * i) 0; length = getD rows (2 * i + 1) 0 }
 
 -- A line of bytes that was read as rows, written.
 pub rows-row : (bs : List ℕ) → Small bs → byteAt (padded bs) 0 ≡ 9 → halfAt (padded bs) 1 ≤ 512 → length bs ≡ 3 + 4 * halfAt (padded bs) 1

@@ -13,7 +13,7 @@ use lib.Seq.{sets, getD-set-same, getD-set-other}
 use lib.Signed.{mag}
 use borrow.Author.Tests.{lt-ltb, le-ltb}
 use Rattle.model.specs.Judging.{notFinite}
-use Rattle.model.specs.Numbers.{signed, pattern, signedWord, wordPattern}
+use Rattle.model_sheet.specs.Numbers.{signed, pattern, signedWord, wordPattern}
 use Rattle.sheet_laws.proofs.Cases.{by-lt, never}
 
 -- 16 bits in two's complement.

@@ -25,23 +25,23 @@ use Rattle.model.specs.declared.Verdict.the-variants as verdict
 use Rattle.model.specs.Boxes.Part.{box}
 use Rattle.model.specs.Lists.{tabulate, upTo as firstNumbers, any}
 use Rattle.model.specs.Values.{sizesOf, rowsOf, groundOf, dimsOf, entryOf, offsetOf, capacityOf, orderOf, partOf, noBounds, boundsOf, noOrder, normalGrid, blankChain, setGrid, setOrder, trimmed}
-use Rattle.model.specs.Grounds.Ground.{rows}
+use Rattle.model.specs.Grounds.Ground.{skewed}
 use Rattle.model.specs.Judging.{badDims, badSizes, badRowCount, badRows, judgeChain}
-use Rattle.model.specs.Lines.{linesOf}
-use Rattle.model.specs.Frames.{kept, padded, framed}
-use Rattle.model.specs.Numbers.{byteAt, wordAt, wordBytes, signedWord, wordPattern}
-use Rattle.model.specs.Reading.{badKernel, badForm, malformed, nextInChain, miscounted, among, misplaced, badLength, sizesIn, lowestIn, highestIn, kernelIn}
-use Rattle.model.specs.Reading.{numbersOn, taken, withGrid, withRows, withBox, withCapacity, withOrder, withKernel, start, closes, complete, readLines, endVerdict, numbersIn, readChain}
-use Rattle.model.specs.Writing.{gridLine, offsetLine, indexPair, capacityLine, kernelLine, chainLines, sheetOf}
-use Rattle.model.proofs.ListLaws.{length-tabulate, getD-tabulate}
-use Rattle.model.proofs.ChainLaws.{length-order, dims-flat, ground-flat, ground-skewed}
-use Rattle.model.proofs.TermLaws.{order-below}
-use Rattle.sheet_laws.specs.Rows.{gridRow, rowsLine, toCapacities, linesBehind, lineAt, linesFrom}
+use Rattle.model_sheet.specs.Lines.{linesOf}
+use Rattle.model_sheet.specs.Frames.{kept, padded, framed}
+use Rattle.model_sheet.specs.Numbers.{byteAt, wordAt, wordBytes, signedWord, wordPattern}
+use Rattle.model_sheet.specs.Reading.{badKernel, badForm, malformed, nextInChain, miscounted, among, misplaced, badLength, sizesIn, lowestIn, highestIn, kernelIn}
+use Rattle.model_sheet.specs.Reading.{numbersOn, taken, withGrid, withRows, withBox, withCapacity, withOrder, withKernel, start, closes, complete, readLines, endVerdict, numbersIn, readChain}
+use Rattle.model_sheet.specs.Writing.{gridLine, offsetLine, indexPair, capacityLine, kernelLine, chainLines, sheetOf}
+use Rattle.grid_laws.proofs.ListLaws.{length-tabulate, getD-tabulate}
+use Rattle.grid_laws.proofs.ChainLaws.{length-order, dims-flat, ground-flat, ground-skewed}
+use Rattle.grid_laws.proofs.TermLaws.{order-below}
+use Rattle.sheet_laws.specs.Sections.{gridRow, rowsLine, toCapacities, linesBehind, lineAt, linesFrom}
 use Rattle.sheet_laws.proofs.Cases.{by-bool, by-lt}
 use Rattle.sheet_laws.proofs.AcceptedLines.{taken-grid, taken-rows, taken-box, taken-capacity, taken-order, taken-kernel}
 use Rattle.sheet_laws.proofs.AcceptedChains.{number-fits, some-rows, few-rows, no-bad-row, Accepted, accepted-chain}
 use Rattle.sheet_laws.proofs.SheetLength.{pairs-length, rows-length}
-use Rattle.sheet_laws.proofs.SheetRows.{grid-front, rows-line, offset-front, line-offset, line-box, line-capacity, line-order, line-kernel, sheet-rows}
+use Rattle.sheet_laws.proofs.SheetSections.{grid-front, rows-line, offset-front, line-offset, line-box, line-capacity, line-order, line-kernel, sheet-rows}
 use Rattle.sheet_trips.specs.RoundTrips.{FactorsFit, InRange, WriteRead}
 use Rattle.sheet_trips.proofs.Bytes.{Small, small-each, small-append, small-take, small-word, lineSeen, past, filters-read}
 use Rattle.sheet_trips.proofs.Bytes.Small.{none, more}
@@ -183,8 +183,8 @@ kernel-comes true false (suc n) zero h = ap not (eq-eqb _ _ h)
 kernel-comes false false (suc n) zero h = ap not (eq-eqb _ _ h)
 kernel-comes boxed false (suc n) (suc g) h = ap not (eq-eqb _ _ h)
 
--- `numbers` stand beside the chain, `told` are those on the first line of its sheet.
-module _ (c : Chain) (numbers told : List ℕ) (range : InRange c) (ok : Accepted c numbers) where
+-- `rows` stand beside the chain, `told` are those on the first line of its sheet.
+module _ (c : Chain) (rows told : List ℕ) (range : InRange c) (ok : Accepted c rows) where
   abbrev count : ℕ
   count = c .window .count
 
@@ -274,32 +274,32 @@ module _ (c : Chain) (numbers told : List ℕ) (range : InRange c) (ok : Accepte
     rowCount = c .grid .rows
 
     abbrev rowBytes : List ℕ
-    rowBytes = rowsLine rowCount numbers
+    rowBytes = rowsLine rowCount rows
 
-    fine : badRows (rowsOf rowCount numbers) ≡ false
-    fine = ok .rows skewed
+    fine : badRows (rowsOf rowCount rows) ≡ false
+    fine = ok .good-rows skewed
 
     few-of-them : rowCount ≤ 512
-    few-of-them = few-rows rowCount numbers fine
+    few-of-them = few-rows rowCount rows fine
 
     small-numbers : Small rowBytes
-    small-numbers = small-rows rowCount numbers few-of-them (number-fits rowCount numbers (no-bad-row rowCount numbers fine))
+    small-numbers = small-rows rowCount rows few-of-them (number-fits rowCount rows (no-bad-row rowCount rows fine))
 
     rows-taken : taken start (padded rowBytes) ≡ midway c noBounds 0 0
     unfolding lastOf withRows readOffsets readCapacities
     rows-taken =
-        let heads = rows-heads rowCount numbers in
+        let heads = rows-heads rowCount rows in
         taken-rows start (padded rowBytes) (heads .0)
         ∙ rw (heads .1) (ap (λ (g : Grid). onlyGrid g) (normal-skewed (c .grid) skewed))
 
-    rows-goes : rowsOf rowCount told ≡ rowsOf rowCount numbers → Goes true told start rowBytes (midway c noBounds 0 0)
+    rows-goes : rowsOf rowCount told ≡ rowsOf rowCount rows → Goes true told start rowBytes (midway c noBounds 0 0)
     unfolding malformed badForm misplaced among any nextInChain miscounted badRowCount badLength
     rows-goes again =
-        let heads = rows-heads rowCount numbers in
-        let l : length rowBytes ≡ 3 + 4 * rowCount = rows-length rowCount numbers in
+        let heads = rows-heads rowCount rows in
+        let l : length rowBytes ≡ 3 + 4 * rowCount = rows-length rowCount rows in
         let p : 3 ≤ 3 + 4 * rowCount = omega arith in
         let z : 3 + 4 * rowCount ≡ 0 → ⊥ = λ e. omega arith in
-        let some : rowCount ≡ 0 → ⊥ = λ e. omega (arith, some-rows rowCount numbers fine) in (
+        let some : rowCount ≡ 0 → ⊥ = λ e. omega (arith, some-rows rowCount rows fine) in (
           all-clear true told start (lineSeen rowBytes)
               (rw (heads .0, l, ne-eqb _ _ z, le-ltb _ _ p))
               (rw (heads .0))
@@ -307,24 +307,24 @@ module _ (c : Chain) (numbers told : List ℕ) (range : InRange c) (ok : Accepte
               (rw (heads .0, heads .1, ne-eqb _ _ some, le-ltb _ _ few-of-them))
               (rw (heads .0, heads .1, l, eq-eqb (3 + 4 * rowCount) (3 + 4 * rowCount) refl))
               (rw (heads .0))
-              (rw (heads .0, heads .1, again) (no-bad-row rowCount numbers fine))
+              (rw (heads .0, heads .1, again) (no-bad-row rowCount rows fine))
               (rw (heads .0))
               (rw (heads .0)),
           rows-taken,
         )
 
   -- Of either kind.
-  small-grid : Small (gridLine (c .grid) numbers)
+  small-grid : Small (gridLine (c .grid) rows)
   small-grid =
       by-bool (c .grid .skewed)
-      (λ e. rw (rows-line (c .grid) numbers e) (small-numbers e))
-      (λ e. rw (grid-front (c .grid) numbers e (few-sizes e)) (small-sizes e))
+      (λ e. rw (rows-line (c .grid) rows e) (small-numbers e))
+      (λ e. rw (grid-front (c .grid) rows e (few-sizes e)) (small-sizes e))
 
-  grid-goes : (c .grid .skewed ≡ true → rowsOf (c .grid .rows) told ≡ rowsOf (c .grid .rows) numbers) → Goes true told start (gridLine (c .grid) numbers) (midway c noBounds 0 0)
+  grid-goes : (c .grid .skewed ≡ true → rowsOf (c .grid .rows) told ≡ rowsOf (c .grid .rows) rows) → Goes true told start (gridLine (c .grid) rows) (midway c noBounds 0 0)
   grid-goes again =
       by-bool (c .grid .skewed)
-      (λ e. rw (rows-line (c .grid) numbers e) (rows-goes e (again e)))
-      (λ e. rw (grid-front (c .grid) numbers e (few-sizes e)) (sizes-goes e))
+      (λ e. rw (rows-line (c .grid) rows e) (rows-goes e (again e)))
+      (λ e. rw (grid-front (c .grid) rows e (few-sizes e)) (sizes-goes e))
 
   abbrev dims : ℕ
   dims = dimsOf (c .grid)
@@ -440,7 +440,7 @@ small-kernel (kernel.Blend g) h =
     more {b = 4} (omega arith)
     (more {b = 3} (omega arith) (small-append (small-word _ (toBits-lt binary32 (g .a) (h .0))) (small-word _ (toBits-lt binary32 (g .b) (h .1)))))
 
-module _ (c : Chain) (numbers told : List ℕ) (range : InRange c) (ok : Accepted c numbers) where
+module _ (c : Chain) (rows told : List ℕ) (range : InRange c) (ok : Accepted c rows) where
   abbrev n : ℕ
   n = c .window .count
 
@@ -510,7 +510,7 @@ module _ (c : Chain) (numbers told : List ℕ) (range : InRange c) (ok : Accepte
       )
 
   offsets-read : (i k m : ℕ) → k + i ≡ n
-      → readLines true told (midway c noBounds k 0) (linesOf (linesFrom c numbers (1 + k) (i + m))) ≡ readLines true told (midway c noBounds n 0) (linesOf (linesFrom c numbers (1 + n) m))
+      → readLines true told (midway c noBounds k 0) (linesOf (linesFrom c rows (1 + k) (i + m))) ≡ readLines true told (midway c noBounds n 0) (linesOf (linesFrom c rows (1 + n) m))
   unfolding linesFrom
   offsets-read zero k m e =
       let f : k ≡ n = omega arith in
@@ -519,9 +519,9 @@ module _ (c : Chain) (numbers told : List ℕ) (range : InRange c) (ok : Accepte
   offsets-read (suc i) k m e =
       let z : suc i + m ≡ suc (i + m) = omega arith in
       let y : 1 + k + 1 ≡ 1 + suc k = omega arith in
-      rw (z, line-offset c numbers k (omega arith), ← offset-front (dimsOf (c .grid)) (c .window) k (ok .few-dims), y)
+      rw (z, line-offset c rows k (omega arith), ← offset-front (dimsOf (c .grid)) (c .window) k (ok .few-dims), y)
       (line-goes true told (midway c noBounds k 0) (midway c noBounds (suc k) 0) (offsetLine (offsetOf (dimsOf (c .grid)) (c .window) k)) _
-      (small-offset (offsetOf (dimsOf (c .grid)) (c .window) k) (entry-fits c numbers told range ok k)) (offset-read c numbers told range ok k (omega (arith, ok .few)))
+      (small-offset (offsetOf (dimsOf (c .grid)) (c .window) k) (entry-fits c rows told range ok k)) (offset-read c rows told range ok k (omega (arith, ok .few)))
       ∙ offsets-read i (suc k) m (omega arith))
 
   -- The box's line, where it stood.
@@ -552,20 +552,20 @@ module _ (c : Chain) (numbers told : List ℕ) (range : InRange c) (ok : Accepte
         taken-box (midway c noBounds n 0) (padded bs) refl ∙ rw (← box-last n (ok .some)) (ap (λ (b : Bounds). midway c b n 0) (bounds-read is)),
       )
 
-  box-read : (m : ℕ) → readLines true told (midway c noBounds n 0) (linesOf (linesFrom c numbers (1 + n) (cond boxed 1 0 + m)))
-      ≡ readLines true told (midway c (readBounds c) n 0) (linesOf (linesFrom c numbers (1 + toCapacities boxed n) m))
+  box-read : (m : ℕ) → readLines true told (midway c noBounds n 0) (linesOf (linesFrom c rows (1 + n) (cond boxed 1 0 + m)))
+      ≡ readLines true told (midway c (readBounds c) n 0) (linesOf (linesFrom c rows (1 + toCapacities boxed n) m))
   unfolding linesFrom partOf boundsOf
   box-read m = go boxed refl
     where
       go : (b : Bool) → boxed ≡ b
-          → readLines true told (midway c noBounds n 0) (linesOf (linesFrom c numbers (1 + n) (cond b 1 0 + m)))
-          ≡ readLines true told (midway c (readBounds c) n 0) (linesOf (linesFrom c numbers (1 + toCapacities b n) m))
+          → readLines true told (midway c noBounds n 0) (linesOf (linesFrom c rows (1 + n) (cond b 1 0 + m)))
+          ≡ readLines true told (midway c (readBounds c) n 0) (linesOf (linesFrom c rows (1 + toCapacities b n) m))
       go true e =
           let z : 1 + m ≡ suc m = omega arith in
           let y : 1 + (n + 1) ≡ 1 + n + 1 = omega arith in
           rw (z, y)
-          (ap (λ l. readLines true told (midway c noBounds n 0) (linesOf (framed l ++ linesFrom c numbers (1 + n + 1) m))) (line-box c numbers e (ok .few-dims))
-          ∙ line-goes true told (midway c noBounds n 0) (midway c (readBounds c) n 0) (boxBytes (dimsOf (c .grid)) (c .bounds)) (linesFrom c numbers (1 + n + 1) m)
+          (ap (λ l. readLines true told (midway c noBounds n 0) (linesOf (framed l ++ linesFrom c rows (1 + n + 1) m))) (line-box c rows e (ok .few-dims))
+          ∙ line-goes true told (midway c noBounds n 0) (midway c (readBounds c) n 0) (boxBytes (dimsOf (c .grid)) (c .bounds)) (linesFrom c rows (1 + n + 1) m)
           (small-box (c .bounds) (range .lowest) (range .highest) (dimsOf (c .grid))) (box-goes e))
       go false e =
           let z : 0 + m ≡ m = omega arith in
@@ -573,8 +573,8 @@ module _ (c : Chain) (numbers told : List ℕ) (range : InRange c) (ok : Accepte
           rw (z, y, e)
 
   capacities-read : (i k m : ℕ) → k + i + 1 ≡ n
-      → readLines true told (midway c (readBounds c) n k) (linesOf (linesFrom c numbers (1 + toCapacities boxed n + k) (i + m)))
-      ≡ readLines true told (midway c (readBounds c) n (n - 1)) (linesOf (linesFrom c numbers (toCapacities boxed n + n) m))
+      → readLines true told (midway c (readBounds c) n k) (linesOf (linesFrom c rows (1 + toCapacities boxed n + k) (i + m)))
+      ≡ readLines true told (midway c (readBounds c) n (n - 1)) (linesOf (linesFrom c rows (toCapacities boxed n + n) m))
   unfolding linesFrom
   capacities-read zero k m e =
       let f : k ≡ n - 1 = omega arith in
@@ -584,12 +584,12 @@ module _ (c : Chain) (numbers told : List ℕ) (range : InRange c) (ok : Accepte
   capacities-read (suc i) k m e =
       let z : suc i + m ≡ suc (i + m) = omega arith in
       let y : 1 + toCapacities boxed n + k + 1 ≡ 1 + toCapacities boxed n + suc k = omega arith in
-      rw (z, line-capacity c numbers k (omega arith), y)
-      (line-goes true told (midway c (readBounds c) n k) (midway c (readBounds c) n (suc k)) (capacityLine (capacityOf c k)) _ (small-capacity k) (capacity-goes c numbers told range ok (readBounds c) k (omega arith))
+      rw (z, line-capacity c rows k (omega arith), y)
+      (line-goes true told (midway c (readBounds c) n k) (midway c (readBounds c) n (suc k)) (capacityLine (capacityOf c k)) _ (small-capacity k) (capacity-goes c rows told range ok (readBounds c) k (omega arith))
       ∙ capacities-read i (suc k) m (omega arith))
 
-  order-read : readLines true told (midway c (readBounds c) n (n - 1)) (linesOf (linesFrom c numbers (toCapacities boxed n + n) (cond ordered 1 0 + 1)))
-      ≡ readLines true told (toKernel c ordered) (linesOf (linesFrom c numbers (toCapacities boxed n + n + cond ordered 1 0) 1))
+  order-read : readLines true told (midway c (readBounds c) n (n - 1)) (linesOf (linesFrom c rows (toCapacities boxed n + n) (cond ordered 1 0 + 1)))
+      ≡ readLines true told (toKernel c ordered) (linesOf (linesFrom c rows (toCapacities boxed n + n + cond ordered 1 0) 1))
   unfolding linesFrom readOrder tabulate
   order-read = go ordered refl
     where
@@ -597,16 +597,16 @@ module _ (c : Chain) (numbers told : List ℕ) (range : InRange c) (ok : Accepte
       at = toCapacities boxed n + n
 
       go : (b : Bool) → ordered ≡ b
-          → readLines true told (midway c (readBounds c) n (n - 1)) (linesOf (linesFrom c numbers at (cond b 1 0 + 1))) ≡ readLines true told (toKernel c b) (linesOf (linesFrom c numbers (at + cond b 1 0) 1))
+          → readLines true told (midway c (readBounds c) n (n - 1)) (linesOf (linesFrom c rows at (cond b 1 0 + 1))) ≡ readLines true told (toKernel c b) (linesOf (linesFrom c rows (at + cond b 1 0) 1))
       go true e =
-          ap (λ l. readLines true told (midway c (readBounds c) n (n - 1)) (linesOf (framed l ++ linesFrom c numbers (at + 1) 1))) (line-order c numbers e (ok .some) (ok .few))
-          ∙ line-goes true told (midway c (readBounds c) n (n - 1)) (toKernel c true) (6 ∷ order) (linesFrom c numbers (at + 1) 1) small-order (order-goes e)
+          ap (λ l. readLines true told (midway c (readBounds c) n (n - 1)) (linesOf (framed l ++ linesFrom c rows (at + 1) 1))) (line-order c rows e (ok .some) (ok .few))
+          ∙ line-goes true told (midway c (readBounds c) n (n - 1)) (toKernel c true) (6 ∷ order) (linesFrom c rows (at + 1) 1) small-order (order-goes e)
       go false e =
           let z : at ≡ at + 0 = omega arith in
-          ap (λ m. readLines true told (toKernel c false) (linesOf (linesFrom c numbers m 1))) z
+          ap (λ m. readLines true told (toKernel c false) (linesOf (linesFrom c rows m 1))) z
 
-  all-read : (c .grid .skewed ≡ true → rowsOf (c .grid .rows) told ≡ rowsOf (c .grid .rows) numbers)
-      → readLines true told start (linesOf (sheetOf c numbers)) ≡ record { verdict = verdict.Accepted; reading = atEnd }
+  all-read : (c .grid .skewed ≡ true → rowsOf (c .grid .rows) told ≡ rowsOf (c .grid .rows) rows)
+      → readLines true told start (linesOf (sheetOf c rows)) ≡ record { verdict = verdict.Accepted; reading = atEnd }
   unfolding linesFrom lineAt readLines linesOf linesBehind
   all-read again =
       let b : ℕ = cond boxed 1 0 in
@@ -614,64 +614,64 @@ module _ (c : Chain) (numbers told : List ℕ) (range : InRange c) (ok : Accepte
       let a : ℕ = 1 + toCapacities boxed n in
       let z : linesBehind boxed ordered n + 1 ≡ suc (n + (b + (n - 1 + (s + 1)))) = omega (arith, ok .some) in
       let y : a + 0 ≡ a = omega arith in
-      rw (sheet-rows c numbers (ok .few-dims) (ok .some) (ok .few), z)
-      (line-goes true told start (midway c noBounds 0 0) (gridLine (c .grid) numbers) (linesFrom c numbers 1 (n + (b + (n - 1 + (s + 1)))))
-      (small-grid c numbers told range ok) (grid-goes c numbers told range ok again)
+      rw (sheet-rows c rows (ok .few-dims) (ok .some) (ok .few), z)
+      (line-goes true told start (midway c noBounds 0 0) (gridLine (c .grid) rows) (linesFrom c rows 1 (n + (b + (n - 1 + (s + 1)))))
+      (small-grid c rows told range ok) (grid-goes c rows told range ok again)
       ∙ offsets-read n 0 (b + (n - 1 + (s + 1))) (omega arith)
       ∙ box-read (n - 1 + (s + 1))
-      ∙ ap (λ i. readLines true told (midway c (readBounds c) n 0) (linesOf (linesFrom c numbers i (n - 1 + (s + 1))))) (sym y)
+      ∙ ap (λ i. readLines true told (midway c (readBounds c) n 0) (linesOf (linesFrom c rows i (n - 1 + (s + 1))))) (sym y)
       ∙ capacities-read (n - 1) 0 (s + 1) (omega (arith, ok .some))
       ∙ order-read
-      ∙ ap (λ l. readLines true told (toKernel c ordered) (linesOf (framed l ++ []))) (line-kernel c numbers (ok .some))
+      ∙ ap (λ l. readLines true told (toKernel c ordered) (linesOf (framed l ++ []))) (line-kernel c rows (ok .some))
       ∙ line-goes true told (toKernel c ordered) atEnd (kernelLine (c .kernel)) [] (small-kernel (c .kernel) (range .factors)) kernel-goes)
 
 -- The numbers on the first line of the sheet.
-module _ (c : Chain) (numbers : List ℕ) (range : InRange c) (ok : Accepted c numbers) where
+module _ (c : Chain) (rows : List ℕ) (range : InRange c) (ok : Accepted c rows) where
   abbrev told : List ℕ
-  told = numbersIn (sheetOf c numbers)
+  told = numbersIn (sheetOf c rows)
 
-  told-are : told ≡ numbersOn (gridLine (c .grid) numbers)
+  told-are : told ≡ numbersOn (gridLine (c .grid) rows)
   unfolding sheetOf chainLines flatMap
-  told-are = written-numbers (gridLine (c .grid) numbers) _ (small-grid c numbers [] range ok)
+  told-are = written-numbers (gridLine (c .grid) rows) _ (small-grid c rows [] range ok)
 
-  number-told : c .grid .skewed ≡ true → (i : ℕ) → i < 2 * c .grid .rows → getD told i 0 ≡ getD numbers i 0
+  number-told : c .grid .skewed ≡ true → (i : ℕ) → i < 2 * c .grid .rows → getD told i 0 ≡ getD rows i 0
   number-told e i h =
-      ap (λ ns. getD ns i 0) told-are
-      ∙ ap (λ l. getD (numbersOn l) i 0) (rows-line (c .grid) numbers e)
-      ∙ number-back (c .grid .rows) numbers (few-rows (c .grid .rows) numbers (ok .rows e)) i h
+      ap (λ rows. getD rows i 0) told-are
+      ∙ ap (λ l. getD (numbersOn l) i 0) (rows-line (c .grid) rows e)
+      ∙ number-back (c .grid .rows) rows (few-rows (c .grid .rows) rows (ok .good-rows e)) i h
 
-  rows-told : c .grid .skewed ≡ true → rowsOf (c .grid .rows) told ≡ rowsOf (c .grid .rows) numbers
-  rows-told e = rows-same (c .grid .rows) told numbers (number-told e)
+  rows-told : c .grid .skewed ≡ true → rowsOf (c .grid .rows) told ≡ rowsOf (c .grid .rows) rows
+  rows-told e = rows-same (c .grid .rows) told rows (number-told e)
 
-  ground-told : groundOf (c .grid) told ≡ groundOf (c .grid) numbers
+  ground-told : groundOf (c .grid) told ≡ groundOf (c .grid) rows
   ground-told =
       by-bool (c .grid .skewed)
-      (λ e. ground-skewed (c .grid) e told ∙ ap rows (rows-told e) ∙ sym (ground-skewed (c .grid) e numbers))
-      (λ e. ground-flat (c .grid) e told ∙ sym (ground-flat (c .grid) e numbers))
+      (λ e. ground-skewed (c .grid) e told ∙ ap skewed (rows-told e) ∙ sym (ground-skewed (c .grid) e rows))
+      (λ e. ground-flat (c .grid) e told ∙ sym (ground-flat (c .grid) e rows))
 
-judged-alike : (c d : Chain) (ns ms : List ℕ) → trimmed c ns ≡ trimmed d ms → judgeChain c ns ≡ judgeChain d ms
+judged-alike : (c d : Chain) (rows rows′ : List ℕ) → trimmed c rows ≡ trimmed d rows′ → judgeChain c rows ≡ judgeChain d rows′
 unfolding judgeChain
-judged-alike c d ns ms e = rw e
+judged-alike c d rows rows′ e = rw e
 
 pub write-read : WriteRead
 unfolding readChain endVerdict complete closes
-write-read c numbers range h =
+write-read c rows range h =
     record {
-      read = back ∙ (λ i. record { verdict = verdict.Accepted; chain = normal-chain c numbers (ok .few) i });
-      same = ap (λ (r : ReadChain). trimmed (r .chain) (told c numbers range ok)) back ∙ same;
-      rows = number-told c numbers range ok;
+      read = back ∙ (λ i. record { verdict = verdict.Accepted; chain = normal-chain c rows (ok .few) i });
+      same = ap (λ (r : ReadChain). trimmed (r .chain) (told c rows range ok)) back ∙ same;
+      lent = number-told c rows range ok;
     }
   where
-    ok : Accepted c numbers
-    ok = accepted-chain c numbers h
+    ok : Accepted c rows
+    ok = accepted-chain c rows h
 
-    same : trimmed (readBack c) (told c numbers range ok) ≡ trimmed c numbers
-    same = same-chain c numbers (told c numbers range ok) ok (ground-told c numbers range ok)
+    same : trimmed (readBack c) (told c rows range ok) ≡ trimmed c rows
+    same = same-chain c rows (told c rows range ok) ok (ground-told c rows range ok)
 
-    back : readChain (sheetOf c numbers) ≡ record { verdict = verdict.Accepted; chain = readBack c }
+    back : readChain (sheetOf c rows) ≡ record { verdict = verdict.Accepted; chain = readBack c }
     back =
         rw (
-          all-read c numbers (told c numbers range ok) range ok (rows-told c numbers range ok),
-          judged-alike (readBack c) c (told c numbers range ok) numbers same,
+          all-read c rows (told c rows range ok) range ok (rows-told c rows range ok),
+          judged-alike (readBack c) c (told c rows range ok) rows same,
           h,
         )

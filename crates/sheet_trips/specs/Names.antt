@@ -5,11 +5,11 @@ use mathlib.Core.List.{List, [], _∷_, _++_, map, flatMap}
 use mathlib.Core.Path.{_≡_}
 use lib.ListN.{take}
 use Rattle.model.specs.Planning.{planOf}
-use Rattle.model.specs.Frames.{digitsOf, framed}
-use Rattle.model.specs.NamedWindows.{isName, namedOf, offsetsNamed}
-use Rattle.model.specs.Reading.{readRequest, numbersIn}
-use Rattle.model.specs.Writing.{offsetLine}
-use Rattle.model.specs.Programs.{planText}
+use Rattle.model_sheet.specs.Frames.{digitsOf, framed}
+use Rattle.model_sheet.specs.NamedWindows.{isName, namedOf, offsetsNamed}
+use Rattle.model_sheet.specs.Reading.{readRequest, numbersIn}
+use Rattle.model_sheet.specs.Writing.{offsetLine}
+use Rattle.model_program.specs.Programs.{planText}
 
 -- The bytes of a first line with this many dimensions: an `01` line, with any bytes behind the dimension count; an `09` line, with any bytes behind its first, where there are two.
 pub data FirstLine (dims : ℕ) : List ℕ → Type 0 where

@@ -14,8 +14,8 @@ use Rattle.model.specs.declared.Kernel.the-variants as kernel
 use Rattle.model.specs.declared.Verdict.the-variants as verdict
 use Rattle.model.specs.Values.{trimmed, Same, chainOf}
 use Rattle.model.specs.Judging.{judgeChain}
-use Rattle.model.specs.Reading.{readChain, numbersIn}
-use Rattle.model.specs.Writing.{sheetOf, Written, writeOf}
+use Rattle.model_sheet.specs.Reading.{readChain, numbersIn}
+use Rattle.model_sheet.specs.Writing.{sheetOf, Written, writeOf}
 
 -- What the machine's types give of a chain's value: sizes and capacities of 32 bits, entries of 16 bits and indices of 32 bits in two's complement, factors that binary32 holds.
 unfoldable pub FactorsFit : Kernel → Type 0
@@ -33,14 +33,14 @@ pub record InRange (c : Chain) : Type 0 where
   pub factors : FactorsFit (c .kernel)
 
 -- A sheet tells of a chain and the rows beside it: it is accepted, and what is read from it is the same chain, in its normal form, with each number of its rows.
-pub record Tells (sheet : List ℕ) (c : Chain) (numbers : List ℕ) : Type 0 where
-  pub read : readChain sheet ≡ record { verdict = verdict.Accepted; chain = chainOf (trimmed c numbers) }
-  pub same : Same (readChain sheet .chain) (numbersIn sheet) c numbers
-  pub rows : c .grid .skewed ≡ true → (i : ℕ) → i < 2 * c .grid .rows → getD (numbersIn sheet) i 0 ≡ getD numbers i 0
+pub record Tells (sheet : List ℕ) (c : Chain) (rows : List ℕ) : Type 0 where
+  pub read : readChain sheet ≡ record { verdict = verdict.Accepted; chain = chainOf (trimmed c rows) }
+  pub same : Same (readChain sheet .chain) (numbersIn sheet) c rows
+  pub lent : c .grid .skewed ≡ true → (i : ℕ) → i < 2 * c .grid .rows → getD (numbersIn sheet) i 0 ≡ getD rows i 0
 
 -- So does the sheet that is written of a chain that no number turns back.
 abbrev pub WriteRead : Type 0
-WriteRead = (c : Chain) (numbers : List ℕ) → InRange c → judgeChain c numbers ≡ verdict.Accepted → Tells (sheetOf c numbers) c numbers
+WriteRead = (c : Chain) (rows : List ℕ) → InRange c → judgeChain c rows ≡ verdict.Accepted → Tells (sheetOf c rows) c rows
 
 -- An accepted chain sheet, read and written, gives back its bytes.
 abbrev pub ReadWrite : Type 0
@@ -52,8 +52,8 @@ bytesOf w = take (w .answer .bytes) (w .output)
 
 abbrev pub WriteReadCalls : Type 0
 WriteReadCalls =
-    (c : Chain) (numbers : List ℕ) → InRange c → (out : List ℕ) → writeOf c numbers out .answer .verdict ≡ verdict.Accepted
-    → Tells (bytesOf (writeOf c numbers out)) c numbers
+    (c : Chain) (rows : List ℕ) → InRange c → (out : List ℕ) → writeOf c rows out .answer .verdict ≡ verdict.Accepted
+    → Tells (bytesOf (writeOf c rows out)) c rows
 
 abbrev pub ReadWriteCalls : Type 0
 ReadWriteCalls =

@@ -25,12 +25,12 @@ unfolding firstOf
 more b r cs q h e = rw (← h, ← q) e
 
 -- Of an `09` line whose row count was looked at before, its rows alone.
-pub rows-alone : (kind n : ℕ) (numbers : List ℕ) (c d : Check) (cs : List Check) →
+pub rows-alone : (kind n : ℕ) (rows : List ℕ) (c d : Check) (cs : List Check) →
     let count = check (eqb kind 9 && badRowCount n) refusal.BadRows in
-    firstOf (count ∷ c ∷ d ∷ check (eqb kind 9 && badRows (rowsOf n numbers)) refusal.BadRows ∷ cs)
-    ≡ firstOf (count ∷ c ∷ d ∷ check (eqb kind 9 && any badRow (rowsOf n numbers)) refusal.BadRows ∷ cs)
+    firstOf (count ∷ c ∷ d ∷ check (eqb kind 9 && badRows (rowsOf n rows)) refusal.BadRows ∷ cs)
+    ≡ firstOf (count ∷ c ∷ d ∷ check (eqb kind 9 && any badRow (rowsOf n rows)) refusal.BadRows ∷ cs)
 unfolding badRows firstOf
-rows-alone kind n numbers c d cs = rw (rows-count n numbers) (go (eqb kind 9) (badRowCount n) (any badRow (rowsOf n numbers)))
+rows-alone kind n rows c d cs = rw (rows-count n rows) (go (eqb kind 9) (badRowCount n) (any badRow (rowsOf n rows)))
   where
     go : (k b a : Bool) →
         firstOf (check (k && b) refusal.BadRows ∷ c ∷ d ∷ check (k && (b || a)) refusal.BadRows ∷ cs)

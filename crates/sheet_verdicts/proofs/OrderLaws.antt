@@ -7,7 +7,7 @@ use lib.Dec.{eqb}
 use borrow.Author.Tests.{eq-eqb, ne-eqb}
 use Rattle.model.specs.declared.Last.{Last}
 use Rattle.model.specs.Lists.{any}
-use Rattle.model.specs.Reading.{nextInRequest, nextInChain, miscounted, among, misplaced}
+use Rattle.model_sheet.specs.Reading.{nextInRequest, nextInChain, miscounted, among, misplaced}
 use Rattle.sheet_laws.proofs.Cases.{never}
 
 module _ (kind k : ℕ) where

@@ -16,9 +16,9 @@ ghost use lib.ListN.{take};
 ghost use Rattle.model.specs.declared.Verdict.the-variants.{Refused};
 ghost use Rattle.model.specs.Judging.{badDims, badSizes, badRowCount, badRows};
 ghost use Rattle.model.specs.Values.{rowsOf};
-ghost use Rattle.model.specs.Frames.{shown};
-ghost use Rattle.model.specs.NamedWindows.{badName};
-ghost use Rattle.model.specs.Reading.{badKernel, badForm, malformed, nextInRequest, nextInChain, miscounted, among, misplaced, badLength, sizesIn, lineVerdict, cellVerdict};
+ghost use Rattle.model_sheet.specs.Frames.{shown};
+ghost use Rattle.model_sheet.specs.NamedWindows.{badName};
+ghost use Rattle.model_sheet.specs.Reading.{badKernel, badForm, malformed, nextInRequest, nextInChain, miscounted, among, misplaced, badLength, sizesIn, lineVerdict, cellVerdict};
 
 fn bad_kernel(len: usize, second: u8) -> bool
     ensures { λ r. ⌜ r ≡ badKernel len second ⌝ }

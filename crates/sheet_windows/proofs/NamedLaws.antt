@@ -8,8 +8,8 @@ use lib.ListN.{length, getD, set, drop, length-map, drop-of-length-le, List·get
 use lib.Seq.{sets, drop-cons}
 use Rattle.model.specs.declared.Triple.{Triple}
 use Rattle.model.specs.Values.{blankWindow}
-use Rattle.model.specs.NamedWindows.{centre, windows, namedOf, entriesOf, withReferences, windowNamed}
-use Rattle.model.proofs.NameLaws.{by-name, count-references, few-references}
+use Rattle.model_sheet.specs.NamedWindows.{centre, windows, namedOf, entriesOf, withReferences, windowNamed}
+use Rattle.model_sheet.proofs.NameLaws.{by-name, count-references, few-references}
 
 -- A byte other than 01 to 05.
 abbrev Other : ℕ → Type 0

@@ -5,7 +5,7 @@ ghost use mathlib.Core.Path.{_≡_};
 ghost use Prim.Native.Nat.{_*_, _%_, _<_};
 ghost use lib.ListN.{length, getD};
 ghost use lib.Seq.{sets};
-ghost use Rattle.model.specs.NamedWindows.{centre, namedOf, badName, entriesOf, windowNamed};
+ghost use Rattle.model_sheet.specs.NamedWindows.{centre, namedOf, badName, entriesOf, windowNamed};
 
 // 01: the five-point cross.
 const FIVE_POINT_CROSS: [Triple; 5] = [

@@ -17,19 +17,19 @@ use Rattle.model.specs.declared.Kernel.{Kernel}
 use Rattle.model.specs.declared.Kernel.the-variants as kernel
 use Rattle.model.specs.Lists.{tabulate}
 use Rattle.model.specs.Values.{dimsOf}
-use Rattle.model.specs.Frames.{kept, digitOf, digitsOf, framed, padded}
-use Rattle.model.specs.Numbers.{halfBytes, wordBytes, wordPattern}
-use Rattle.model.specs.Lines.{lineFeed}
-use Rattle.model.specs.Writing.{gridLine, indexPair, capacityLine, kernelLine, sheetOf}
-use Rattle.model.proofs.ListLaws.{length-tabulate, getD-tabulate}
-use Rattle.model.proofs.ChainLaws.{dims-flat}
+use Rattle.model_sheet.specs.Frames.{kept, digitOf, digitsOf, framed, padded}
+use Rattle.model_sheet.specs.Numbers.{halfBytes, wordBytes, wordPattern}
+use Rattle.model_sheet.specs.Lines.{lineFeed}
+use Rattle.model_sheet.specs.Writing.{gridLine, indexPair, capacityLine, kernelLine, sheetOf}
+use Rattle.grid_laws.proofs.ListLaws.{length-tabulate, getD-tabulate}
+use Rattle.grid_laws.proofs.ChainLaws.{dims-flat}
 use Rattle.sheet_laws.proofs.Cases.{by-bool, by-lt}
 use Rattle.sheet_laws.proofs.SheetLength.{framed-length, grid-length}
-use Rattle.sheet_laws.proofs.SheetRows.{grid-front, sheet-rows}
+use Rattle.sheet_laws.proofs.SheetSections.{grid-front, sheet-rows}
 use Rattle.sheet_laws.specs.declared.Part.{Part}
 use Rattle.sheet_laws.specs.declared.Part.the-variants as part
 use Rattle.sheet_writer.specs.Laying.{Inside}
-use Rattle.sheet_laws.specs.Rows.{gridRow, gridLen, offsetRow, boxRow, orderRow, rowOf, lenOf, toCapacities, partBehind, partAt, linesBehind, lineAt, linesFrom}
+use Rattle.sheet_laws.specs.Sections.{gridRow, gridLen, offsetRow, boxRow, orderRow, rowOf, lenOf, toCapacities, partBehind, partAt, linesBehind, lineAt, linesFrom}
 
 sets-join : (xs ys l : List ℕ) (i : ℕ) → sets (sets l i xs) (i + length xs) ys ≡ sets l i (xs ++ ys)
 sets-join [] ys l i = ap (λ j. sets l j ys) (zero-right i)
@@ -63,17 +63,17 @@ unfolding indexPair wordBytes
 pair-put b d l i = sets-join (wordBytes (wordPattern (getD (b .lowest) d (pos 0)))) (wordBytes (wordPattern (getD (b .highest) d (pos 0)))) l i
 
 -- The filter numbers on an order's row.
-abbrev pub numbers : List ℕ → List ℕ
-numbers filters = tabulate 32 (λ t. getD filters t 0)
+abbrev pub rows : List ℕ → List ℕ
+rows filters = tabulate 32 (λ t. getD filters t 0)
 
 module _ (filters : List ℕ) where
-  pub length-numbers : length (numbers filters) ≡ 32
+  pub length-numbers : length (rows filters) ≡ 32
   length-numbers = length-tabulate 32 (λ t. getD filters t 0)
 
-  pub number-at : (t : ℕ) → t < 32 → getD filters t 0 ≡ getD (numbers filters) t 0
+  pub number-at : (t : ℕ) → t < 32 → getD filters t 0 ≡ getD (rows filters) t 0
   number-at t h = sym (getD-tabulate 32 (λ t. getD filters t 0) t 0 h)
 
-  pub numbers-put : sets (6 ∷ replicate (kept - 1) 0) 1 (numbers filters) ≡ padded (6 ∷ numbers filters)
+  pub numbers-put : sets (6 ∷ replicate (kept - 1) 0) 1 (rows filters) ≡ padded (6 ∷ rows filters)
   unfolding tabulate padded
   numbers-put = refl
 
@@ -145,32 +145,32 @@ few-bytes g few rows =
     (λ e. omega (arith, skewed-len g e, rows e))
     (λ e. omega (arith, flat-len g e, dims-flat g e))
 
-pub grid-laid : (g : Grid) (numbers : List ℕ) → g .skewed ≡ false → g .dims ≤ 4 → framed (take (2 + 4 * g .dims) (padded (gridRow g))) ≡ framed (gridLine g numbers)
-grid-laid g numbers flat few = ap framed (take-padded _ (gridRow g) (fit-grid g few) ∙ sym (grid-front g numbers flat few))
+pub grid-laid : (g : Grid) (rows : List ℕ) → g .skewed ≡ false → g .dims ≤ 4 → framed (take (2 + 4 * g .dims) (padded (gridRow g))) ≡ framed (gridLine g rows)
+grid-laid g rows flat few = ap framed (take-padded _ (gridRow g) (fit-grid g few) ∙ sym (grid-front g rows flat few))
 
-grid-framed : (g : Grid) (numbers : List ℕ) → length (framed (gridLine g numbers)) ≡ 2 * gridLen g + 1
-grid-framed g numbers = framed-length (gridLine g numbers) ∙ ap (λ n. 2 * n + 1) (grid-length g numbers)
+grid-framed : (g : Grid) (rows : List ℕ) → length (framed (gridLine g rows)) ≡ 2 * gridLen g + 1
+grid-framed g rows = framed-length (gridLine g rows) ∙ ap (λ n. 2 * n + 1) (grid-length g rows)
 
-module _ (c : Chain) (numbers : List ℕ) (few : dimsOf (c .grid) ≤ 4) (some : 0 < c .window .count) (most : c .window .count ≤ 32)
+module _ (c : Chain) (rows : List ℕ) (few : dimsOf (c .grid) ≤ 4) (some : 0 < c .window .count) (most : c .window .count ≤ 32)
     (lines : ℕ) (told : lines ≡ linesBehind (c .bounds .stood) (c .order .stood) (c .window .count)) where
   abbrev behind-grid : List ℕ
-  behind-grid = linesFrom c numbers 1 lines
+  behind-grid = linesFrom c rows 1 lines
 
-  pub grid-first : sheetOf c numbers ≡ framed (gridLine (c .grid) numbers) ++ behind-grid
+  pub grid-first : sheetOf c rows ≡ framed (gridLine (c .grid) rows) ++ behind-grid
   unfolding linesFrom lineAt
   grid-first =
       let e : linesBehind (c .bounds .stood) (c .order .stood) (c .window .count) + 1 ≡ suc lines = omega (arith, told) in
-      sheet-rows c numbers few some most ∙ ap (linesFrom c numbers 0) e
+      sheet-rows c rows few some most ∙ ap (linesFrom c rows 0) e
 
-  pub all-length : length (sheetOf c numbers) ≡ 2 * gridLen (c .grid) + 1 + length behind-grid
-  all-length = ap length grid-first ∙ length-append (framed (gridLine (c .grid) numbers)) _ ∙ ap (λ n. n + length behind-grid) (grid-framed (c .grid) numbers)
+  pub all-length : length (sheetOf c rows) ≡ 2 * gridLen (c .grid) + 1 + length behind-grid
+  all-length = ap length grid-first ∙ length-append (framed (gridLine (c .grid) rows)) _ ∙ ap (λ n. n + length behind-grid) (grid-framed (c .grid) rows)
 
-  pub all-laid : (out behind : List ℕ) (at : ℕ) → at ≡ 2 * gridLen (c .grid) + 1 → behind ≡ sets out 0 (framed (gridLine (c .grid) numbers))
-      → sets behind at behind-grid ≡ sets out 0 (sheetOf c numbers)
+  pub all-laid : (out behind : List ℕ) (at : ℕ) → at ≡ 2 * gridLen (c .grid) + 1 → behind ≡ sets out 0 (framed (gridLine (c .grid) rows))
+      → sets behind at behind-grid ≡ sets out 0 (sheetOf c rows)
   all-laid out behind at a b =
-      let e : at ≡ 0 + length (framed (gridLine (c .grid) numbers)) = omega (arith, grid-framed (c .grid) numbers) in
+      let e : at ≡ 0 + length (framed (gridLine (c .grid) rows)) = omega (arith, grid-framed (c .grid) rows) in
       ap₂ (λ (o : List ℕ) (i : ℕ). sets o i behind-grid) b e
-      ∙ sets-join (framed (gridLine (c .grid) numbers)) behind-grid out 0
+      ∙ sets-join (framed (gridLine (c .grid) rows)) behind-grid out 0
       ∙ ap (sets out 0) (sym grid-first)
 
 pub few-ahead : (boxed : Bool) (n : ℕ) → toCapacities boxed n ≤ n + 1
@@ -183,11 +183,11 @@ few-lines boxed true n = omega (arith, few-ahead boxed n)
 few-lines boxed false n = omega (arith, few-ahead boxed n)
 
 -- The lines that remain behind the first m of them.
-module _ (c : Chain) (numbers : List ℕ) (m lines : ℕ) where
+module _ (c : Chain) (rows : List ℕ) (m lines : ℕ) where
   abbrev at-m : Part
   at-m = partAt (c .bounds .stood) (c .order .stood) (c .window .count) m
 
-  pub no-more : lines ≤ m → linesFrom c numbers (1 + m) (lines - m) ≡ []
+  pub no-more : lines ≤ m → linesFrom c rows (1 + m) (lines - m) ≡ []
   unfolding linesFrom
   no-more h =
       let e : lines - m ≡ 0 = omega arith in
@@ -200,7 +200,7 @@ module _ (c : Chain) (numbers : List ℕ) (m lines : ℕ) where
     line-length : length line ≡ 2 * lenOf c at-m + 1
     line-length = framed-length (take (lenOf c at-m) (rowOf c at-m)) ∙ ap (λ n. 2 * n + 1) (length-take-le _ _ (fit c at-m few most .0))
 
-    one-more : linesFrom c numbers (1 + m) (lines - m) ≡ line ++ linesFrom c numbers (1 + (m + 1)) (lines - (m + 1))
+    one-more : linesFrom c rows (1 + m) (lines - m) ≡ line ++ linesFrom c rows (1 + (m + 1)) (lines - (m + 1))
     unfolding linesFrom lineAt
     one-more =
         let e : lines - m ≡ suc (lines - (m + 1)) = omega arith in
@@ -208,12 +208,12 @@ module _ (c : Chain) (numbers : List ℕ) (m lines : ℕ) where
         let g : 1 + (m + 1) ≡ suc m + 1 = omega arith in
         rw (e, f, g)
 
-    pub more-length : length (linesFrom c numbers (1 + m) (lines - m)) ≡ 2 * lenOf c at-m + 1 + length (linesFrom c numbers (1 + (m + 1)) (lines - (m + 1)))
-    more-length = ap length one-more ∙ length-append line _ ∙ ap (λ n. n + length (linesFrom c numbers (1 + (m + 1)) (lines - (m + 1)))) line-length
+    pub more-length : length (linesFrom c rows (1 + m) (lines - m)) ≡ 2 * lenOf c at-m + 1 + length (linesFrom c rows (1 + (m + 1)) (lines - (m + 1)))
+    more-length = ap length one-more ∙ length-append line _ ∙ ap (λ n. n + length (linesFrom c rows (1 + (m + 1)) (lines - (m + 1)))) line-length
 
     pub line-on : (out : List ℕ) (at : ℕ)
-        → sets (sets out at (framed (take (lenOf c at-m) (padded (rowOf c at-m))))) (at + 2 * lenOf c at-m + 1) (linesFrom c numbers (1 + (m + 1)) (lines - (m + 1)))
-        ≡ sets out at (linesFrom c numbers (1 + m) (lines - m))
+        → sets (sets out at (framed (take (lenOf c at-m) (padded (rowOf c at-m))))) (at + 2 * lenOf c at-m + 1) (linesFrom c rows (1 + (m + 1)) (lines - (m + 1)))
+        ≡ sets out at (linesFrom c rows (1 + m) (lines - m))
     line-on out at =
         let f : at + 2 * lenOf c at-m + 1 ≡ at + length line = omega (arith, line-length) in
-        rw (f, take-padded _ _ (fit c at-m few most), one-more) (sets-join line (linesFrom c numbers (1 + (m + 1)) (lines - (m + 1))) out at)
+        rw (f, take-padded _ _ (fit c at-m few most), one-more) (sets-join line (linesFrom c rows (1 + (m + 1)) (lines - (m + 1))) out at)

@@ -1,4 +1,4 @@
 pub mod LayLaws
 pub mod RowsLaws
-pub mod CallLaws
+pub mod WriteCalls
 pub mod Written

@@ -11,40 +11,40 @@ use Rattle.model.specs.declared.Grid.{Grid}
 use Rattle.model.specs.Lists.{tabulate}
 use Rattle.model.specs.Values.{rowsOf}
 use Rattle.model.specs.Judging.{badRows}
-use Rattle.model.specs.Frames.{digitOf, digitsOf, framed}
-use Rattle.model.specs.Lines.{lineFeed}
-use Rattle.model.specs.Numbers.{halfBytes}
-use Rattle.model.proofs.ListLaws.{length-tabulate, getD-tabulate}
-use Rattle.sheet_laws.specs.Rows.{rowsLine}
+use Rattle.model_sheet.specs.Frames.{digitOf, digitsOf, framed}
+use Rattle.model_sheet.specs.Lines.{lineFeed}
+use Rattle.model_sheet.specs.Numbers.{halfBytes}
+use Rattle.grid_laws.proofs.ListLaws.{length-tabulate, getD-tabulate}
+use Rattle.sheet_laws.specs.Sections.{rowsLine}
 use Rattle.sheet_writer.specs.Laying.{RowsFit}
 
 -- The first n numbers, 0 where there are too few.
 abbrev pub listed : (n : ℕ) → List ℕ → List ℕ
-listed n numbers = tabulate n (λ i. getD numbers i 0)
+listed n rows = tabulate n (λ i. getD rows i 0)
 
 -- They and LF, from number i on.
 abbrev pub numbersFrom : (n i : ℕ) → List ℕ → List ℕ
-numbersFrom n i numbers = framed (flatMap halfBytes (drop i (listed n numbers)))
+numbersFrom n i rows = framed (flatMap halfBytes (drop i (listed n rows)))
 
 -- One number more, and the LF.
-module _ (numbers out : List ℕ) (n at i : ℕ) where
-  pub number-on : i < n → sets (sets out at (digitsOf (halfBytes (getD numbers i 0)))) (at + 4) (numbersFrom n (i + 1) numbers) ≡ sets out at (numbersFrom n i numbers)
+module _ (rows out : List ℕ) (n at i : ℕ) where
+  pub number-on : i < n → sets (sets out at (digitsOf (halfBytes (getD rows i 0)))) (at + 4) (numbersFrom n (i + 1) rows) ≡ sets out at (numbersFrom n i rows)
   unfolding framed digitsOf halfBytes flatMap
   number-on h =
       let e : at + 4 ≡ suc (suc (suc (suc at))) = omega arith in
-      let q : i < length (listed n numbers) = omega (arith, length-tabulate n (λ i. getD numbers i 0)) in
-      rw (e, add-one, drop-cons (listed n numbers) i 0 q, getD-tabulate n (λ i. getD numbers i 0) i 0 h)
+      let q : i < length (listed n rows) = omega (arith, length-tabulate n (λ i. getD rows i 0)) in
+      rw (e, add-one, drop-cons (listed n rows) i 0 q, getD-tabulate n (λ i. getD rows i 0) i 0 h)
 
-  pub numbers-end : n ≤ i → set out at lineFeed ≡ sets out at (numbersFrom n i numbers)
+  pub numbers-end : n ≤ i → set out at lineFeed ≡ sets out at (numbersFrom n i rows)
   unfolding framed digitsOf flatMap
-  numbers-end h = rw (drop-of-length-le (listed n numbers) {i = i} (omega (arith, length-tabulate n (λ i. getD numbers i 0))))
+  numbers-end h = rw (drop-of-length-le (listed n rows) {i = i} (omega (arith, length-tabulate n (λ i. getD rows i 0))))
 
 -- The line's kind and its row count stand before them.
-pub rows-laid : (count n : ℕ) (numbers out : List ℕ) → n ≡ count
-    → sets (sets (set (set out 0 48) 1 57) 2 (digitsOf (halfBytes count))) 6 (numbersFrom (2 * n) 0 numbers) ≡ sets out 0 (framed (rowsLine count numbers))
+pub rows-laid : (count n : ℕ) (rows out : List ℕ) → n ≡ count
+    → sets (sets (set (set out 0 48) 1 57) 2 (digitsOf (halfBytes count))) 6 (numbersFrom (2 * n) 0 rows) ≡ sets out 0 (framed (rowsLine count rows))
 unfolding rowsLine framed digitsOf digitOf halfBytes
-rows-laid count n numbers out e = ap (λ (k : ℕ). sets (sets (set (set out 0 48) 1 57) 2 (digitsOf (halfBytes count))) 6 (numbersFrom (2 * k) 0 numbers)) e
+rows-laid count n rows out e = ap (λ (k : ℕ). sets (sets (set (set out 0 48) 1 57) 2 (digitsOf (halfBytes count))) 6 (numbersFrom (2 * k) 0 rows)) e
 
 -- Rows that the test lets pass.
-pub rows-fit : (g : Grid) (numbers : List ℕ) → (g .skewed && badRows (rowsOf (g .rows) numbers)) ≡ false → RowsFit g numbers
-rows-fit g numbers fine e = ap (λ (b : Bool). b && badRows (rowsOf (g .rows) numbers)) (sym e) ∙ fine
+pub rows-fit : (g : Grid) (rows : List ℕ) → (g .skewed && badRows (rowsOf (g .rows) rows)) ≡ false → RowsFit g rows
+rows-fit g rows fine e = ap (λ (b : Bool). b && badRows (rowsOf (g .rows) rows)) (sym e) ∙ fine

@@ -13,43 +13,43 @@ use Rattle.model.specs.declared.Wrote.{Wrote}
 use Rattle.model.specs.Answers.{Check, check, firstOf, byVerdict}
 use Rattle.model.specs.Values.{rowsOf, dimsOf}
 use Rattle.model.specs.Judging.{badDims, badRows, badCount}
-use Rattle.model.specs.Writing.{Written, sheetOf}
+use Rattle.model_sheet.specs.Writing.{Written, sheetOf}
 use Rattle.sheet_laws.specs.declared.Part.{Part}
 use Rattle.sheet_laws.specs.declared.Part.the-variants as part
 
 abbrev pub written : Wrote → List ℕ → Written
 written answer output = record { answer = answer; output = output }
 
-unfoldable pub layChecks : Chain → (numbers : List ℕ) → (room : ℕ) → List Check
-layChecks c numbers room =
-    check (c .grid .skewed && badRows (rowsOf (c .grid .rows) numbers)) refusal.BadRows
+unfoldable pub layChecks : Chain → (rows : List ℕ) → (room : ℕ) → List Check
+layChecks c rows room =
+    check (c .grid .skewed && badRows (rowsOf (c .grid .rows) rows)) refusal.BadRows
     ∷ check (badDims (dimsOf (c .grid))) refusal.BadGrid
     ∷ check (badCount (c .window .count)) refusal.BadCount
-    ∷ check (ltb room (length (sheetOf c numbers))) refusal.ShortOutput
+    ∷ check (ltb room (length (sheetOf c rows))) refusal.ShortOutput
     ∷ []
 
 -- The sheet from the first place on; later places, and after a refusal all places, stay as they were.
-unfoldable pub layOf : Chain → (numbers : List ℕ) → List ℕ → Written
-layOf c numbers output =
-    let sheet = sheetOf c numbers in
-    byVerdict (firstOf (layChecks c numbers (length output)))
+unfoldable pub layOf : Chain → (rows : List ℕ) → List ℕ → Written
+layOf c rows output =
+    let sheet = sheetOf c rows in
+    byVerdict (firstOf (layChecks c rows (length output)))
     (written (record { verdict = verdict.Accepted; bytes = length sheet }) (sheet ++ drop (length sheet) output))
     (λ r. written (record { verdict = verdict.Refused r; bytes = 0 }) output)
 
 -- 16 lets the rows of a grid pass, where it is skewed.
-abbrev pub RowsFit : Grid → (numbers : List ℕ) → Type 0
-RowsFit g numbers = g .skewed ≡ true → badRows (rowsOf (g .rows) numbers) ≡ false
+abbrev pub RowsFit : Grid → (rows : List ℕ) → Type 0
+RowsFit g rows = g .skewed ≡ true → badRows (rowsOf (g .rows) rows) ≡ false
 
 -- The counts are in order.
 pub record Counted (c : Chain) : Type 0 where
   pub dims : dimsOf (c .grid) ≤ 4
-  pub rows : c .grid .skewed ≡ true → c .grid .rows ≤ 512
+  pub few-rows : c .grid .skewed ≡ true → c .grid .rows ≤ 512
   pub some : 0 < c .window .count
   pub most : c .window .count ≤ 32
 
 -- The sheet has so many characters, whatever the numbers of its rows are.
 abbrev pub HasLength : Chain → ℕ → Type 0
-HasLength c n = (numbers : List ℕ) → n ≡ length (sheetOf c numbers)
+HasLength c n = (rows : List ℕ) → n ≡ length (sheetOf c rows)
 
 -- A sheet with n offsets has such a line.
 unfoldable pub Inside : (n : ℕ) → Part → Type 0

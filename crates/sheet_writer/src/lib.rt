@@ -1,6 +1,8 @@
 // Writing a chain sheet, line by line: a line's bytes are made by value, then laid into the lent output; those of an `09` line are laid as they are made.
 mod skewed;
 
+use hexadecimal::high_digit;
+use hexadecimal::low_digit;
 use model::Bounds;
 use model::Chain;
 use model::Grid;
@@ -13,19 +15,17 @@ use model::Window;
 use model::Wrote;
 use sheet_laws::Part;
 use values::dims_of;
-use values::high_digit;
-use values::low_digit;
 use values::wide_usize;
 ghost use mathlib.Core.Path.{_≡_};
 ghost use Prim.Native.Nat.{_+_, _*_, _/_, _%_, _≤_, _<_};
 ghost use lib.ListN.{length, take, getD};
 ghost use lib.Seq.{sets};
 ghost use lib.IntN.{pos};
-ghost use Rattle.model.specs.Frames.{kept, framed, padded};
+ghost use Rattle.model_sheet.specs.Frames.{kept, framed, padded};
 ghost use Rattle.model.specs.Values.{dimsOf};
-ghost use Rattle.model.specs.Numbers.{halfBytes, wordBytes, pattern};
-ghost use Rattle.model.specs.Writing.{gridLine, indexPair, capacityLine, kernelLine, sheetOf};
-ghost use Rattle.sheet_laws.specs.Rows.{gridRow, gridLen, offsetRow, boxRow, orderRow, rowOf, lenOf, toCapacities, partAt, linesBehind};
+ghost use Rattle.model_sheet.specs.Numbers.{halfBytes, wordBytes, pattern};
+ghost use Rattle.model_sheet.specs.Writing.{gridLine, indexPair, capacityLine, kernelLine, sheetOf};
+ghost use Rattle.sheet_laws.specs.Sections.{gridRow, gridLen, offsetRow, boxRow, orderRow, rowOf, lenOf, toCapacities, partAt, linesBehind};
 ghost use Rattle.sheet_writer.specs.Laying.{written, layOf, Counted, RowsFit, HasLength, Inside};
 
 // Two and four bytes, most significant first, from byte `at` of a line on.

@@ -1,18 +1,18 @@
 // The `09` line of a skewed grid, laid into the output number by number.
+use hexadecimal::high_digit;
+use hexadecimal::low_digit;
 use model::Grid;
-use values::high_digit;
-use values::low_digit;
 use values::wide_usize;
 ghost use mathlib.Core.Bool.{false, _&&_};
 ghost use mathlib.Core.Path.{_≡_};
 ghost use Prim.Native.Nat.{_+_, _*_, _≤_, _<_};
 ghost use lib.ListN.{length, getD};
 ghost use lib.Seq.{sets};
-ghost use Rattle.model.specs.Frames.{framed, digitsOf};
-ghost use Rattle.model.specs.Numbers.{halfBytes};
+ghost use Rattle.model_sheet.specs.Frames.{framed, digitsOf};
+ghost use Rattle.model_sheet.specs.Numbers.{halfBytes};
 ghost use Rattle.model.specs.Values.{rowsOf};
 ghost use Rattle.model.specs.Judging.{badRows};
-ghost use Rattle.sheet_laws.specs.Rows.{rowsLine};
+ghost use Rattle.sheet_laws.specs.Sections.{rowsLine};
 
 // 16, of a skewed grid.
 pub(crate) fn bad_rows(g: Grid, rows: &[u32]) -> bool

@@ -8,9 +8,8 @@ use model::Refusal;
 use model::Request;
 use model::Window;
 ghost use mathlib.Core.Path.{_≡_};
-ghost use Prim.Native.Nat.{_/_, _%_, _<_, min};
+ghost use Prim.Native.Nat.{_<_, min};
 ghost use Rattle.model.specs.Answers.{numberOf};
-ghost use Rattle.model.specs.Frames.{digitOf};
 ghost use Rattle.model.specs.Values.{dimsOf, blankChain, requestOf, setGrid, setWindow, setBounds, setCapacities, setOrder, setKernel};
 
 // What a refusal hands back in place of a chain.
@@ -63,91 +62,41 @@ pub fn request_of(c: Chain) -> Request
 pub fn set_grid(c: Chain, grid: Grid) -> Chain
     ensures { λ r. ⌜ r ≡ setGrid grid c ⌝ }
 {
-    let window = c.window;
-    let bounds = c.bounds;
-    let capacities = c.capacities;
-    let order = c.order;
-    let kernel = c.kernel;
-    Chain {
-        grid,
-        window,
-        bounds,
-        capacities,
-        order,
-        kernel,
-    }
+    let mut r = c;
+    r.grid = grid;
+    r
 }
 
 pub fn set_window(c: Chain, window: Window) -> Chain
     ensures { λ r. ⌜ r ≡ setWindow window c ⌝ }
 {
-    let grid = c.grid;
-    let bounds = c.bounds;
-    let capacities = c.capacities;
-    let order = c.order;
-    let kernel = c.kernel;
-    Chain {
-        grid,
-        window,
-        bounds,
-        capacities,
-        order,
-        kernel,
-    }
+    let mut r = c;
+    r.window = window;
+    r
 }
 
 pub fn set_bounds(c: Chain, bounds: Bounds) -> Chain
     ensures { λ r. ⌜ r ≡ setBounds bounds c ⌝ }
 {
-    let grid = c.grid;
-    let window = c.window;
-    let capacities = c.capacities;
-    let order = c.order;
-    let kernel = c.kernel;
-    Chain {
-        grid,
-        window,
-        bounds,
-        capacities,
-        order,
-        kernel,
-    }
+    let mut r = c;
+    r.bounds = bounds;
+    r
 }
 
 pub fn set_capacities(c: Chain, capacities: [u32; 31]) -> Chain
     ensures { λ r. ⌜ r ≡ setCapacities capacities c ⌝ }
 {
-    let grid = c.grid;
-    let window = c.window;
-    let bounds = c.bounds;
-    let order = c.order;
-    let kernel = c.kernel;
-    Chain {
-        grid,
-        window,
-        bounds,
-        capacities,
-        order,
-        kernel,
-    }
+    let mut r = c;
+    r.capacities = capacities;
+    r
 }
 
 pub fn set_order(c: Chain, order: Order) -> Chain
     ensures { λ r. ⌜ r ≡ setOrder order c ⌝ }
 {
-    let grid = c.grid;
-    let window = c.window;
-    let bounds = c.bounds;
-    let capacities = c.capacities;
-    let kernel = c.kernel;
-    Chain {
-        grid,
-        window,
-        bounds,
-        capacities,
-        order,
-        kernel,
-    }
+    let mut r = c;
+    r.order = order;
+    r
 }
 
 pub fn set_kernel(c: Chain, kernel: Kernel) -> Chain
@@ -222,27 +171,4 @@ pub fn lesser(a: usize, b: usize) -> usize
         return a;
     }
     b
-}
-
-fn digit_of(v: u8) -> u8
-    requires { ⌜ v < 16 ⌝ }
-    ensures { λ r. ⌜ r ≡ digitOf v ⌝ }
-{
-    if v < 10 {
-        return v + b'0';
-    }
-    v + 55
-}
-
-// The two digits of a byte.
-pub fn high_digit(b: u8) -> u8
-    ensures { λ r. ⌜ r ≡ digitOf (b / 16) ⌝ }
-{
-    digit_of(b / 16)
-}
-
-pub fn low_digit(b: u8) -> u8
-    ensures { λ r. ⌜ r ≡ digitOf (b % 16) ⌝ }
-{
-    digit_of(b % 16)
 }

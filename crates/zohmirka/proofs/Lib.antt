@@ -1,2 +1,2 @@
 pub mod FlatLaws
-pub mod CallLaws
+pub mod FaceCalls

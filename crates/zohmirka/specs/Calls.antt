@@ -6,8 +6,8 @@ use lib.ListN.{length}
 use Rattle.model.specs.Answers.{numberOf, verdictNumber, check, firstOf, byVerdict}
 use Rattle.model.specs.Judging.{judgeChain}
 use Rattle.model.specs.Planning.{planOf}
-use Rattle.model.specs.Reading.{numbersIn, readRequest, readChain}
-use Rattle.model.specs.Writing.{writeOf}
+use Rattle.model_sheet.specs.Reading.{numbersIn, readRequest, readChain}
+use Rattle.model_sheet.specs.Writing.{writeOf}
 use Rattle.model.specs.declared.Answer.the-variants as answer
 use Rattle.model.specs.declared.Chain.{Chain}
 use Rattle.model.specs.declared.Refusal.the-variants as refusal
@@ -26,17 +26,17 @@ pub record Sheets : Type 0 where
   pub answer : Sheet
   pub sheet : List ℕ
 
-unfoldable pub written : Chain → (numbers sheet : List ℕ) → Sheets
-written c numbers sheet =
-    let wrote = writeOf c numbers sheet in
+unfoldable pub written : Chain → (rows sheet : List ℕ) → Sheets
+written c rows sheet =
+    let wrote = writeOf c rows sheet in
     record { answer = record { refusal = verdictNumber (wrote .answer .verdict); bytes = wrote .answer .bytes }; sheet = wrote .output }
 
 -- Planning a request sheet into a chain sheet: 1 to 9, 13, 15 and 16 of the request first.
 unfoldable pub planCall : (request sheet : List ℕ) → Sheets
 planCall request sheet =
     let read = readRequest request in
-    let numbers = numbersIn request in
-    let wrote = written (planOf (read .request) numbers .chain) numbers sheet in
+    let rows = numbersIn request in
+    let wrote = written (planOf (read .request) rows .chain) rows sheet in
     byVerdict (read .verdict) wrote (λ x. record { answer = record { refusal = numberOf x; bytes = 0 }; sheet = sheet })
 
 -- Judging a chain sheet.

@@ -8,10 +8,10 @@ use Rattle.model.specs.Lists.{tabulate}
 use Rattle.model.specs.Values.{Trimmed, trimmed}
 use Rattle.model.specs.Answers.{byVerdict}
 use Rattle.model.specs.Judging.{judgeChain}
-use Rattle.model.specs.Reading.{numbersIn, readChain}
-use Rattle.model.specs.Clock.{Counters, first, fresh}
-use Rattle.model.specs.Running.{layout, countersOf, withCounters, outcomeOf, judgeRun, ended, Run, runTrimmed, runOf}
-use Rattle.model.specs.CallLists.{Lending, Between, Fresh, lentCells, callRun, after, afterAll, runs}
+use Rattle.model_sheet.specs.Reading.{numbersIn, readChain}
+use Rattle.model_run.specs.Clock.{Counters, first, fresh}
+use Rattle.model_run.specs.Running.{layout, countersOf, withCounters, outcomeOf, judgeRun, ended, Run, runTrimmed, runOf}
+use Rattle.model_run.specs.CallLists.{Lending, Between, Fresh, lentCells, callRun, after, afterAll, runs}
 use Rattle.model.specs.declared.Answer.{Answer}
 use Rattle.model.specs.declared.Answer.the-variants as answer
 use Rattle.model.specs.declared.CellsPassed.{CellsPassed}
@@ -19,7 +19,7 @@ use Rattle.model.specs.declared.Chain.{Chain}
 use Rattle.model.specs.declared.State.{State}
 use Rattle.model.specs.declared.Verdict.{Verdict}
 use Rattle.model.specs.declared.Verdict.the-variants as verdict
-use Rattle.model.proofs.ListLaws.{tabulate-back}
+use Rattle.grid_laws.proofs.ListLaws.{tabulate-back}
 use Rattle.run_laws.specs.Accepted.{Accepted}
 use Rattle.run_laws.proofs.Accepts as accepts
 use Rattle.run_laws.proofs.Lengths.{length-ended}
@@ -86,55 +86,55 @@ unfolding countersOf tabulate
 first-word zero h ws long = absurd (omega arith)
 first-word (suc n) h ws long = in-counter ws long 0 (omega arith)
 
-abbrev onValue : Chain → (numbers : List ℕ) → Call
-onValue c numbers state store cells out allowance = runValue state store cells out allowance c numbers
+abbrev onValue : Chain → (rows : List ℕ) → Call
+onValue c rows state store cells out allowance = runValue state store cells out allowance c rows
 
-module _ (c : Chain) (numbers : List ℕ) (ok : judgeChain c numbers ≡ verdict.Accepted) where
-  fresh-value : (k : Slices) → stateSize ≤ length (k .state) → ((i : ℕ) → i < stateSize → wordAt (k .state) i ≡ 0) → Fresh (trimmed c numbers) (between k)
+module _ (c : Chain) (rows : List ℕ) (ok : judgeChain c rows ≡ verdict.Accepted) where
+  fresh-value : (k : Slices) → stateSize ≤ length (k .state) → ((i : ℕ) → i < stateSize → wordAt (k .state) i ≡ 0) → Fresh (trimmed c rows) (between k)
   unfolding countersOf fresh layout
   fresh-value k long zeros =
-      let few = accepts.accepted-chain c numbers ok .few in
+      let few = accepts.accepted-chain c rows ok .few in
       record {
         counters = λ i. record {
           fired = (ap (λ (s : State). s .fired .0) (in-long (k .state) long) ∙ zeros 32 (omega arith)) i;
-          passed = tabulate-back 0 (replicate (trimmed c numbers .count) 0) (trimmed c numbers .count) _ (length-replicate (trimmed c numbers .count) 0)
-              (λ j h. in-counter (k .state) long j (omega arith) ∙ zeros j (omega arith) ∙ sym (getD-replicate (trimmed c numbers .count) j 0 0 h)) i;
+          passed = tabulate-back 0 (replicate (trimmed c rows .count) 0) (trimmed c rows .count) _ (length-replicate (trimmed c rows .count) 0)
+              (λ j h. in-counter (k .state) long j (omega arith) ∙ zeros j (omega arith) ∙ sym (getD-replicate (trimmed c rows .count) j 0 0 h)) i;
         };
       }
 
   module _ (stream : ℕ → ℕ) where
-    one-value : (l : Lending) (k : Slices) → stateSize ≤ length (k .state) → OneCall (onValue c numbers) c numbers stream l k
+    one-value : (l : Lending) (k : Slices) → stateSize ≤ length (k .state) → OneCall (onValue c rows) c rows stream l k
     unfolding runValue runOf callRun lentCells left after
     one-value l k long = record {
       report = ap (λ (r : Run). reportOf (r .answer)) same;
       out = ap (λ (r : Run). r .output) same;
-      hands-on = λ i. record { state = (state-back (trimmed c numbers) (a .few) (k .state) long _ _ _ _ ∙ ap (λ (r : Run). r .state) same) i; store = same i .store ++ drop (l .front) (k .store) };
+      hands-on = λ i. record { state = (state-back (trimmed c rows) (a .few) (k .state) long _ _ _ _ ∙ ap (λ (r : Run). r .state) same) i; store = same i .store ++ drop (l .front) (k .store) };
       long = left-length _ _ (k .state) long;
       later = left-later _ _ (k .state) long;
     }
       where
-        a : Accepted (trimmed c numbers)
-        a = accepts.accepted-chain c numbers ok
+        a : Accepted (trimmed c rows)
+        a = accepts.accepted-chain c rows ok
 
-        same : runOf c numbers (stateIn (k .state)) (take (l .front) (k .store)) (tabulate (l .cells) (λ i. stream (wordAt (k .state) 0 + i))) (l .output) (l .allowance)
-            ≡ callRun (trimmed c numbers) stream l (between k)
+        same : runOf c rows (stateIn (k .state)) (take (l .front) (k .store)) (tabulate (l .cells) (λ i. stream (wordAt (k .state) 0 + i))) (l .output) (l .allowance)
+            ≡ callRun (trimmed c rows) stream l (between k)
         same =
-            ap (λ (p : ℕ). runTrimmed (trimmed c numbers) (stateIn (k .state)) (take (l .front) (k .store)) (tabulate (l .cells) (λ i. stream (p + i))) (l .output) (l .allowance))
-            (sym (first-word (trimmed c numbers .count) (a .some) (k .state) long))
+            ap (λ (p : ℕ). runTrimmed (trimmed c rows) (stateIn (k .state)) (take (l .front) (k .store)) (tabulate (l .cells) (λ i. stream (p + i))) (l .output) (l .allowance))
+            (sym (first-word (trimmed c rows .count) (a .some) (k .state) long))
 
-    all-value : (ls : List Lending) (k : Slices) → stateSize ≤ length (k .state) → AllCalls (onValue c numbers) c numbers stream ls k
+    all-value : (ls : List Lending) (k : Slices) → stateSize ≤ length (k .state) → AllCalls (onValue c rows) c rows stream ls k
     unfolding leftAll calledAll runs afterAll
     all-value [] k long = record { reports = refl; outs = refl; hands-on = refl }
     all-value (l ∷ ls) k long =
         let o = one-value l k long in
-        let r = all-value ls (left (onValue c numbers) stream l k) (rw (o .long) long) in
+        let r = all-value ls (left (onValue c rows) stream l k) (rw (o .long) long) in
         record {
-          reports = ap₂ (λ x xs. x ∷ xs) (o .report) (r .reports ∙ ap (λ (b : Between). map (λ (x : Run). reportOf (x .answer)) (runs (trimmed c numbers) stream ls b)) (o .hands-on));
-          outs = ap₂ (λ x xs. x ∷ xs) (o .out) (r .outs ∙ ap (λ (b : Between). map (λ (x : Run). x .output) (runs (trimmed c numbers) stream ls b)) (o .hands-on));
-          hands-on = r .hands-on ∙ ap (afterAll (trimmed c numbers) stream ls) (o .hands-on);
+          reports = ap₂ (λ x xs. x ∷ xs) (o .report) (r .reports ∙ ap (λ (b : Between). map (λ (x : Run). reportOf (x .answer)) (runs (trimmed c rows) stream ls b)) (o .hands-on));
+          outs = ap₂ (λ x xs. x ∷ xs) (o .out) (r .outs ∙ ap (λ (b : Between). map (λ (x : Run). x .output) (runs (trimmed c rows) stream ls b)) (o .hands-on));
+          hands-on = r .hands-on ∙ ap (afterAll (trimmed c rows) stream ls) (o .hands-on);
         }
 
-  lists-value : Lists (onValue c numbers) c numbers
+  lists-value : Lists (onValue c rows) c rows
   lists-value = record { accepted = ok; fresh = fresh-value; one = one-value; all = all-value }
 
 pub lists-on-chains : ListsOnChains

@@ -6,7 +6,7 @@ use native.Mathlib.Omega.{arith}
 use lib.ListN.{length, take, drop, length-append, length-drop, List·getD-append}
 use lib.Seq.{take-at, drop-at}
 use Rattle.model.specs.Lists.{tabulate}
-use Rattle.model.proofs.ListLaws.{length-tabulate, getD-tabulate}
+use Rattle.grid_laws.proofs.ListLaws.{length-tabulate, getD-tabulate}
 use Rattle.zohmirka_words.specs.Words.{wordAt, laid}
 
 module _ (n : ℕ) (f : ℕ → ℕ) (old : List ℕ) where

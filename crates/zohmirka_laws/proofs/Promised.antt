@@ -9,16 +9,16 @@ use borrow.Author.Tests.{lt-ltb}
 use Rattle.model.specs.Answers.{numberOf, verdictNumber, answerNumber, answerCounts, firstOf}
 use Rattle.model.specs.Judging.{badDims, badGrid, windowChecks, valueChecks, judged, judgeChain}
 use Rattle.model.specs.Planning.{planOf}
-use Rattle.model.specs.Reading.{numbersIn, readRequest, readChain}
-use Rattle.model.specs.Running.{judgeRun, layout, countersOf, shortStore, badState, runOf, runTrimmed}
+use Rattle.model_sheet.specs.Reading.{numbersIn, readRequest, readChain}
+use Rattle.model_run.specs.Running.{judgeRun, layout, countersOf, shortStore, badState, runOf, runTrimmed}
 use Rattle.model.specs.Values.{groundOf, dimsOf, trimmed}
-use Rattle.model.specs.Writing.{writeOf, writeVerdict}
+use Rattle.model_sheet.specs.Writing.{writeOf, writeVerdict}
 use Rattle.model.specs.declared.Chain.{Chain}
 use Rattle.model.specs.declared.Refusal.{Refusal}
 use Rattle.model.specs.declared.Refusal.the-variants as refusal
 use Rattle.model.specs.declared.Verdict.{Verdict}
 use Rattle.model.specs.declared.Verdict.the-variants as verdict
-use Rattle.model.proofs.Iterations.{at-most-cells}
+use Rattle.grid_laws.proofs.Iterations.{at-most-cells}
 use Rattle.run_laws.proofs.Accepts as accepts
 use Rattle.sheet_laws.proofs.AcceptedLines.{refused-accepted}
 use Rattle.sheet_laws.proofs.AcceptedChains.{accepted-chain}
@@ -59,12 +59,12 @@ unfolding verdictNumber
 unnumbered verdict.Accepted e = refl
 unnumbered (verdict.Refused x) e = absurd (numbered x e)
 
-module _ (c : Chain) (numbers sheet : List ℕ) where
-  value-unwritten : (written c numbers sheet .answer .refusal ≡ 0 → ⊥) → (written c numbers sheet .sheet ≡ sheet) × (written c numbers sheet .answer .bytes ≡ 0)
+module _ (c : Chain) (rows sheet : List ℕ) where
+  value-unwritten : (written c rows sheet .answer .refusal ≡ 0 → ⊥) → (written c rows sheet .sheet ≡ sheet) × (written c rows sheet .answer .bytes ≡ 0)
   unfolding written verdictNumber writeOf
-  value-unwritten h = go (writeVerdict c numbers (length sheet)) refl
+  value-unwritten h = go (writeVerdict c rows (length sheet)) refl
     where
-      go : (v : Verdict) → writeVerdict c numbers (length sheet) ≡ v → (written c numbers sheet .sheet ≡ sheet) × (written c numbers sheet .answer .bytes ≡ 0)
+      go : (v : Verdict) → writeVerdict c rows (length sheet) ≡ v → (written c rows sheet .sheet ≡ sheet) × (written c rows sheet .answer .bytes ≡ 0)
       go verdict.Accepted e = absurd (h (rw e))
       go (verdict.Refused x) e = rw e (refl, refl)
 
@@ -88,12 +88,12 @@ read-refused sheet chain rows h = go (readVerdict sheet (length chain) (length r
     go (verdict.Refused x) e = rw e (refl, refl)
 
 module _ (state store cells out : List ℕ) (allowance : ℕ) where
-  module _ (c : Chain) (numbers : List ℕ) where
-    value-refused : (runValue state store cells out allowance c numbers .report .refusal ≡ 0 → ⊥) → Untouched state store out (runValue state store cells out allowance c numbers)
+  module _ (c : Chain) (rows : List ℕ) where
+    value-refused : (runValue state store cells out allowance c rows .report .refusal ≡ 0 → ⊥) → Untouched state store out (runValue state store cells out allowance c rows)
     unfolding runValue reportOf stateLeft caseOf answerNumber answerCounts runOf runTrimmed
-    value-refused h = go (judgeRun (trimmed c numbers) (stateIn state) store) refl
+    value-refused h = go (judgeRun (trimmed c rows) (stateIn state) store) refl
       where
-        go : (v : Verdict) → judgeRun (trimmed c numbers) (stateIn state) store ≡ v → Untouched state store out (runValue state store cells out allowance c numbers)
+        go : (v : Verdict) → judgeRun (trimmed c rows) (stateIn state) store ≡ v → Untouched state store out (runValue state store cells out allowance c rows)
         go verdict.Accepted e = absurd (h (rw e))
         go (verdict.Refused x) e = rw e
             (record { state-stays = refl; store-stays = refl; out-stays = refl; refused = refl; no-cells = refl; no-firings = refl; no-clocks = refl })
@@ -137,14 +137,14 @@ sheet-refused sheet h = go (readChain sheet .verdict) refl
     go (verdict.Refused x) e = (λ state store cells out allowance. rw e, λ chain rows. rw e)
 
 -- Rows of which the same numbers play a part.
-module _ (c : Chain) (ns ms : List ℕ) (h : Alike (c .grid) ns ms) where
-  pub value-alike : (state store cells out : List ℕ) (allowance : ℕ) → runValue state store cells out allowance c ns ≡ runValue state store cells out allowance c ms
+module _ (c : Chain) (rows rows′ : List ℕ) (h : Alike (c .grid) rows rows′) where
+  pub value-alike : (state store cells out : List ℕ) (allowance : ℕ) → runValue state store cells out allowance c rows ≡ runValue state store cells out allowance c rows′
   unfolding runValue
-  value-alike state store cells out allowance = rw (run-alike c ns ms h (stateIn state) store cells out allowance)
+  value-alike state store cells out allowance = rw (run-alike c rows rows′ h (stateIn state) store cells out allowance)
 
-  pub written-alike : (sheet : List ℕ) → written c ns sheet ≡ written c ms sheet
+  pub written-alike : (sheet : List ℕ) → written c rows sheet ≡ written c rows′ sheet
   unfolding written
-  written-alike sheet = rw (write-alike c ns ms h sheet)
+  written-alike sheet = rw (write-alike c rows rows′ h sheet)
 
 pub rows-alike : RowsAlike
 rows-alike chain rows others h =
@@ -197,34 +197,34 @@ same-runs sheet chain rows state store cells out allowance h =
     rw (words-read sheet chain rows h, sheet-fine sheet chain rows h) (value-alike (readChain sheet .chain) _ _ (rows-read sheet chain rows h) state store cells out allowance)
 
 -- A chain that is accepted has fewer iterations than the firings that too few words are taken for.
-few-iterations : (c : Chain) (numbers : List ℕ) → judgeChain c numbers ≡ verdict.Accepted → layout (trimmed c numbers) .iterations < 4294967295
+few-iterations : (c : Chain) (rows : List ℕ) → judgeChain c rows ≡ verdict.Accepted → layout (trimmed c rows) .iterations < 4294967295
 unfolding layout
-few-iterations c numbers e =
-    let a = accepts.accepted-chain c numbers e in
-    omega (arith, a .cells, at-most-cells (trimmed c numbers) (accepts.fitting-of (trimmed c numbers) (accepts.trimmed-proper c numbers) a))
+few-iterations c rows e =
+    let a = accepts.accepted-chain c rows e in
+    omega (arith, a .cells, at-most-cells (trimmed c rows) (accepts.fitting-of (trimmed c rows) (accepts.trimmed-proper c rows) a))
 
 module _ (state store cells out : List ℕ) (allowance : ℕ) (short : length state < 33) where
-  module _ (c : Chain) (numbers : List ℕ) where
-    module _ (e : judgeChain c numbers ≡ verdict.Accepted) (long : shortStore (trimmed c numbers) store ≡ false) where
-      lost : badState (layout (trimmed c numbers)) (countersOf (c .window .count) (stateIn state)) ≡ true
+  module _ (c : Chain) (rows : List ℕ) where
+    module _ (e : judgeChain c rows ≡ verdict.Accepted) (long : shortStore (trimmed c rows) store ≡ false) where
+      lost : badState (layout (trimmed c rows)) (countersOf (c .window .count) (stateIn state)) ≡ true
       unfolding stateIn badState countersOf
-      lost = rw (lt-ltb _ _ short, lt-ltb _ _ (few-iterations c numbers e))
+      lost = rw (lt-ltb _ _ short, lt-ltb _ _ (few-iterations c rows e))
 
-      value-by-11 : runValue state store cells out allowance c numbers .report .refusal ≡ 11
+      value-by-11 : runValue state store cells out allowance c rows .report .refusal ≡ 11
       unfolding runValue reportOf answerNumber numberOf
-      value-by-11 = rw (← run.run-bad c numbers (stateIn state) store cells out allowance (accepts.accepted-chain c numbers e) long lost)
+      value-by-11 = rw (← run.run-bad c rows (stateIn state) store cells out allowance (accepts.accepted-chain c rows e) long lost)
 
-    value-short : runValue state store cells out allowance c numbers .report .refusal ≡ 0 → ⊥
+    value-short : runValue state store cells out allowance c rows .report .refusal ≡ 0 → ⊥
     unfolding runValue reportOf answerNumber
-    value-short h = go (judgeChain c numbers) refl
+    value-short h = go (judgeChain c rows) refl
       where
-        stored : judgeChain c numbers ≡ verdict.Accepted → (b : Bool) → shortStore (trimmed c numbers) store ≡ b → ⊥
-        stored e true d = numbered refusal.ShortStore (rw (← run.run-short c numbers (stateIn state) store cells out allowance (accepts.accepted-chain c numbers e) d) at h)
+        stored : judgeChain c rows ≡ verdict.Accepted → (b : Bool) → shortStore (trimmed c rows) store ≡ b → ⊥
+        stored e true d = numbered refusal.ShortStore (rw (← run.run-short c rows (stateIn state) store cells out allowance (accepts.accepted-chain c rows e) d) at h)
         stored e false d = let x = value-by-11 e d in omega arith
 
-        go : (v : Verdict) → judgeChain c numbers ≡ v → ⊥
-        go verdict.Accepted e = stored e (shortStore (trimmed c numbers) store) refl
-        go (verdict.Refused x) e = numbered x (rw (← run.run-refused c numbers (stateIn state) store cells out allowance x e) at h)
+        go : (v : Verdict) → judgeChain c rows ≡ v → ⊥
+        go verdict.Accepted e = stored e (shortStore (trimmed c rows) store) refl
+        go (verdict.Refused x) e = numbered x (rw (← run.run-refused c rows (stateIn state) store cells out allowance x e) at h)
 
   sheet-short : (sheet : List ℕ) → runSheet state store cells out allowance sheet .report .refusal ≡ 0 → ⊥
   unfolding runSheet reportOf answerNumber

@@ -13,10 +13,10 @@ use lib.ListN.{length, getD, List·getD-eq-default}
 use lib.Signed.{mag}
 use borrow.Author.Tests.{le-ltb, eqb-false, ltb-false}
 use Rattle.model.specs.Lists.{tabulate, sum, product, any}
-use Rattle.model.specs.Numbers.{signed, signedWord}
+use Rattle.model_sheet.specs.Numbers.{signed, signedWord}
 use Rattle.model.specs.Geometry.{cellCount}
 use Rattle.model.specs.Grounds.{Ground}
-use Rattle.model.specs.Grounds.Ground.{rectangle, rows}
+use Rattle.model.specs.Grounds.Ground.{rectangle, skewed}
 use Rattle.model.specs.Values.{Trimmed, dimsOf, offsetOf, offsetsOf, partOf, indexArray, boundsOf, gridOf, chainOf, blankChain, requestOf}
 use Rattle.model.specs.Judging.{mostCells, mostPlaces, badDims, badSizes, badGrid, badGround, tooLarge, judged}
 use Rattle.model.specs.Steps.{falling, sorted}
@@ -24,8 +24,8 @@ use Rattle.model.specs.Planning.{trimmedRequest, judgeRequest, plannedChain, pl
 use Rattle.model.specs.declared.Bounds.{Bounds}
 use Rattle.model.specs.declared.Chain.{Chain}
 use Rattle.model.specs.declared.Verdict.the-variants as verdict
-use Rattle.model.proofs.CheckLaws.{value-passes}
-use Rattle.model.proofs.SortLaws.{falling-no-other}
+use Rattle.grid_laws.proofs.CheckLaws.{value-passes}
+use Rattle.grid_laws.proofs.SortLaws.{falling-no-other}
 use Rattle.geometry.proofs.GridLaws.{product-above}
 use Rattle.sheet_laws.proofs.Cases.{by-bool, by-lt, or-false}
 use Rattle.sheet_trips.specs.RoundTrips.{FactorsFit, InRange}
@@ -120,7 +120,7 @@ module _ (t : Trimmed) (ok : judged t ≡ verdict.Accepted) where
   sizes-small : (g : Ground) → t .ground ≡ g → (d : ℕ) → Word (getD (gridOf (t .dims) g .sizes) d 0)
   unfolding gridOf
   sizes-small (rectangle sizes) e = each-tabulate Word 4 (λ d. getD sizes d 0) 0 (size-small sizes e) (omega arith)
-  sizes-small (rows rs) e = each-tabulate Word 4 (λ d. getD [] d 0) 0 (λ d. omega arith) (omega arith)
+  sizes-small (skewed rs) e = each-tabulate Word 4 (λ d. getD [] d 0) 0 (λ d. omega arith) (omega arith)
 
   capacity-small : (k : ℕ) → Word (getD (t .capacities) k 0)
   unfolding judged tooLarge
@@ -149,33 +149,33 @@ module _ (dims : ℕ) (b : Bounds) (held : HeldBounds b) where
       (λ e. rw e (copied-small dims (b .lowest) (held .0 .1), copied-small dims (b .highest) (held .1 .1)))
       (λ e. rw e (λ d. rw (blank-at {A = ℤ} 4 d (pos 0)) (omega arith), λ d. rw (blank-at {A = ℤ} 4 d (pos 0)) (omega arith)))
 
-module _ (c : Chain) (numbers : List ℕ) (held : Held c) where
-  request-small : (i : ℕ) → Small (getD (trimmedRequest (requestOf c) numbers .offsets) i [])
+module _ (c : Chain) (rows : List ℕ) (held : Held c) where
+  request-small : (i : ℕ) → Small (getD (trimmedRequest (requestOf c) rows .offsets) i [])
   unfolding trimmedRequest offsetsOf offsetOf
   request-small =
       each-tabulate Small (c .window .count) (offsetOf (dimsOf (c .grid)) (c .window)) []
       (λ k. each-tabulate Entry (dimsOf (c .grid)) (λ d. getD (c .window .offsets) (4 * k + d) (pos 0)) (pos 0) (λ d. held .window .1 (4 * k + d)) (omega arith))
       (λ j. omega arith)
 
-  request-bounds : Indices (boundsOf (trimmedRequest (requestOf c) numbers .part) .lowest) × Indices (boundsOf (trimmedRequest (requestOf c) numbers .part) .highest)
+  request-bounds : Indices (boundsOf (trimmedRequest (requestOf c) rows .part) .lowest) × Indices (boundsOf (trimmedRequest (requestOf c) rows .part) .highest)
   unfolding trimmedRequest
   request-bounds = copied-bounds (dimsOf (c .grid)) (c .bounds) (held .bounds)
 
-  request-fits : FactorsFit (trimmedRequest (requestOf c) numbers .kernel)
+  request-fits : FactorsFit (trimmedRequest (requestOf c) rows .kernel)
   unfolding trimmedRequest
   request-fits = held .factors
 
-pub planned-range : (c : Chain) (numbers : List ℕ) → Held c → judgeRequest (requestOf c) numbers ≡ verdict.Accepted → InRange (planOf (requestOf c) numbers .chain)
+pub planned-range : (c : Chain) (rows : List ℕ) → Held c → judgeRequest (requestOf c) rows ≡ verdict.Accepted → InRange (planOf (requestOf c) rows .chain)
 unfolding planOf plannedChain chainOf judgeRequest sorted
-planned-range c numbers held ok = rw ok
+planned-range c rows held ok = rw ok
     (record {
       sizes = sizes-small t ok (t .ground) refl;
-      entries = each-tabulate Entry 128 (λ i. getD (getD (falling (t .offsets)) (i / 4) []) (i % 4) (pos 0)) (pos 0) (λ i. sorted-small (t .offsets) (request-small c numbers held) (i / 4) (i % 4)) (omega arith);
-      lowest = request-bounds c numbers held .0;
-      highest = request-bounds c numbers held .1;
+      entries = each-tabulate Entry 128 (λ i. getD (getD (falling (t .offsets)) (i / 4) []) (i % 4) (pos 0)) (pos 0) (λ i. sorted-small (t .offsets) (request-small c rows held) (i / 4) (i % 4)) (omega arith);
+      lowest = request-bounds c rows held .0;
+      highest = request-bounds c rows held .1;
       capacities = each-tabulate Word 31 (λ k. getD (t .capacities) k 0) 0 (capacity-small t ok) (omega arith);
-      factors = request-fits c numbers held;
+      factors = request-fits c rows held;
     })
   where
     t : Trimmed
-    t = trimmedRequest (requestOf c) numbers
+    t = trimmedRequest (requestOf c) rows

@@ -13,12 +13,12 @@ use lib.Seq.{sets}
 use lib.Signed.{mag}
 use borrow.Author.Tests.{ltb-true, ltb-false}
 use Rattle.model.specs.Answers.{byVerdict}
-use Rattle.model.specs.Frames.{whole, Seen, seenOf}
-use Rattle.model.specs.Lines.{Line, linesOf}
+use Rattle.model_sheet.specs.Frames.{whole, Seen, seenOf}
+use Rattle.model_sheet.specs.Lines.{Line, linesOf}
 use Rattle.model.specs.Lists.{tabulate, all}
-use Rattle.model.specs.NamedWindows.{windows, namedOf, entriesOf, withReferences, windowNamed}
-use Rattle.model.specs.Numbers.{byteAt, signed, signedWord, wordAt}
-use Rattle.model.specs.Reading.{withGrid, withRows, withOffset, withName, withBox, withCapacity, withOrder, withKernel, kernelIn, entriesIn, lowestIn, highestIn, sizesIn, filtersIn, taken, stepOf, start, readLines, lineVerdict}
+use Rattle.model_sheet.specs.NamedWindows.{windows, namedOf, entriesOf, withReferences, windowNamed}
+use Rattle.model_sheet.specs.Numbers.{byteAt, signed, signedWord, wordAt}
+use Rattle.model_sheet.specs.Reading.{withGrid, withRows, withOffset, withName, withBox, withCapacity, withOrder, withKernel, kernelIn, entriesIn, lowestIn, highestIn, sizesIn, filtersIn, taken, stepOf, start, readLines, lineVerdict}
 use Rattle.model.specs.declared.Bounds.{Bounds}
 use Rattle.model.specs.declared.Chain.{Chain}
 use Rattle.model.specs.declared.LineStep.{LineStep}
@@ -28,8 +28,8 @@ use Rattle.model.specs.declared.Verdict.{Verdict}
 use Rattle.model.specs.declared.Verdict.the-variants as verdict
 use Rattle.model.specs.declared.Window.{Window}
 use Rattle.model.specs.Values.{blankWindow, withReference}
-use Rattle.model.proofs.ListLaws.{length-tabulate}
-use Rattle.model.proofs.NameLaws.{by-name}
+use Rattle.grid_laws.proofs.ListLaws.{length-tabulate}
+use Rattle.model_sheet.proofs.NameLaws.{by-name}
 use Rattle.sheet_laws.proofs.AcceptedLines.{admitted}
 use Rattle.sheet_laws.proofs.Cases.{by-bool, and-true}
 use Rattle.sheet_trips.specs.RoundTrips.{FactorsFit}
@@ -203,16 +203,16 @@ module _ (r : Reading) (x : List ℕ) (small : (i : ℕ) → Byte (byteAt x i)) 
       order-held = (length-tabulate 32 (λ t. cond (ltb t n) (byteAt x (1 + t)) 0), each-tabulate Byte 32 (λ t. cond (ltb t n) (byteAt x (1 + t)) 0) 0 (λ t. byte t (ltb t n)) (omega arith))
 
 -- A line that is not turned back holds bytes.
-held-step : (chainSheet : Bool) (numbers : List ℕ) (r : Reading) (l : Line) → Held (r .chain) → Held (stepOf chainSheet numbers r (seenOf (l .ended) (l .chars)) .reading .chain)
+held-step : (chainSheet : Bool) (rows : List ℕ) (r : Reading) (l : Line) → Held (r .chain) → Held (stepOf chainSheet rows r (seenOf (l .ended) (l .chars)) .reading .chain)
 unfolding stepOf
-held-step chainSheet numbers r l h = go (lineVerdict chainSheet numbers r s) refl
+held-step chainSheet rows r l h = go (lineVerdict chainSheet rows r s) refl
   where
     s : Seen
     s = seenOf (l .ended) (l .chars)
 
-    go : (v : Verdict) → lineVerdict chainSheet numbers r s ≡ v → Held (byVerdict v (taken r (s .first)) (λ x. r) .chain)
+    go : (v : Verdict) → lineVerdict chainSheet rows r s ≡ v → Held (byVerdict v (taken r (s .first)) (λ x. r) .chain)
     go verdict.Accepted e =
-        let digits = and-true (l .ended) (whole (l .chars)) (admitted chainSheet numbers r s e .0) .1 in
+        let digits = and-true (l .ended) (whole (l .chars)) (admitted chainSheet rows r s e .0) .1 in
         held-taken r (s .first) (small-at (small-padded (small-bytes (l .chars) digits))) h
     go (verdict.Refused x) e = h
 
@@ -220,17 +220,17 @@ held-either : (v : Verdict) (a b : LineStep) → Held (a .reading .chain) → He
 held-either verdict.Accepted a b h k = h
 held-either (verdict.Refused x) a b h k = k
 
-held-lines : (chainSheet : Bool) (numbers : List ℕ) (r : Reading) (ls : List Line) → Held (r .chain) → Held (readLines chainSheet numbers r ls .reading .chain)
+held-lines : (chainSheet : Bool) (rows : List ℕ) (r : Reading) (ls : List Line) → Held (r .chain) → Held (readLines chainSheet rows r ls .reading .chain)
 unfolding readLines
-held-lines chainSheet numbers r [] h = h
-held-lines chainSheet numbers r (l ∷ ls) h =
-    let s = stepOf chainSheet numbers r (seenOf (l .ended) (l .chars)) in
-    let k = held-step chainSheet numbers r l h in
-    held-either (s .verdict) (readLines chainSheet numbers (s .reading) ls) s (held-lines chainSheet numbers (s .reading) ls k) k
+held-lines chainSheet rows r [] h = h
+held-lines chainSheet rows r (l ∷ ls) h =
+    let s = stepOf chainSheet rows r (seenOf (l .ended) (l .chars)) in
+    let k = held-step chainSheet rows r l h in
+    held-either (s .verdict) (readLines chainSheet rows (s .reading) ls) s (held-lines chainSheet rows (s .reading) ls k) k
 
-pub held-read : (chainSheet : Bool) (numbers sheet : List ℕ) → Held (readLines chainSheet numbers start (linesOf sheet) .reading .chain)
+pub held-read : (chainSheet : Bool) (rows sheet : List ℕ) → Held (readLines chainSheet rows start (linesOf sheet) .reading .chain)
 unfolding FactorsFit
-held-read chainSheet numbers sheet = held-lines chainSheet numbers start (linesOf sheet) held-start
+held-read chainSheet rows sheet = held-lines chainSheet rows start (linesOf sheet) held-start
   where
     held-start : Held (start .chain)
     held-start = record {

@@ -9,11 +9,11 @@ use borrow.Author.Tests.{le-ltb}
 use Rattle.model.specs.Answers.{numberOf, verdictNumber, firstOf, byVerdict}
 use Rattle.model.specs.Values.{trimmed, chainOf, requestOf}
 use Rattle.model.specs.Judging.{judgeChain}
-use Rattle.model.specs.Lines.{linesOf}
+use Rattle.model_sheet.specs.Lines.{linesOf}
 use Rattle.model.specs.Lists.{tabulate}
 use Rattle.model.specs.Planning.{judgeRequest, planOf}
-use Rattle.model.specs.Reading.{start, readLines, numbersIn, readRequest, readChain}
-use Rattle.model.specs.Writing.{Written, writeOf}
+use Rattle.model_sheet.specs.Reading.{start, readLines, numbersIn, readRequest, readChain}
+use Rattle.model_sheet.specs.Writing.{Written, writeOf}
 use Rattle.model.specs.declared.Chain.{Chain}
 use Rattle.model.specs.declared.ReadChain.{ReadChain}
 use Rattle.model.specs.declared.ReadRequest.{ReadRequest}
@@ -21,7 +21,7 @@ use Rattle.model.specs.declared.Refusal.{Refusal}
 use Rattle.model.specs.declared.Request.{Request}
 use Rattle.model.specs.declared.Verdict.{Verdict}
 use Rattle.model.specs.declared.Verdict.the-variants as verdict
-use Rattle.model.proofs.ChainLaws.{grid-normal}
+use Rattle.grid_laws.proofs.ChainLaws.{grid-normal}
 use Rattle.sheet_laws.proofs.Cases.{by-bool}
 use Rattle.sheet_trips.specs.RoundTrips.{InRange, Tells}
 use Rattle.sheet_trips.proofs.AcceptedSheets.{accepted-request}
@@ -36,14 +36,14 @@ use Rattle.zohmirka_laws.proofs.ReadChains.{held-read}
 use Rattle.zohmirka_laws.proofs.Ranges.{words-range, planned-range}
 
 -- What a chain in range is read back as.
-written-read-back : (c : Chain) (numbers : List ℕ) → InRange c → (sheet : List ℕ) → written c numbers sheet .answer .refusal ≡ 0 → Tells (bytesOf (written c numbers sheet)) c numbers
+written-read-back : (c : Chain) (rows : List ℕ) → InRange c → (sheet : List ℕ) → written c rows sheet .answer .refusal ≡ 0 → Tells (bytesOf (written c rows sheet)) c rows
 unfolding written
-written-read-back c numbers range sheet h = write-read-calls c numbers range sheet (unnumbered (writeOf c numbers sheet .answer .verdict) h)
+written-read-back c rows range sheet h = write-read-calls c rows range sheet (unnumbered (writeOf c rows sheet .answer .verdict) h)
 
-judged-again : (c : Chain) (numbers : List ℕ) → InRange c → (sheet : List ℕ) → written c numbers sheet .answer .refusal ≡ 0
-    → verdictNumber (readChain (bytesOf (written c numbers sheet)) .verdict) ≡ 0
+judged-again : (c : Chain) (rows : List ℕ) → InRange c → (sheet : List ℕ) → written c rows sheet .answer .refusal ≡ 0
+    → verdictNumber (readChain (bytesOf (written c rows sheet)) .verdict) ≡ 0
 unfolding verdictNumber
-judged-again c numbers range sheet h = ap (λ (r : ReadChain). verdictNumber (r .verdict)) (written-read-back c numbers range sheet h .read)
+judged-again c rows range sheet h = ap (λ (r : ReadChain). verdictNumber (r .verdict)) (written-read-back c rows range sheet h .read)
 
 -- ---- Plans
 
@@ -73,8 +73,8 @@ pub planned-by-name : PlannedByName
 unfolding planCall
 planned-by-name name first rest sheet h k n =
     let same = by-its-name name first rest h k n in
-    ap₂ (λ (r : ReadRequest) (numbers : List ℕ). let refused : Refusal → Sheets = λ x. record { answer = record { refusal = numberOf x; bytes = 0 }; sheet = sheet } in
-    byVerdict (r .verdict) (written (planOf (r .request) numbers .chain) numbers sheet) refused)
+    ap₂ (λ (r : ReadRequest) (rows : List ℕ). let refused : Refusal → Sheets = λ x. record { answer = record { refusal = numberOf x; bytes = 0 }; sheet = sheet } in
+    byVerdict (r .verdict) (written (planOf (r .request) rows .chain) rows sheet) refused)
     (same .read) (same .rows)
 
 -- ---- Chains as words
@@ -98,10 +98,10 @@ read-written sheet chain rows out h room =
     (read-write-calls sheet out (sheet-fine sheet chain rows h) room)
 
 -- A grid's normal form has its rows.
-normal-places : (c : Chain) (numbers : List ℕ) → rowPlaces (chainOf (trimmed c numbers) .grid) ≡ rowPlaces (c .grid)
+normal-places : (c : Chain) (rows : List ℕ) → rowPlaces (chainOf (trimmed c rows) .grid) ≡ rowPlaces (c .grid)
 unfolding chainOf trimmed rowPlaces
-normal-places c numbers =
-    ap rowPlaces (grid-normal (c .grid) numbers)
+normal-places c rows =
+    ap rowPlaces (grid-normal (c .grid) rows)
     ∙ by-bool (c .grid .skewed) (λ e. rw e) (λ e. rw e)
 
 module _ (chain rows sheet room places : List ℕ) (small : (i : ℕ) → wordAt chain i < 4294967296) (h : writeCall chain rows sheet .answer .refusal ≡ 0) where
@@ -127,7 +127,7 @@ module _ (chain rows sheet room places : List ℕ) (small : (i : ℕ) → wordAt
   numbers-back : Alike (c .grid) (numbersIn b) rows
   numbers-back i l =
       by-bool (c .grid .skewed)
-      (λ e. tells .rows e i (rw (places-skewed (c .grid) e) at l))
+      (λ e. tells .lent e i (rw (places-skewed (c .grid) e) at l))
       (λ e. absurd (omega (arith, l, places-flat (c .grid) e)))
 
   -- and the words of them.

@@ -9,17 +9,17 @@ use lib.ListN.{length}
 use borrow.Author.Tests.{le-ltb}
 use Rattle.model.specs.Answers.{Check, firstOf, byVerdict, numberOf, verdictNumber, answerNumber}
 use Rattle.model.specs.Lists.{sum}
-use Rattle.model.specs.Kernels.{width}
+use Rattle.model_run.specs.Kernels.{width}
 use Rattle.model.specs.Grounds.{Ground}
-use Rattle.model.specs.Grounds.Ground.{rectangle, rows}
+use Rattle.model.specs.Grounds.Ground.{rectangle, skewed}
 use Rattle.model.specs.Values.{trimmed}
 use Rattle.model.specs.Judging.{groundRefusal, windowChecks, kernelChecks, chainChecks, valueChecks, judged, judgeChain}
 use Rattle.model.specs.Planning.{planOf}
-use Rattle.model.specs.Frames.{seenOf}
-use Rattle.model.specs.Lines.{Line, linesOf}
-use Rattle.model.specs.Reading.{lineChecks, lineVerdict, stepOf, start, complete, readLines, endVerdict, numbersIn, readChain, readRequest}
-use Rattle.model.specs.Writing.{sheetOf, longestSheet, writeVerdict, writeOf}
-use Rattle.model.specs.Running.{layout, countersOf, shortStore, badState, widthOf}
+use Rattle.model_sheet.specs.Frames.{seenOf}
+use Rattle.model_sheet.specs.Lines.{Line, linesOf}
+use Rattle.model_sheet.specs.Reading.{lineChecks, lineVerdict, stepOf, start, complete, readLines, endVerdict, numbersIn, readChain, readRequest}
+use Rattle.model_sheet.specs.Writing.{sheetOf, longestSheet, writeVerdict, writeOf}
+use Rattle.model_run.specs.Running.{layout, countersOf, shortStore, badState, widthOf}
 use Rattle.model.specs.declared.Chain.{Chain}
 use Rattle.model.specs.declared.Kernel.{Kernel}
 use Rattle.model.specs.declared.Kernel.the-variants as kernel
@@ -46,18 +46,18 @@ use Rattle.zohmirka_laws.proofs.Promised.{unnumbered}
 
 -- ---- The longest sheet
 
-room-enough : (c : Chain) (numbers : List ℕ) (room : ℕ) → judgeChain c numbers ≡ verdict.Accepted → longestSheet ≤ room → writeVerdict c numbers room ≡ verdict.Accepted
+room-enough : (c : Chain) (rows : List ℕ) (room : ℕ) → judgeChain c rows ≡ verdict.Accepted → longestSheet ≤ room → writeVerdict c rows room ≡ verdict.Accepted
 unfolding writeVerdict firstOf
-room-enough c numbers room e h =
-    let l : ltb room (length (sheetOf c numbers)) ≡ false = le-ltb room (length (sheetOf c numbers)) (omega (arith, sheet-length c numbers (accepted-chain c numbers e))) in
+room-enough c rows room e h =
+    let l : ltb room (length (sheetOf c rows)) ≡ false = le-ltb room (length (sheetOf c rows)) (omega (arith, sheet-length c rows (accepted-chain c rows e))) in
     rw (e, l)
 
 pub long-sheet : LongSheet
 unfolding planCall written writeOf verdictNumber
 long-sheet request sheet e h =
     let r = readRequest request .request in
-    let numbers = numbersIn request in
-    rw (e, room-enough (planOf r numbers .chain) numbers (length sheet) (plan-accepted r numbers (accepted-request request e)) h)
+    let rows = numbersIn request in
+    rw (e, room-enough (planOf r rows .chain) rows (length sheet) (plan-accepted r rows (accepted-request request e)) h)
 
 pub long-sheet-of-chain : LongSheetOfChain
 unfolding written writeOf verdictNumber
@@ -65,10 +65,10 @@ long-sheet-of-chain chain lent sheet e h = rw (room-enough (chainIn chain) lent 
 
 -- ---- 1,024 numbers of rows
 
-few-places : (c : Chain) (numbers : List ℕ) → judgeChain c numbers ≡ verdict.Accepted → rowPlaces (c .grid) ≤ 1024
-few-places c numbers e =
+few-places : (c : Chain) (rows : List ℕ) → judgeChain c rows ≡ verdict.Accepted → rowPlaces (c .grid) ≤ 1024
+few-places c rows e =
     by-bool (c .grid .skewed)
-    (λ k. omega (arith, places-skewed (c .grid) k, few-rows (c .grid .rows) numbers (accepted-chain c numbers e .rows k)))
+    (λ k. omega (arith, places-skewed (c .grid) k, few-rows (c .grid .rows) rows (accepted-chain c rows e .good-rows k)))
     (λ k. omega (arith, places-flat (c .grid) k))
 
 pub few-row-numbers : FewRows
@@ -104,31 +104,31 @@ first-other (c ∷ cs) b = go (c .holds) (first-other cs (b .1))
 ground-other : (g : Ground) → Other (numberOf (groundRefusal g))
 unfolding numberOf
 ground-other (rectangle sizes) = λ e. omega arith
-ground-other (rows rs) = λ e. omega arith
+ground-other (skewed rs) = λ e. omega arith
 
 -- nor is a chain,
-judged-other : (c : Chain) (numbers : List ℕ) → Other (verdictNumber (judgeChain c numbers))
+judged-other : (c : Chain) (rows : List ℕ) → Other (verdictNumber (judgeChain c rows))
 unfolding judgeChain judged windowChecks kernelChecks chainChecks valueChecks numberOf
-judged-other c numbers =
-    first-other (valueChecks (trimmed c numbers))
-    (ground-other (trimmed c numbers .ground), (λ e. omega arith, (λ e. omega arith, (λ e. omega arith, (λ e. omega arith, (λ e. omega arith, (λ e. omega arith, (λ e. omega arith, (λ e. omega arith, tt)))))))))
+judged-other c rows =
+    first-other (valueChecks (trimmed c rows))
+    (ground-other (trimmed c rows .ground), (λ e. omega arith, (λ e. omega arith, (λ e. omega arith, (λ e. omega arith, (λ e. omega arith, (λ e. omega arith, (λ e. omega arith, (λ e. omega arith, tt)))))))))
 
 -- nor is a sheet.
-lines-other : (numbers : List ℕ) (ls : List Line) (r : Reading) → Other (verdictNumber (readLines true numbers r ls .verdict))
+lines-other : (rows : List ℕ) (ls : List Line) (r : Reading) → Other (verdictNumber (readLines true rows r ls .verdict))
 unfolding readLines stepOf lineVerdict lineChecks numberOf verdictNumber
-lines-other numbers [] r = λ e. omega arith
-lines-other numbers (l ∷ ls) r = go (s .verdict) first (lines-other numbers ls (s .reading))
+lines-other rows [] r = λ e. omega arith
+lines-other rows (l ∷ ls) r = go (s .verdict) first (lines-other rows ls (s .reading))
   where
     s : LineStep
-    s = stepOf true numbers r (seenOf (l .ended) (l .chars))
+    s = stepOf true rows r (seenOf (l .ended) (l .chars))
 
     first : Other (verdictNumber (s .verdict))
     first =
-        first-other (lineChecks true numbers r (seenOf (l .ended) (l .chars)))
+        first-other (lineChecks true rows r (seenOf (l .ended) (l .chars)))
         (λ e. omega arith, (λ e. omega arith, (λ e. omega arith, (λ e. omega arith, (λ e. omega arith, (λ e. omega arith, (λ e. omega arith, (λ e. omega arith, (λ e. omega arith, tt)))))))))
 
-    go : (v : Verdict) → Other (verdictNumber (s .verdict)) → Other (verdictNumber (readLines true numbers (s .reading) ls .verdict))
-        → Other (verdictNumber (byVerdict v (readLines true numbers (s .reading) ls) (λ x. s) .verdict))
+    go : (v : Verdict) → Other (verdictNumber (s .verdict)) → Other (verdictNumber (readLines true rows (s .reading) ls .verdict))
+        → Other (verdictNumber (byVerdict v (readLines true rows (s .reading) ls) (λ x. s) .verdict))
     go verdict.Accepted a b = b
     go (verdict.Refused x) a b = a
 
@@ -146,22 +146,22 @@ read-other sheet = go (s .verdict) (complete (s .reading)) (lines-other (numbers
     go (verdict.Refused x) b h = h
 
 module _ (state store cells out : List ℕ) (allowance : ℕ) (long : 16384 ≤ length store) where
-  value-long : (c : Chain) (numbers : List ℕ) → runValue state store cells out allowance c numbers .report .refusal ≡ 10 → ⊥
+  value-long : (c : Chain) (rows : List ℕ) → runValue state store cells out allowance c rows .report .refusal ≡ 10 → ⊥
   unfolding runValue reportOf answerNumber verdictNumber numberOf shortStore
-  value-long c numbers h = go (judgeChain c numbers) refl
+  value-long c rows h = go (judgeChain c rows) refl
     where
-      ample : judgeChain c numbers ≡ verdict.Accepted → shortStore (trimmed c numbers) store ≡ false
-      ample e = le-ltb (length store) (sum (trimmed c numbers .capacities)) (omega (arith, accepts.accepted-chain c numbers e .places))
+      ample : judgeChain c rows ≡ verdict.Accepted → shortStore (trimmed c rows) store ≡ false
+      ample e = le-ltb (length store) (sum (trimmed c rows .capacities)) (omega (arith, accepts.accepted-chain c rows e .places))
 
-      stated : judgeChain c numbers ≡ verdict.Accepted → (b : Bool) → badState (layout (trimmed c numbers)) (countersOf (c .window .count) (stateIn state)) ≡ b → ⊥
-      stated e true d = let x = rw (← run.run-bad c numbers (stateIn state) store cells out allowance (accepts.accepted-chain c numbers e) (ample e) d) at h in omega arith
-      stated e false d = let x = rw (← run.run-ends c numbers (stateIn state) store cells out allowance (accepts.accepted-chain c numbers e) (ample e) d) at h in omega arith
+      stated : judgeChain c rows ≡ verdict.Accepted → (b : Bool) → badState (layout (trimmed c rows)) (countersOf (c .window .count) (stateIn state)) ≡ b → ⊥
+      stated e true d = let x = rw (← run.run-bad c rows (stateIn state) store cells out allowance (accepts.accepted-chain c rows e) (ample e) d) at h in omega arith
+      stated e false d = let x = rw (← run.run-ends c rows (stateIn state) store cells out allowance (accepts.accepted-chain c rows e) (ample e) d) at h in omega arith
 
-      go : (v : Verdict) → judgeChain c numbers ≡ v → ⊥
-      go verdict.Accepted e = stated e (badState (layout (trimmed c numbers)) (countersOf (c .window .count) (stateIn state))) refl
+      go : (v : Verdict) → judgeChain c rows ≡ v → ⊥
+      go verdict.Accepted e = stated e (badState (layout (trimmed c rows)) (countersOf (c .window .count) (stateIn state))) refl
       go (verdict.Refused x) e =
-          let n : Other (numberOf x) = rw e at (judged-other c numbers) in
-          n (rw (← run.run-refused c numbers (stateIn state) store cells out allowance x e) at h)
+          let n : Other (numberOf x) = rw e at (judged-other c rows) in
+          n (rw (← run.run-refused c rows (stateIn state) store cells out allowance x e) at h)
 
   sheet-long : (sheet : List ℕ) → runSheet state store cells out allowance sheet .report .refusal ≡ 10 → ⊥
   unfolding runSheet reportOf answerNumber verdictNumber
@@ -190,4 +190,4 @@ at-most (kernel.Blend g) n h = omega arith
 
 pub few-words : FewWords
 unfolding widthOf trimmed
-few-words c numbers e = at-most (c .kernel) (c .window .count) (accepts.accepted-chain c numbers e .few)
+few-words c rows e = at-most (c .kernel) (c .window .count) (accepts.accepted-chain c rows e .few)

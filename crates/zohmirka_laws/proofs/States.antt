@@ -9,7 +9,7 @@ use borrow.Author.Tests.{lt-ltb, le-ltb}
 use Rattle.model.specs.Lists.{tabulate}
 use Rattle.model.specs.declared.CellsPassed.{CellsPassed}
 use Rattle.model.specs.declared.State.{State}
-use Rattle.model.proofs.ListLaws.{length-tabulate, getD-tabulate, tabulate-back}
+use Rattle.grid_laws.proofs.ListLaws.{length-tabulate, getD-tabulate, tabulate-back}
 use Rattle.sheet_laws.proofs.Cases.{by-lt}
 use Rattle.zohmirka_words.specs.Words.{wordAt, laid, counter, stateSize, stateWord, stateWords, stateIn, stateInto}
 use Rattle.zohmirka_words.proofs.WordLaws.{state-of-words}

@@ -11,11 +11,11 @@ use lib.IntN.{ℤ, pos}
 use lib.ListN.{length, getD}
 use borrow.Author.Tests.{lt-ltb, le-ltb}
 use Rattle.model.specs.Lists.{tabulate}
-use Rattle.model.specs.Numbers.{signed, pattern, signedWord, wordPattern}
+use Rattle.model_sheet.specs.Numbers.{signed, pattern, signedWord, wordPattern}
 use Rattle.model.specs.declared.Chain.{Chain}
 use Rattle.model.specs.declared.Kernel.{Kernel}
 use Rattle.model.specs.declared.Kernel.the-variants as kernel
-use Rattle.model.proofs.ListLaws.{tabulate-back}
+use Rattle.grid_laws.proofs.ListLaws.{tabulate-back}
 use Rattle.sheet_laws.proofs.Cases.{by-lt}
 use Rattle.sheet_trips.specs.RoundTrips.{FactorsFit}
 use Rattle.sheet_trips.proofs.Values.{signed-pattern, pattern-small, signed-word-pattern}

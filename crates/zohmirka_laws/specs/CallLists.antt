@@ -6,8 +6,8 @@ use lib.ListN.{length, take, drop}
 use Rattle.model.specs.Lists.{tabulate}
 use Rattle.model.specs.Values.{trimmed}
 use Rattle.model.specs.Judging.{judgeChain}
-use Rattle.model.specs.Reading.{numbersIn, readChain}
-use Rattle.model.specs.CallLists.{Lending, Between, Fresh, callRun, after, afterAll, runs}
+use Rattle.model_sheet.specs.Reading.{numbersIn, readChain}
+use Rattle.model_run.specs.CallLists.{Lending, Between, Fresh, callRun, after, afterAll, runs}
 use Rattle.model.specs.declared.Chain.{Chain}
 use Rattle.model.specs.declared.State.{State}
 use Rattle.model.specs.declared.Verdict.the-variants.{Accepted}
@@ -65,27 +65,27 @@ module _ (call : Call) (stream : ℕ → ℕ) where
   calledAll [] k = []
   calledAll (l ∷ ls) k = called l k ∷ calledAll ls (left l k)
 
-module _ (call : Call) (c : Chain) (numbers : List ℕ) (stream : ℕ → ℕ) where
+module _ (call : Call) (c : Chain) (rows : List ℕ) (stream : ℕ → ℕ) where
   -- Each call is that of the list on the chain and its rows, with the state that the words are; it hands on what that call hands on, and the state's later words stay.
   pub record OneCall (l : Lending) (k : Slices) : Type 0 where
-    pub report : called call stream l k .report ≡ reportOf (callRun (trimmed c numbers) stream l (between k) .answer)
-    pub out : called call stream l k .out ≡ callRun (trimmed c numbers) stream l (between k) .output
-    pub hands-on : between (left call stream l k) ≡ after (trimmed c numbers) stream l (between k)
+    pub report : called call stream l k .report ≡ reportOf (callRun (trimmed c rows) stream l (between k) .answer)
+    pub out : called call stream l k .out ≡ callRun (trimmed c rows) stream l (between k) .output
+    pub hands-on : between (left call stream l k) ≡ after (trimmed c rows) stream l (between k)
     pub long : length (left call stream l k .state) ≡ length (k .state)
     pub later : drop stateSize (left call stream l k .state) ≡ drop stateSize (k .state)
 
   -- So is a list of calls: all reports, all outputs, and what it hands on at its end.
   pub record AllCalls (ls : List Lending) (k : Slices) : Type 0 where
-    pub reports : map (λ r. r .report) (calledAll call stream ls k) ≡ map (λ r. reportOf (r .answer)) (runs (trimmed c numbers) stream ls (between k))
-    pub outs : map (λ r. r .out) (calledAll call stream ls k) ≡ map (λ r. r .output) (runs (trimmed c numbers) stream ls (between k))
-    pub hands-on : between (leftAll call stream ls k) ≡ afterAll (trimmed c numbers) stream ls (between k)
+    pub reports : map (λ r. r .report) (calledAll call stream ls k) ≡ map (λ r. reportOf (r .answer)) (runs (trimmed c rows) stream ls (between k))
+    pub outs : map (λ r. r .out) (calledAll call stream ls k) ≡ map (λ r. r .output) (runs (trimmed c rows) stream ls (between k))
+    pub hands-on : between (leftAll call stream ls k) ≡ afterAll (trimmed c rows) stream ls (between k)
 
 -- With 33 words or more, which "are 0 when fresh".
-pub record Lists (call : Call) (c : Chain) (numbers : List ℕ) : Type 0 where
-  pub accepted : judgeChain c numbers ≡ Accepted
-  pub fresh : (k : Slices) → stateSize ≤ length (k .state) → ((i : ℕ) → i < stateSize → wordAt (k .state) i ≡ 0) → Fresh (trimmed c numbers) (between k)
-  pub one : (stream : ℕ → ℕ) (l : Lending) (k : Slices) → stateSize ≤ length (k .state) → OneCall call c numbers stream l k
-  pub all : (stream : ℕ → ℕ) (ls : List Lending) (k : Slices) → stateSize ≤ length (k .state) → AllCalls call c numbers stream ls k
+pub record Lists (call : Call) (c : Chain) (rows : List ℕ) : Type 0 where
+  pub accepted : judgeChain c rows ≡ Accepted
+  pub fresh : (k : Slices) → stateSize ≤ length (k .state) → ((i : ℕ) → i < stateSize → wordAt (k .state) i ≡ 0) → Fresh (trimmed c rows) (between k)
+  pub one : (stream : ℕ → ℕ) (l : Lending) (k : Slices) → stateSize ≤ length (k .state) → OneCall call c rows stream l k
+  pub all : (stream : ℕ → ℕ) (ls : List Lending) (k : Slices) → stateSize ≤ length (k .state) → AllCalls call c rows stream ls k
 
 -- Of every chain, with any rows beside it, and every sheet that the judge calls accept.
 abbrev pub ListsOnChains : Type 0

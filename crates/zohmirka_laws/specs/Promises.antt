@@ -5,11 +5,11 @@ use mathlib.Core.List.{List}
 use mathlib.Core.Path.{_≡_}
 use lib.ListN.{length}
 use Rattle.model.specs.Values.{trimmed}
-use Rattle.model.specs.Frames.{rowNumbers}
+use Rattle.model_sheet.specs.Frames.{rowNumbers}
 use Rattle.model.specs.Judging.{judgeChain}
-use Rattle.model.specs.Reading.{numbersIn, readRequest, readChain}
-use Rattle.model.specs.Running.{shortStore, widthOf}
-use Rattle.model.specs.Writing.{longestSheet}
+use Rattle.model_sheet.specs.Reading.{numbersIn, readRequest, readChain}
+use Rattle.model_run.specs.Running.{shortStore, widthOf}
+use Rattle.model_sheet.specs.Writing.{longestSheet}
 use Rattle.model.specs.declared.Chain.{Chain}
 use Rattle.model.specs.declared.Verdict.the-variants.{Accepted}
 use Rattle.zohmirka_words.specs.Words.{wordAt, stateSize, chainSize, chainIn, rowPlaces}
@@ -125,4 +125,4 @@ LongStoreOfSheet =
     (state store cells out : List ℕ) (allowance : ℕ) (sheet : List ℕ) → 16384 ≤ length store → runSheet state store cells out allowance sheet .report .refusal ≡ 10 → ⊥
 
 abbrev pub FewWords : Type 0
-FewWords = (c : Chain) (numbers : List ℕ) → judgeChain c numbers ≡ Accepted → widthOf (trimmed c numbers) ≤ 32
+FewWords = (c : Chain) (rows : List ℕ) → judgeChain c rows ≡ Accepted → widthOf (trimmed c rows) ≤ 32

@@ -5,7 +5,7 @@ use mathlib.Core.List.{List}
 use mathlib.Core.Path.{_≡_}
 use lib.ListN.{length, take}
 use Rattle.model.specs.Values.{trimmed, Same, chainOf}
-use Rattle.model.specs.NamedWindows.{isName, namedOf}
+use Rattle.model_sheet.specs.NamedWindows.{isName, namedOf}
 use Rattle.sheet_trips.specs.Names.{FirstLine, byName, writtenOut, BeginsWithOffset}
 use Rattle.zohmirka_words.specs.Words.{wordAt, chainSize, chainIn, rowPlaces, rowWords, laid}
 use Rattle.zohmirka.specs.Calls.{Sheets, Reads, planCall, judgeCall, readCall, judgeChainCall, writeCall}

@@ -1,7 +1,7 @@
 -- What a run call on a chain and the rows lent beside it leaves.
 use Prim.Native.Nat.{ℕ}
 use mathlib.Core.List.{List}
-use Rattle.model.specs.Running.{runOf}
+use Rattle.model_run.specs.Running.{runOf}
 use Rattle.model.specs.declared.Answer.{Answer}
 use Rattle.model.specs.declared.Answer.the-variants as answer
 use Rattle.model.specs.declared.Chain.{Chain}
@@ -23,7 +23,7 @@ stateLeft (answer.Refused x) s ws = ws
 
 module _ (state store cells out : List ℕ) (allowance : ℕ) where
   -- A call on the chain c, whose rows have these numbers.
-  unfoldable pub runValue : Chain → (numbers : List ℕ) → Runs
-  runValue c numbers =
-      let ran = runOf c numbers (stateIn state) store cells out allowance in
+  unfoldable pub runValue : Chain → (rows : List ℕ) → Runs
+  runValue c rows =
+      let ran = runOf c rows (stateIn state) store cells out allowance in
       record { report = reportOf (ran .answer); state = stateLeft (ran .answer) (ran .state) state; store = ran .store; out = ran .output }

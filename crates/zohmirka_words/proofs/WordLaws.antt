@@ -12,7 +12,7 @@ use lib.ListN.{length, getD, drop, set, replicate}
 use mir.Val.{boolByte}
 use borrow.Author.Tests.{lt-ltb, le-ltb}
 use Rattle.model.specs.Lists.{tabulate}
-use Rattle.model.specs.Numbers.{signed, signedWord, wordPattern}
+use Rattle.model_sheet.specs.Numbers.{signed, signedWord, wordPattern}
 use Rattle.model.specs.Values.{blankChain}
 use Rattle.model.specs.declared.Bounds.{Bounds}
 use Rattle.model.specs.declared.CellsPassed.{CellsPassed}
@@ -21,7 +21,7 @@ use Rattle.model.specs.declared.Grid.{Grid}
 use Rattle.model.specs.declared.Kernel.{Kernel}
 use Rattle.model.specs.declared.Order.{Order}
 use Rattle.model.specs.declared.State.{State}
-use Rattle.model.proofs.ListLaws.{length-tabulate}
+use Rattle.grid_laws.proofs.ListLaws.{length-tabulate}
 use Rattle.zohmirka_words.specs.Words.{wordAt, laid, counter, stateWord, stateWords, stateIn, stateInto, boxWord, chainWord, chainWords, chainInto, countIn, kernelIn, orderIn, indicesIn, boundsIn, chainIn, rowPlaces, rowWords, rowsInto}
 
 -- The first k entries f's, the others as they were.
@@ -228,13 +228,13 @@ module _ (ws : List ℕ) where
   chain-of-words skewed rows dims count sizes capacities offsets b o k h d1 d2 e1 e2 e3 e4 e5 e6 e7 e8 = rw (le-ltb _ _ h, d1, d2, e1, e2, e3, e4, e5, e6, e7, e8)
 
   -- Rows, where a grid's have so many numbers.
-  module _ (g : Grid) (numbers : List ℕ) (n : ℕ) (e : n ≡ rowPlaces g) where
-    pub few-row-places : length ws < n → ws ≡ rowsInto g numbers ws
+  module _ (g : Grid) (rows : List ℕ) (n : ℕ) (e : n ≡ rowPlaces g) where
+    pub few-row-places : length ws < n → ws ≡ rowsInto g rows ws
     unfolding rowsInto
     few-row-places h = rw (← e, lt-ltb _ _ h)
 
-    pub rows-of-words : (k : ℕ) (xs : List ℕ) → n ≤ k → k ≤ n → n ≤ length ws → xs ≡ front (wordAt numbers) k ws → xs ≡ rowsInto g numbers ws
+    pub rows-of-words : (k : ℕ) (xs : List ℕ) → n ≤ k → k ≤ n → n ≤ length ws → xs ≡ front (wordAt rows) k ws → xs ≡ rowsInto g rows ws
     unfolding rowsInto rowWords
     rows-of-words k xs h b l r =
         let d : k ≡ n = omega arith in
-        rw (← e, le-ltb _ _ l) (r ∙ rw d (front-laid (wordAt numbers) n ws))
+        rw (← e, le-ltb _ _ l) (r ∙ rw d (front-laid (wordAt rows) n ws))

@@ -6,8 +6,8 @@ use lib.Dec.{eqb, ltb}
 use lib.IntN.{ℤ, pos}
 use lib.ListN.{length, getD, drop, replicate}
 use Rattle.model.specs.Lists.{tabulate}
-use Rattle.model.specs.Numbers.{signed, pattern, signedWord, wordPattern}
-use Rattle.model.specs.Kernels.{float, word}
+use Rattle.model_sheet.specs.Numbers.{signed, pattern, signedWord, wordPattern}
+use Rattle.model_run.specs.Kernels.{float, word}
 use Rattle.model.specs.Values.{blankChain}
 use Rattle.model.specs.declared.Bounds.{Bounds}
 use Rattle.model.specs.declared.CellsPassed.{CellsPassed}
@@ -132,9 +132,9 @@ unfoldable pub rowPlaces : Grid → ℕ
 rowPlaces g = cond (g .skewed) (2 * g .rows) 0
 
 -- Those of a grid among these numbers, in which it has the first.
-unfoldable pub rowWords : Grid → (numbers : List ℕ) → List ℕ
-rowWords g numbers = tabulate (rowPlaces g) (wordAt numbers)
+unfoldable pub rowWords : Grid → (rows : List ℕ) → List ℕ
+rowWords g rows = tabulate (rowPlaces g) (wordAt rows)
 
 -- Too few places stay as they are.
-unfoldable pub rowsInto : Grid → (numbers ws : List ℕ) → List ℕ
-rowsInto g numbers ws = cond (ltb (length ws) (rowPlaces g)) ws (laid (rowWords g numbers) ws)
+unfoldable pub rowsInto : Grid → (rows ws : List ℕ) → List ℕ
+rowsInto g rows ws = cond (ltb (length ws) (rowPlaces g)) ws (laid (rowWords g rows) ws)

@@ -1,4 +1,4 @@
-use Rattle.case_runs.proofs.CallLaws.{after-call}
+use Rattle.case_runs.proofs.CaseCalls.{after-call}
 use borrow.Author.Needs.{needs}
 use Rattle.case_runs.proofs.after.Statement.{statement}
 use Rattle.case_runs.proofs.after.Tie as tie

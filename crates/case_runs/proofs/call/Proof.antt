@@ -1,4 +1,4 @@
-use Rattle.case_runs.proofs.CallLaws.{next-call}
+use Rattle.case_runs.proofs.CaseCalls.{next-call}
 use borrow.Author.Needs.{needs}
 use Rattle.case_runs.proofs.call.Statement.{statement}
 use Rattle.case_runs.proofs.call.Tie as tie

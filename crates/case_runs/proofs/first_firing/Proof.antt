@@ -1,5 +1,5 @@
 use borrow.Author.Needs.{needs}
-use Rattle.case_runs.proofs.CallLaws.{first-clocks}
+use Rattle.case_runs.proofs.CaseCalls.{first-clocks}
 use Rattle.case_runs.proofs.first_firing.Statement.{statement}
 use Rattle.case_runs.proofs.first_firing.Tie as tie
 

@@ -1,7 +1,7 @@
 use mathlib.Core.Path.{sym}
 use native.Mathlib.Omega.{arith}
 use lib.Seq.{length-take-le}
-use Rattle.case_runs.proofs.CallLaws.{lent-part}
+use Rattle.case_runs.proofs.CaseCalls.{lent-part}
 use borrow.Author.Needs.{needs}
 use Rattle.case_runs.proofs.lend.Statement.{statement}
 use Rattle.case_runs.proofs.lend.Tie as tie

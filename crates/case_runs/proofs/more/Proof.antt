@@ -2,7 +2,7 @@ use mathlib.Core.Path.{_≡_, refl, sym, _∙_}
 use lib.ListN.{length}
 use borrow.Author.Needs.{needs}
 use Rattle.case_runs.specs.CaseRuns.{course, calledOn}
-use Rattle.case_runs.proofs.CallLaws.{last-call, one-call, no-calls}
+use Rattle.case_runs.proofs.CaseCalls.{last-call, one-call, no-calls}
 use Rattle.case_runs.proofs.more.Statement.{statement}
 use Rattle.case_runs.proofs.more.Tie as tie
 

@@ -4,7 +4,7 @@ use native.Mathlib.Omega.{arith}
 use native.Mathlib.Nat.{zero-add}
 use borrow.Author.Needs.{needs}
 use Rattle.model.specs.Lists.{tabulate}
-use Rattle.model.specs.Kernels.{centreOf}
+use Rattle.model.specs.Windows.{centreOf}
 use Rattle.geometry.specs.Parts.{part, offsetAt}
 use Rattle.geometry.proofs.PartLaws.{part-all}
 use Rattle.geometry.proofs.OffsetLaws.{centre-on, centre-here, centre-end}

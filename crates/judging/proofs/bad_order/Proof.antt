@@ -8,7 +8,7 @@ use Rattle.model.specs.Lists.{tabulate, any}
 use Rattle.model.specs.Values.{orderOf}
 use Rattle.model.specs.Judging.{badCount, badOrder, twice}
 use Rattle.model.specs.declared.Order.{Order}
-use Rattle.model.proofs.Tests.{neither}
+use Rattle.grid_laws.proofs.Tests.{neither}
 use Rattle.judging.proofs.bad_order.Statement.{statement}
 use Rattle.judging.proofs.bad_order.Tie as tie
 

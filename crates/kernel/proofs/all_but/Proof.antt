@@ -5,7 +5,7 @@ use native.Mathlib.Omega.{arith}
 use lib.ListN.{set}
 use borrow.Author.Needs.{needs}
 use borrow.Author.Tests.{eqb-true, eqb-false}
-use Rattle.kernel.specs.Tables.{termOf}
+use Rattle.kernel.specs.FilterTables.{termOf}
 use Rattle.kernel.proofs.TableLaws.{Listed, listed-none, listed-room, listed-centre, listed-other, listed-all}
 use Rattle.kernel.proofs.all_but.Statement.{statement}
 use Rattle.kernel.proofs.all_but.Tie as tie

@@ -2,7 +2,7 @@
 use mathlib.Core.Path.{_∙_}
 use native.Mathlib.Omega.{arith}
 use borrow.Author.Needs.{needs}
-use Rattle.model.specs.Kernels.{written, width}
+use Rattle.model_run.specs.Kernels.{written, width}
 use Rattle.kernel.proofs.AppliedLaws.{past-end, no-room, all-words, one-word}
 use Rattle.kernel.proofs.apply.Statement.{statement}
 use Rattle.kernel.proofs.apply.Tie as tie

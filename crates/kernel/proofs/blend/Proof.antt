@@ -1,6 +1,6 @@
 -- `blend` adds a times the centre and b times the sum of the terms. Assumes nothing.
 use borrow.Author.Needs.{needs}
-use Rattle.model.specs.Kernels.{blend}
+use Rattle.model_run.specs.Kernels.{blend}
 use Rattle.kernel.specs.Sums.{sumOfTerms}
 use Rattle.kernel.proofs.blend.Statement.{statement}
 use Rattle.kernel.proofs.blend.Tie as tie

@@ -4,7 +4,7 @@ use mathlib.Core.Path.{_≡_, refl, _∙_}
 use lib.ListN.{length, drop}
 use lib.Seq.{sets}
 use borrow.Author.Needs.{needs}
-use Rattle.model.specs.Kernels.{wordsAt}
+use Rattle.model_run.specs.Kernels.{wordsAt}
 use Rattle.kernel.proofs.AppliedLaws.{copy-start, copy-next, copy-end}
 use Rattle.kernel.proofs.copy.Statement.{statement}
 use Rattle.kernel.proofs.copy.Tie as tie

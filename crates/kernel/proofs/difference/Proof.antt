@@ -1,6 +1,6 @@
 -- `difference` writes the sum of the squares. Assumes nothing.
 use borrow.Author.Needs.{needs}
-use Rattle.model.specs.Kernels.{difference}
+use Rattle.model_run.specs.Kernels.{difference}
 use Rattle.kernel.specs.Sums.{sumOfSquares}
 use Rattle.kernel.proofs.difference.Statement.{statement}
 use Rattle.kernel.proofs.difference.Tie as tie

@@ -3,7 +3,7 @@
 use Prim.Native.Nat.{_-_}
 use lib.ListN.{length}
 use borrow.Author.Needs.{needs}
-use Rattle.model.specs.Kernels.{float, scaled}
+use Rattle.model_run.specs.Kernels.{float, scaled}
 use Rattle.kernel.proofs.SumLaws.{Adding, add-none, add-first, add-next, add-end}
 use Rattle.kernel.proofs.scaled.Statement.{statement}
 use Rattle.kernel.proofs.scaled.Tie as tie

@@ -1,6 +1,6 @@
 -- `squared` is the square of a difference. Assumes nothing.
 use borrow.Author.Needs.{needs}
-use Rattle.model.specs.Kernels.{squared}
+use Rattle.model_run.specs.Kernels.{squared}
 use Rattle.kernel.proofs.squared.Statement.{statement}
 use Rattle.kernel.proofs.squared.Tie as tie
 

@@ -2,7 +2,7 @@
 use Prim.Native.Nat.{_-_}
 use lib.ListN.{length, getD}
 use borrow.Author.Needs.{needs}
-use Rattle.model.specs.Kernels.{squared}
+use Rattle.model_run.specs.Kernels.{squared}
 use Rattle.kernel.specs.Sums.{sumOfSquares}
 use Rattle.kernel.proofs.SumLaws.{Adding, add-none, add-first, add-next, add-end}
 use Rattle.kernel.proofs.sum_of_squares.Statement.{statement}

@@ -3,8 +3,8 @@ use Prim.Native.Nat.{ℕ}
 use mathlib.Core.Path.{_≡_, _∙_, ap}
 use borrow.Author.Needs.{needs}
 use Rattle.model.specs.Lists.{tabulate, without}
-use Rattle.model.specs.Kernels.{terms}
-use Rattle.kernel.specs.Tables.{tableOf, filtersFor}
+use Rattle.model_run.specs.Kernels.{terms}
+use Rattle.kernel.specs.FilterTables.{tableOf, filtersFor}
 use Rattle.kernel.proofs.TableLaws.{absent}
 use Rattle.kernel.proofs.terms_of.Statement.{statement}
 use Rattle.kernel.proofs.terms_of.Tie as tie

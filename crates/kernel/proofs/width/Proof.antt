@@ -1,6 +1,6 @@
 -- `width` is the number of words that the kernel writes. Assumes nothing.
 use borrow.Author.Needs.{needs}
-use Rattle.model.specs.Kernels.{width}
+use Rattle.model_run.specs.Kernels.{width}
 use Rattle.kernel.proofs.width.Statement.{statement}
 use Rattle.kernel.proofs.width.Tie as tie
 

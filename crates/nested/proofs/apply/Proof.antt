@@ -5,7 +5,7 @@ use mathlib.Core.Path.{_≡_, refl, ap, _∙_}
 use borrow.Author.Needs.{needs}
 use lib.Ieee.{Float, binary32, add, mul}
 use lib.ListN.{set}
-use Rattle.model.specs.Kernels.{float, word}
+use Rattle.model_run.specs.Kernels.{float, word}
 use Rattle.model.specs.declared.Factors.{Factors}
 use Rattle.model.specs.declared.Kernel.{Kernel}
 use Rattle.model.specs.declared.Kernel.the-variants as kernel

@@ -5,7 +5,7 @@ use mathlib.Core.Path.{_≡_, ap, _∙_}
 use native.Mathlib.Omega.{arith}
 use borrow.Author.Needs.{needs}
 use lib.Ieee.{Float}
-use Rattle.model.specs.Kernels.{float, squared}
+use Rattle.model_run.specs.Kernels.{float, squared}
 use Rattle.nested.specs.Nested.{wordIn, sumBut, squares}
 use Rattle.nested.proofs.SumLaws.{square, skipped, one-added, all-added}
 use Rattle.nested.proofs.differences.Statement.{statement}

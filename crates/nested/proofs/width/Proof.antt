@@ -1,5 +1,5 @@
 use borrow.Author.Needs.{needs}
-use Rattle.model.specs.Kernels.{width}
+use Rattle.model_run.specs.Kernels.{width}
 use Rattle.nested.proofs.width.Statement.{statement}
 use Rattle.nested.proofs.width.Tie as tie
 

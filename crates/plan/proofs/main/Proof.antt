@@ -11,7 +11,7 @@ use Rattle.plan.proofs.main.Statement.{statement}
 use Rattle.plan.proofs.main.Tie as tie
 
 -- Where no read failed.
-all-taken : (failed : Bool) (a : Arriving) (rows : List ℕ) → failed ≡ false → TakenUnless failed a rows → Taken (record { sheet = a; numbers = rows })
+all-taken : (failed : Bool) (a : Arriving) (rows : List ℕ) → failed ≡ false → TakenUnless failed a rows → Taken (record { sheet = a; rows = rows })
 all-taken failed a rows e t = subst (λ (b : Bool). TakenUnless b a rows) e t
 
 slice-aggregate-receive : tie.Need-slice-aggregate-receive

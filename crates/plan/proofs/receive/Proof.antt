@@ -9,7 +9,7 @@ use Rattle.plan.proofs.receive.Tie as tie
 
 abbrev Inv-loop : tie.InvT-loop
 Inv-loop block₀ rows₀ arriving₀ turns₀ block rows arriving turns =
-    (length block ≡ length block₀) × (length rows ≡ length rows₀) × Taking (record { sheet = arriving; numbers = rows })
+    (length block ≡ length block₀) × (length rows ≡ length rows₀) × Taking (record { sheet = arriving; rows = rows })
 
 abbrev μ-loop : tie.MeasureT-loop
 μ-loop block₀ rows₀ arriving₀ turns₀ block rows arriving turns = turns
@@ -20,7 +20,7 @@ open-requires c κs = search needs
 loop-holds : tie.Need-loop-holds Inv-loop μ-loop
 loop-holds c =
     let zeros = c .before .before .before .pre in
-    (refl, refl, subst Taking (λ i. record { sheet = sym (c .open .ensures) i; numbers = sym zeros i }) taking-start)
+    (refl, refl, subst Taking (λ i. record { sheet = sym (c .open .ensures) i; rows = sym zeros i }) taking-start)
 
 sub-turns : tie.Need-sub-turns Inv-loop μ-loop
 sub-turns c = search needs

@@ -12,8 +12,8 @@ use Rattle.model.specs.declared.Window.{Window}
 use Rattle.shape.specs.Shapes.{surveyOf}
 use Rattle.shape.specs.declared.Survey.{Survey}
 use Rattle.shape.proofs.Answers.{survey-verdict}
-use Rattle.model.proofs.ChainLaws.{on-flat}
-use Rattle.model.proofs.StepLaws.{steps-refused}
+use Rattle.grid_laws.proofs.ChainLaws.{on-flat}
+use Rattle.grid_laws.proofs.StepLaws.{steps-refused}
 use Rattle.plan_steps.proofs.DistanceLaws.{first-positions}
 use Rattle.plan_steps.proofs.StepLaws.{few}
 use Rattle.plan_steps.proofs.on_rectangle.Statement.{statement}

@@ -10,8 +10,8 @@ use Rattle.model.specs.declared.Bounds.{Bounds}
 use Rattle.model.specs.declared.Grid.{Grid}
 use Rattle.model.specs.declared.Verdict.{Verdict}
 use Rattle.model.specs.declared.Window.{Window}
-use Rattle.model.proofs.ChainLaws.{on-skewed}
-use Rattle.model.proofs.StepLaws.{steps-refused}
+use Rattle.grid_laws.proofs.ChainLaws.{on-skewed}
+use Rattle.grid_laws.proofs.StepLaws.{steps-refused}
 use Rattle.rows.specs.Surveys.{rowSurveyOf}
 use Rattle.rows.specs.declared.RowSurvey.{RowSurvey}
 use Rattle.rows.proofs.SurveyLaws.{survey-verdict}
@@ -19,10 +19,10 @@ use Rattle.plan_steps.proofs.on_rows.Statement.{statement}
 use Rattle.plan_steps.proofs.on_rows.Tie as tie
 
 -- What the survey found is the first of 16, 4 to 6 and 15.
-found : (g : Grid) → g .skewed ≡ true → (numbers : List ℕ) (w : Window) (x : Bounds) (s : RowSurvey) → s ≡ rowSurveyOf (g .rows) numbers w x → (v : Verdict) → s .verdict ≡ v
-    → judgeWindow g numbers w x ≡ v
-found g skewed numbers w x s d v e =
-    ap (λ (t : Trimmed). firstOf (windowChecks t)) (on-skewed g skewed numbers w x) ∙ sym (survey-verdict (g .rows) numbers w x) ∙ ap (λ (t : RowSurvey). t .verdict) (sym d) ∙ e
+found : (g : Grid) → g .skewed ≡ true → (rows : List ℕ) (w : Window) (x : Bounds) (s : RowSurvey) → s ≡ rowSurveyOf (g .rows) rows w x → (v : Verdict) → s .verdict ≡ v
+    → judgeWindow g rows w x ≡ v
+found g skewed rows w x s d v e =
+    ap (λ (t : Trimmed). firstOf (windowChecks t)) (on-skewed g skewed rows w x) ∙ sym (survey-verdict (g .rows) rows w x) ∙ ap (λ (t : RowSurvey). t .verdict) (sym d) ∙ e
 
 survey-requires : tie.Need-survey-requires
 survey-requires c κs = search needs

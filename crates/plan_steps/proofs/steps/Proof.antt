@@ -1,6 +1,6 @@
 use mathlib.Core.Path.{_∙_, sym}
 use borrow.Author.Needs.{needs}
-use Rattle.model.proofs.StepLaws.{steps-flat}
+use Rattle.grid_laws.proofs.StepLaws.{steps-flat}
 use Rattle.plan_steps.proofs.steps.Statement.{statement}
 use Rattle.plan_steps.proofs.steps.Tie as tie
 

@@ -5,9 +5,9 @@ use native.Mathlib.Omega.{arith}
 use borrow.Author.Needs.{needs}
 use Rattle.model.specs.Values.{dimsOf, offsetsOf, windowOf}
 use Rattle.model.specs.Steps.{falling}
-use Rattle.model.proofs.ChainLaws.{dims-flat}
-use Rattle.model.proofs.CheckLaws.{some-references}
-use Rattle.model.proofs.StepLaws.{passed}
+use Rattle.grid_laws.proofs.ChainLaws.{dims-flat}
+use Rattle.grid_laws.proofs.CheckLaws.{some-references}
+use Rattle.grid_laws.proofs.StepLaws.{passed}
 use Rattle.plan_steps.specs.Order.{Ordered}
 use Rattle.plan_steps.proofs.DistanceLaws.{positions-fall, distances-are}
 use Rattle.plan_steps.proofs.StepLaws.{few, low, taken-from}

@@ -7,9 +7,9 @@ use Rattle.model.specs.Values.{dimsOf, offsetsOf, onRows, windowOf}
 use Rattle.model.specs.Iterations.{distanceOf}
 use Rattle.model.specs.Steps.{falling}
 use Rattle.model.specs.declared.Window.{Window}
-use Rattle.model.proofs.ChainLaws.{dims-skewed}
+use Rattle.grid_laws.proofs.ChainLaws.{dims-skewed}
 use Rattle.geometry.specs.Parts.{Filled}
-use Rattle.row_courses.specs.Tables.{distanceCount}
+use Rattle.row_courses.specs.CourseTables.{distanceCount}
 use Rattle.plan_steps.specs.Order.{Ordered}
 use Rattle.plan_steps.proofs.RowDistances.{sorted-judged, row-distances}
 use Rattle.plan_steps.proofs.StepLaws.{few, taken-from}

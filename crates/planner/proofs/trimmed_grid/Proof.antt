@@ -1,6 +1,6 @@
 use native.Mathlib.Omega.{arith}
 use borrow.Author.Needs.{needs}
-use Rattle.model.proofs.ChainLaws.{dims-flat}
+use Rattle.grid_laws.proofs.ChainLaws.{dims-flat}
 use Rattle.planner.proofs.PlanLaws.{flat-grid, skewed-grid}
 use Rattle.planner.proofs.trimmed_grid.Statement.{statement}
 use Rattle.planner.proofs.trimmed_grid.Tie as tie

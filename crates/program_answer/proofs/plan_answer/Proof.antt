@@ -1,7 +1,7 @@
 use mathlib.Core.Path.{sym, _∙_}
 use borrow.Author.Needs.{needs}
 use borrow.Author.Tests.{not-true, not-false}
-use Rattle.program_lines.proofs.WithinLaws.{laid-within}
+use Rattle.program_writer.proofs.WithinLaws.{laid-within}
 use Rattle.program_answer.proofs.AnswerLaws.{lines-refused, lines-missing, plan-refused, plan-written}
 use Rattle.program_answer.proofs.plan_answer.Statement.{statement}
 use Rattle.program_answer.proofs.plan_answer.Tie as tie

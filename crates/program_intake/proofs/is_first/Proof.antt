@@ -1,5 +1,5 @@
 use borrow.Author.Needs.{needs}
-use Rattle.model.specs.Arriving.{stoodFirst}
+use Rattle.model_sheet.specs.Arriving.{stoodFirst}
 use Rattle.program_intake.proofs.is_first.Statement.{statement}
 use Rattle.program_intake.proofs.is_first.Tie as tie
 

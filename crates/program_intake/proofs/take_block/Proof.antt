@@ -4,7 +4,7 @@ use mathlib.Core.Path.{_≡_, refl, _∙_}
 use native.Mathlib.Omega.{arith}
 use lib.ListN.{length, drop}
 use borrow.Author.Needs.{needs}
-use Rattle.model.specs.Arriving.{arrive}
+use Rattle.model_sheet.specs.Arriving.{arrive}
 use Rattle.program_intake.specs.Taken.{beside}
 use Rattle.program_intake.proofs.LineLaws.{goes-on, moves, at-end}
 use Rattle.program_intake.proofs.take_block.Statement.{statement}

@@ -37,8 +37,8 @@ take-numbers-requires c κs = search needs
 more-requires : tie.Need-more-requires
 more-requires c κs = search needs
 
-close-requires : tie.Need-close-requires
-close-requires c κs = search needs
+close-line-requires : tie.Need-close-line-requires
+close-line-requires c κs = search needs
 
 add-t26 : tie.Need-add-t26
 add-t26 c =
@@ -58,7 +58,7 @@ returns-2 c =
     let n = m .before .before .before in
     let t = n .before .before .before .before in
     ended-accepted _ _ _ _ _ _ (t .before .before .line .ensures) (ltb-true _ _ (i .if2 .taken)) (t .enum-told2 .given .1) _ (n .take-numbers .ensures)
-    (m .more .result) (m .more .ensures) (c .close .result) (c .close .ensures)
+    (m .more .result) (m .more .ensures) (c .close-line .result) (c .close-line .ensures)
 
 lengthen-requires : tie.Need-lengthen-requires
 lengthen-requires c κs = search needs
@@ -92,7 +92,7 @@ take-line-spec =
     enum-told-2
     take-numbers-requires
     more-requires
-    close-requires
+    close-line-requires
     add-t26
     same-length
     returns-2

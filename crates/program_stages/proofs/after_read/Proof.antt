@@ -10,14 +10,14 @@ staged-requires c κs = search needs
 returns : tie.Need-returns
 returns c = let s = c .before .before in c .staged .ensures ∙ read-failed (s .args .got) (s .args .j) (s .fits .got) (c .before .if1 .taken)
 
-close-requires : tie.Need-close-requires
-close-requires c κs = search needs
+close-input-requires : tie.Need-close-input-requires
+close-input-requires c κs = search needs
 
 returns-2 : tie.Need-returns-2
-returns-2 c = let s = c .before .before .before in c .close .ensures ∙ read-ended (s .args .got) (s .args .j) (s .fits .got) (c .before .if2 .taken)
+returns-2 c = let s = c .before .before .before in c .close-input .ensures ∙ read-ended (s .args .got) (s .args .j) (s .fits .got) (c .before .if2 .taken)
 
 returns-3 : tie.Need-returns-3
 returns-3 c = let s = c .before .before in read-given (s .args .got) (s .args .j) (s .fits .got) (c .before .if1 .left) (c .if2 .left)
 
 pub after-read-spec : {M : Type 1} → statement M
-after-read-spec = tie.close (tie.spec staged-requires returns close-requires returns-2 returns-3)
+after-read-spec = tie.close (tie.spec staged-requires returns close-input-requires returns-2 returns-3)

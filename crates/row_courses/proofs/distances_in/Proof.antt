@@ -6,7 +6,7 @@ use Rattle.model.specs.Values.{rowsOf}
 use Rattle.geometry.specs.Parts.{part, Filled}
 use Rattle.rows.specs.Courses.{looked}
 use Rattle.rows.proofs.BackLaws.{greatest-none, greatest-back, greatest-all}
-use Rattle.row_courses.specs.Tables.{distanceAt}
+use Rattle.row_courses.specs.CourseTables.{distanceAt}
 use Rattle.row_courses.proofs.DistanceLaws.{filled-same, filled-zeros}
 use Rattle.row_courses.proofs.distances_in.Statement.{statement}
 use Rattle.row_courses.proofs.distances_in.Tie as tie

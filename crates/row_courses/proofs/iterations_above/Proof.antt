@@ -6,7 +6,7 @@ use Rattle.model.specs.Values.{rowsOf}
 use Rattle.geometry.specs.Parts.{Filled}
 use Rattle.geometry.proofs.FillLaws.{filled-up-to}
 use Rattle.rows.specs.Courses.{rowLength}
-use Rattle.row_courses.specs.Tables.{lengthsAbove}
+use Rattle.row_courses.specs.CourseTables.{lengthsAbove}
 use Rattle.row_courses.proofs.TableLaws.{lengths-next, row-most, filled-first, filled-at}
 use Rattle.row_courses.proofs.iterations_above.Statement.{statement}
 use Rattle.row_courses.proofs.iterations_above.Tie as tie

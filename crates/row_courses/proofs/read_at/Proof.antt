@@ -1,7 +1,7 @@
 use Prim.Native.Nat.{ℕ, _+_, _-_}
 use mathlib.Core.Path.{_∙_, ap, ap₂}
 use borrow.Author.Needs.{needs}
-use Rattle.row_courses.specs.Tables.{entryOf}
+use Rattle.row_courses.specs.CourseTables.{entryOf}
 use Rattle.row_courses.proofs.read_at.Statement.{statement}
 use Rattle.row_courses.proofs.read_at.Tie as tie
 

@@ -4,9 +4,9 @@ use mathlib.Core.Path.{_≡_, refl, sym, _∙_}
 use native.Mathlib.Omega.{arith}
 use lib.ListN.{length, take}
 use borrow.Author.Needs.{needs}
-use Rattle.model.specs.Frames.{rowNumbers}
-use Rattle.model.specs.Programs.{blockPlaces, storePlaces, cellPlaces, wordPlaces, runTextPlaces}
-use Rattle.program_driver.specs.Steps.{left}
+use Rattle.model_sheet.specs.Frames.{rowNumbers}
+use Rattle.model_program.specs.Programs.{blockPlaces, storePlaces, cellPlaces, wordPlaces, runTextPlaces}
+use Rattle.program_driver.specs.RunSteps.{left}
 use Rattle.program_laws.specs.Loops.{InLoop}
 use Rattle.program_laws.proofs.Loops.{in-loop-start, TurnLeaves, turn-leaves}
 use Rattle.run.proofs.main.Statement.{statement}

@@ -3,7 +3,7 @@ use Prim.Native.Nat.{ℕ, _+_, _-_, _≤_, _<_}
 use mathlib.Core.Path.{_≡_}
 use native.Mathlib.Omega.{arith}
 use lib.ListN.{getD}
-use Rattle.model.specs.Store.{firstPlace}
+use Rattle.model_run.specs.Store.{firstPlace}
 use Rattle.loop_laws.specs.Passes.{of}
 use Rattle.loop_laws.proofs.FillLaws.{not-true, not-false}
 use Rattle.run_fill.specs.Fills.{GoodRing}

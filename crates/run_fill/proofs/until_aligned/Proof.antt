@@ -6,10 +6,10 @@ use native.Mathlib.Nat.{sub-zero}
 use native.Mathlib.Omega.{arith}
 use lib.ListN.{length, getD}
 use borrow.Author.Needs.{needs}
-use Rattle.model.specs.Clock.{Layout}
+use Rattle.model_run.specs.Clock.{Layout}
 use Rattle.loop_laws.specs.Passes.{of}
 use Rattle.loop_laws.specs.Sweeps.{Again}
-use Rattle.loop_laws.specs.Tables.{Fills}
+use Rattle.loop_laws.specs.LoopTables.{Fills}
 use Rattle.loop_laws.proofs.AgainLaws.{goes-most, again-now, again-on, cells-last, swept-none}
 use Rattle.loop_laws.proofs.FillLaws.{Filling, filling-start, filling-again, idle, in-place, at-small, small, may-turn, stops-spent, stops-starved, stops-stalled}
 use Rattle.run_fill.proofs.until_aligned.Statement.{statement}

@@ -5,7 +5,7 @@ use mathlib.Core.Path.{refl, sym}
 use lib.ListN.{length}
 use native.Mathlib.Omega.{arith}
 use borrow.Author.Needs.{needs}
-use Rattle.model.specs.Clock.{Layout}
+use Rattle.model_run.specs.Clock.{Layout}
 use Rattle.loop_laws.specs.Passes.{heads}
 use Rattle.run_glide.specs.Glides.{Blank, Starts, Glides}
 use Rattle.run_glide.proofs.FitLaws.{up-to-fits}

@@ -3,8 +3,8 @@ use mathlib.Core.Path.{_≡_, sym, _∙_}
 use native.Mathlib.Omega.{arith}
 use lib.ListN.{take}
 use lib.Seq.{slice}
-use Rattle.model.specs.Clock.{Layout}
-use Rattle.model.specs.Running.{badCounter, badFifo, badFilters, badState}
+use Rattle.model_run.specs.Clock.{Layout}
+use Rattle.model_run.specs.Running.{badCounter, badFifo, badFilters, badState}
 use Rattle.run_prepare.specs.Prepared.{numberAt, Laid}
 use Rattle.run_prepare.proofs.PrepareStates.{counter-bad, fifo-bad, next-filter, no-filter, too-many, by-filters}
 use Rattle.run_prepare.proofs.bad_state.Statement.{statement}

@@ -1,7 +1,7 @@
 use Prim.Native.Nat.{ℕ, _+_, _-_, _*_, _≤_}
 use mathlib.Core.Path.{_≡_, refl, _∙_, ap}
 use native.Mathlib.Omega.{arith}
-use Rattle.model.specs.Store.{firstPlace}
+use Rattle.model_run.specs.Store.{firstPlace}
 use Rattle.run_prepare.specs.Prepared.{numberAt, blank, Filled}
 use Rattle.run_prepare.proofs.PreparePlaces.{no-place, next-place}
 use Rattle.run_prepare.proofs.PrepareFills.{filled-none, filled-more, filled-as}

@@ -2,7 +2,7 @@
 use mathlib.Core.List.{[]}
 use mathlib.Core.Path.{_≡_, sym, _∙_}
 use Rattle.model.specs.Values.{trimmed}
-use Rattle.model.specs.Running.{shortStore}
+use Rattle.model_run.specs.Running.{shortStore}
 use Rattle.run_laws.proofs.Accepts.{accepted-chain, trimmed-proper}
 use Rattle.run_prepare.specs.Ready.{flattened}
 use Rattle.run_prepare.proofs.PrepareGuards.{short-is}

@@ -1,6 +1,6 @@
 -- `clocks` makes the clocks of the call's definition. Assumes nothing.
 use mathlib.Core.Path.{refl}
-use Rattle.model.specs.Running.{outcomeOf}
+use Rattle.model_run.specs.Running.{outcomeOf}
 use Rattle.runner.proofs.ClocksLaws.{counts-small, all-fits, all-fits-32, ends-stretched, iterations-small, fired-fits, ends-done, ends-none, may-stretch, stretched-whole}
 use borrow.Author.Needs.{needs}
 use Rattle.runner.proofs.clocks.Statement.{statement}
@@ -13,8 +13,8 @@ start s = s .before .before .before .before .before .before .before .before .bef
 abbrev going : tie.After-stretch-clocks → tie.Else1
 going s = s .before .before .before .before .before .before .before
 
-counts-requires : tie.Need-counts-requires
-counts-requires c κs = search needs
+counted-requires : tie.Need-counted-requires
+counted-requires c κs = search needs
 
 cast-t33 : tie.Need-cast-t33
 cast-t33 c = let st = c .before .before .before .before .before in fired-fits (st .args .chain) (st .pre .0) _ _ _ _ _ _ _ _ _ _ (st .pre .1) _ _ _ _ (st .pre .2)
@@ -23,10 +23,10 @@ returns : tie.Need-returns
 unfolding outcomeOf
 returns c =
     let st = c .before .before .before .before .before in
-    ends-done (st .args .chain) (st .pre .0) _ _ _ _ _ _ _ _ _ _ (st .pre .1) _ _ _ _ (st .pre .2) _ _ _ _ _ (c .before .if1 .taken) (c .counts .ensures) refl
+    ends-done (st .args .chain) (st .pre .0) _ _ _ _ _ _ _ _ _ _ (st .pre .1) _ _ _ _ (st .pre .2) _ _ _ _ _ (c .before .if1 .taken) (c .counted .ensures) refl
 
-counts-requires-2 : tie.Need-counts-requires-2
-counts-requires-2 c κs = search needs
+counted-requires-2 : tie.Need-counted-requires-2
+counted-requires-2 c κs = search needs
 
 cast-t37 : tie.Need-cast-t37
 cast-t37 c = let st = c .before .before .before .before .before .before in fired-fits (st .args .chain) (st .pre .0) _ _ _ _ _ _ _ _ _ _ (st .pre .1) _ _ _ _ (st .pre .2)
@@ -35,7 +35,7 @@ returns-2 : tie.Need-returns-2
 unfolding outcomeOf
 returns-2 c =
     let st = c .before .before .before .before .before .before in
-    ends-none (st .args .chain) (st .pre .0) _ _ _ _ _ _ _ _ _ _ (st .pre .1) _ _ _ _ (st .pre .2) _ _ _ _ _ (c .before .before .if1 .left) (c .before .if2 .taken) (c .counts2 .ensures) refl
+    ends-none (st .args .chain) (st .pre .0) _ _ _ _ _ _ _ _ _ _ (st .pre .1) _ _ _ _ (st .pre .2) _ _ _ _ _ (c .before .before .if1 .left) (c .before .if2 .taken) (c .counted2 .ensures) refl
 
 cast-n : tie.Need-cast-n
 cast-n c = search needs
@@ -48,8 +48,8 @@ stretch-clocks-requires c κs =
     let st = c .before .before .before .before .before .before .before .before .before .before in
     record { layout = _; write = _; stretching = may-stretch (st .args .chain) (st .pre .0) _ _ _ _ _ _ _ _ _ _ (st .pre .1) _ _ _ _ (st .pre .2) (c .before .before .before .before .before .before .if1 .left) _ (st .pre .3) }
 
-counts-requires-3 : tie.Need-counts-requires-3
-counts-requires-3 c κs =
+counted-requires-3 : tie.Need-counted-requires-3
+counted-requires-3 c κs =
     let s = c .before .before .before .before in
     let st = start s in
     let m = going s .if1 .left in
@@ -91,22 +91,22 @@ returns-3 c =
     let m = going s .if1 .left in
     let few = iterations-small (st .args .chain) (st .pre .0) _ _ _ _ _ _ _ _ _ _ (st .pre .1) _ _ _ _ (st .pre .2) in
     let E = stretched-whole (st .args .chain) (st .pre .0) _ _ _ _ _ _ _ _ _ _ (st .pre .1) _ _ _ _ (st .pre .2) m (s .stretch-clocks .ensures _ _ (may-stretch (st .args .chain) (st .pre .0) _ _ _ _ _ _ _ _ _ _ (st .pre .1) _ _ _ _ (st .pre .2) m _ (st .pre .3))) in
-    ends-stretched _ few E (c .before .counts3 .ensures) (c .outcome-of .ensures)
+    ends-stretched _ few E (c .before .counted3 .ensures) (c .outcome-of .ensures)
 
 pub clocks-spec : {M : Type 1} → statement M
 clocks-spec =
     tie.close
     (tie.spec
-    counts-requires
+    counted-requires
     cast-t33
     returns
-    counts-requires-2
+    counted-requires-2
     cast-t37
     returns-2
     cast-n
     cast-dims
     stretch-clocks-requires
-    counts-requires-3
+    counted-requires-3
     add-all
     outcome-of-requires
     cast-t46

@@ -11,8 +11,8 @@ start s = s .before .before .before .before .before .before .before .before
 row-clocks-requires : tie.Need-row-clocks-requires
 row-clocks-requires c κs = search needs
 
-counts-requires : tie.Need-counts-requires
-counts-requires c κs =
+counted-requires : tie.Need-counted-requires
+counted-requires c κs =
     let s = c .before .before .before .before in
     let (t, R) = start s .pre in
     counts-small t (iterations-few (R .tables)) (s .row-clocks .ensures t R) (start s .fits .allowance .fits)
@@ -41,14 +41,14 @@ same-length-2 c = search needs
 returns : tie.Need-returns
 returns c t R =
     let s = c .before .before .before .before .before .before in
-    rows-end R (s .row-clocks .ensures t R) (c .before .counts .ensures) (c .outcome-of .ensures)
+    rows-end R (s .row-clocks .ensures t R) (c .before .counted .ensures) (c .outcome-of .ensures)
 
 pub clocks-on-rows-spec : {M : Type 1} → statement M
 clocks-on-rows-spec =
     tie.close
     (tie.spec
     row-clocks-requires
-    counts-requires
+    counted-requires
     add-all
     outcome-of-requires
     cast-t34

@@ -1,5 +1,5 @@
 -- `outcome_of` names the way out. Assumes nothing.
-use Rattle.model.specs.Running.{outcomeOf}
+use Rattle.model_run.specs.Running.{outcomeOf}
 use borrow.Author.Needs.{needs}
 use Rattle.runner.proofs.outcome_of.Statement.{statement}
 use Rattle.runner.proofs.outcome_of.Tie as tie

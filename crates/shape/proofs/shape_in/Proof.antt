@@ -4,7 +4,7 @@ use native.Mathlib.Omega.{arith}
 use borrow.Author.Needs.{needs}
 use Rattle.model.specs.Values.{sizesOf, offsetsOf}
 use Rattle.model.specs.declared.Window.{Window}
-use Rattle.model.proofs.Rectangles.{iterationCount}
+use Rattle.grid_laws.proofs.Rectangles.{iterationCount}
 use Rattle.geometry.proofs.GridLaws.{few-dimensions, some-references, few-references}
 use Rattle.shape.proofs.ShapeLaws.{
   small-sizes,

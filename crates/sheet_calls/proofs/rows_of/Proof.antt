@@ -1,7 +1,7 @@
 use mathlib.Core.Path.{ap, _∙_}
 use borrow.Author.Needs.{needs}
-use Rattle.model.specs.Frames.{bytesOf}
-use Rattle.model.specs.Reading.{numbersOn}
+use Rattle.model_sheet.specs.Frames.{bytesOf}
+use Rattle.model_sheet.specs.Reading.{numbersOn}
 use Rattle.sheet_calls.proofs.ReaderLaws.{first-numbers}
 use Rattle.sheet_calls.proofs.rows_of.Statement.{statement}
 use Rattle.sheet_calls.proofs.rows_of.Tie as tie

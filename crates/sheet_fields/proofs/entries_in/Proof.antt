@@ -1,7 +1,7 @@
 use mathlib.Core.Path.{ap, _∙_}
 use Rattle.sheet_fields.proofs.FieldLaws.{four-entries}
 use mir.Facts.{toZ-ofZ}
-use Rattle.model.specs.Numbers.{halfAt, signed}
+use Rattle.model_sheet.specs.Numbers.{halfAt, signed}
 use borrow.Author.Needs.{needs}
 use Rattle.sheet_fields.proofs.entries_in.Statement.{statement}
 use Rattle.sheet_fields.proofs.entries_in.Tie as tie

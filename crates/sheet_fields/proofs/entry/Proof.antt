@@ -8,7 +8,7 @@ use mir.Facts.{toZ-ofZ, toZ-pos, sfits-widen}
 use mir.Syntax.{w16, w32}
 use mir.Val.{SFits, toZ}
 use borrow.Author.Needs.{needs}
-use Rattle.model.specs.Numbers.{signed}
+use Rattle.model_sheet.specs.Numbers.{signed}
 use Rattle.sheet_fields.proofs.EntryLaws.{signed-low, signed-high, signed-small}
 use Rattle.sheet_fields.proofs.entry.Statement.{statement}
 use Rattle.sheet_fields.proofs.entry.Tie as tie

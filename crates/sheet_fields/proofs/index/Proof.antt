@@ -8,7 +8,7 @@ use mir.Facts.{toZ-ofZ, toZ-pos, sfits-widen}
 use mir.Syntax.{w32, w64}
 use mir.Val.{SFits, toZ}
 use borrow.Author.Needs.{needs}
-use Rattle.model.specs.Numbers.{signedWord}
+use Rattle.model_sheet.specs.Numbers.{signedWord}
 use Rattle.sheet_fields.proofs.EntryLaws.{signed-word-low, signed-word-high, signed-word-small}
 use Rattle.sheet_fields.proofs.index.Statement.{statement}
 use Rattle.sheet_fields.proofs.index.Tie as tie

@@ -1,7 +1,7 @@
 use mathlib.Core.Path.{ap, _∙_}
 use lib.Ieee.{ofBits, binary32}
 use Rattle.sheet_fields.proofs.FieldLaws.{kernel-raw, kernel-difference, kernel-scaled, kernel-blend}
-use Rattle.model.specs.Numbers.{wordAt}
+use Rattle.model_sheet.specs.Numbers.{wordAt}
 use borrow.Author.Needs.{needs}
 use Rattle.sheet_fields.proofs.kernel_in.Statement.{statement}
 use Rattle.sheet_fields.proofs.kernel_in.Tie as tie

@@ -1,7 +1,7 @@
 use mathlib.Core.Path.{ap, _∙_}
 use Rattle.sheet_fields.proofs.FieldLaws.{four-lowest}
 use mir.Facts.{toZ-ofZ}
-use Rattle.model.specs.Numbers.{wordAt, signedWord}
+use Rattle.model_sheet.specs.Numbers.{wordAt, signedWord}
 use borrow.Author.Needs.{needs}
 use Rattle.sheet_fields.proofs.lowest_in.Statement.{statement}
 use Rattle.sheet_fields.proofs.lowest_in.Tie as tie

@@ -1,4 +1,4 @@
-use Rattle.model.specs.Numbers.{halfAt}
+use Rattle.model_sheet.specs.Numbers.{halfAt}
 use borrow.Author.Needs.{needs}
 use Rattle.sheet_fields.proofs.row_count_in.Statement.{statement}
 use Rattle.sheet_fields.proofs.row_count_in.Tie as tie

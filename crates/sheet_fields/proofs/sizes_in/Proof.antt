@@ -1,5 +1,5 @@
 use Rattle.sheet_fields.proofs.FieldLaws.{four-sizes}
-use Rattle.model.specs.Numbers.{wordAt}
+use Rattle.model_sheet.specs.Numbers.{wordAt}
 use borrow.Author.Needs.{needs}
 use Rattle.sheet_fields.proofs.sizes_in.Statement.{statement}
 use Rattle.sheet_fields.proofs.sizes_in.Tie as tie

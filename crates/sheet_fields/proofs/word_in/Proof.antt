@@ -1,4 +1,4 @@
-use Rattle.model.specs.Numbers.{wordAt}
+use Rattle.model_sheet.specs.Numbers.{wordAt}
 use borrow.Author.Needs.{needs}
 use Rattle.sheet_fields.proofs.word_in.Statement.{statement}
 use Rattle.sheet_fields.proofs.word_in.Tie as tie

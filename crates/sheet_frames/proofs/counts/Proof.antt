@@ -2,7 +2,7 @@ use Prim.Native.Nat.{_≤_}
 use native.Mathlib.Omega.{arith}
 use borrow.Author.Needs.{needs}
 use borrow.Author.Tests.{le-leb, lt-leb}
-use Rattle.model.specs.Frames.{valueOf}
+use Rattle.model_sheet.specs.Frames.{valueOf}
 use Rattle.sheet_frames.proofs.counts.Statement.{statement}
 use Rattle.sheet_frames.proofs.counts.Tie as tie
 

@@ -2,7 +2,7 @@ use mathlib.Core.Bool.{true}
 use mathlib.Core.Path.{_≡_, sym, _∙_}
 use borrow.Author.Needs.{needs}
 use borrow.Author.Tests.{not-true, not-false}
-use Rattle.model.specs.Frames.{isDigit}
+use Rattle.model_sheet.specs.Frames.{isDigit}
 use Rattle.sheet_frames.proofs.FeedLaws.{fed-other, fed-high, fed-kept, fed-counted, fed-past}
 use Rattle.sheet_frames.proofs.feed.Statement.{statement}
 use Rattle.sheet_frames.proofs.feed.Tie as tie

@@ -1,6 +1,6 @@
 use mathlib.Core.Path.{ap, _∙_}
 use borrow.Author.Needs.{needs}
-use Rattle.model.specs.Frames.{feeds}
+use Rattle.model_sheet.specs.Frames.{feeds}
 use Rattle.sheet_frames.proofs.frame.Statement.{statement}
 use Rattle.sheet_frames.proofs.frame.Tie as tie
 

@@ -1,5 +1,5 @@
 use borrow.Author.Tests.{le-leb, lt-leb}
-use Rattle.model.specs.Frames.{isDigit}
+use Rattle.model_sheet.specs.Frames.{isDigit}
 use Rattle.sheet_frames.proofs.is_digit.Statement.{statement}
 use Rattle.sheet_frames.proofs.is_digit.Tie as tie
 

@@ -6,7 +6,7 @@ use native.Mathlib.Omega.{arith}
 use lib.ListN.{length, drop, length-drop}
 use lib.Seq.{drop-length}
 use borrow.Author.Needs.{needs}
-use Rattle.model.specs.Lines.{lineOf}
+use Rattle.model_sheet.specs.Lines.{lineOf}
 use Rattle.sheet_laws.proofs.LineLaws.{line-front, line-within, line-past-end}
 use Rattle.sheet_frames.proofs.line.Statement.{statement}
 use Rattle.sheet_frames.proofs.line.Tie as tie

@@ -5,7 +5,7 @@ use mathlib.Core.Path.{_≡_}
 use native.Mathlib.Omega.{arith}
 use lib.ListN.{length, drop}
 use borrow.Author.Needs.{needs}
-use Rattle.model.specs.Lines.{lineOf}
+use Rattle.model_sheet.specs.Lines.{lineOf}
 use Rattle.sheet_laws.proofs.LineLaws.{line-at-feed, line-goes-on, line-at-end}
 use Rattle.sheet_frames.proofs.line_end.Statement.{statement}
 use Rattle.sheet_frames.proofs.line_end.Tie as tie

@@ -7,7 +7,7 @@ use lib.ListN.{length, drop, getD}
 use borrow.Author.Needs.{needs}
 use borrow.Author.Tests.{not-true, not-false}
 use Rattle.model.specs.declared.Frame.{Frame}
-use Rattle.model.specs.Frames.{isDigit, fed, feeds}
+use Rattle.model_sheet.specs.Frames.{isDigit, fed, feeds}
 use Rattle.sheet_frames.proofs.FeedLaws.{fed-other, fed-high, fed-kept, fed-counted, fed-past, feeds-on, feeds-end}
 use Rattle.sheet_frames.proofs.more.Statement.{statement}
 use Rattle.sheet_frames.proofs.more.Tie as tie

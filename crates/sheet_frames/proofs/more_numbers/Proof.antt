@@ -7,7 +7,7 @@ use native.Mathlib.Omega.{arith}
 use lib.ListN.{length, drop, getD}
 use borrow.Author.Needs.{needs}
 use borrow.Author.Tests.{not-true, not-false}
-use Rattle.model.specs.Frames.{isDigit, numbersFeeds}
+use Rattle.model_sheet.specs.Frames.{isDigit, numbersFeeds}
 use Rattle.sheet_frames.proofs.NumberLaws.{bare, bare-numbers, past-other, past-upper, past-counted, past-uncounted, numbers-end}
 use Rattle.sheet_frames.proofs.more_numbers.Statement.{statement}
 use Rattle.sheet_frames.proofs.more_numbers.Tie as tie

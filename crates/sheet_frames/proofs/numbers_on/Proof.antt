@@ -3,7 +3,7 @@ use Prim.Native.Nat.{_+_, _-_, _*_, _≤_}
 use mathlib.Core.Path.{_≡_, ap, _∙_}
 use native.Mathlib.Omega.{arith}
 use lib.ListN.{set}
-use Rattle.model.specs.Frames.{bytesOf}
+use Rattle.model_sheet.specs.Frames.{bytesOf}
 use Rattle.sheet_frames.proofs.NumberLaws.{firstOn, first-none, first-more, first-all, first-short}
 use Rattle.sheet_frames.proofs.numbers_on.Statement.{statement}
 use Rattle.sheet_frames.proofs.numbers_on.Tie as tie

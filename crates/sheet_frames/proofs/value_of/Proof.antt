@@ -5,7 +5,7 @@ use mathlib.Core.Path.{_≡_}
 use native.Mathlib.Omega.{arith}
 use borrow.Author.Needs.{needs}
 use borrow.Author.Tests.{le-leb, lt-leb, leb-true}
-use Rattle.model.specs.Frames.{isDigit, valueOf}
+use Rattle.model_sheet.specs.Frames.{isDigit, valueOf}
 use Rattle.sheet_laws.proofs.FrameLaws.{value-small}
 use Rattle.sheet_frames.proofs.value_of.Statement.{statement}
 use Rattle.sheet_frames.proofs.value_of.Tie as tie

@@ -1,6 +1,6 @@
 use borrow.Author.Needs.{needs}
 use borrow.Author.Tests.{eq-eqb, ne-eqb}
-use Rattle.model.specs.Reading.{badForm}
+use Rattle.model_sheet.specs.Reading.{badForm}
 use Rattle.sheet_verdicts.proofs.bad_form.Statement.{statement}
 use Rattle.sheet_verdicts.proofs.bad_form.Tie as tie
 

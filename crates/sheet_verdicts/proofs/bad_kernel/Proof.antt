@@ -1,5 +1,5 @@
 use borrow.Author.Tests.{eq-eqb, le-leb, lt-leb, ne-eqb}
-use Rattle.model.specs.Reading.{badKernel}
+use Rattle.model_sheet.specs.Reading.{badKernel}
 use Rattle.sheet_verdicts.proofs.bad_kernel.Statement.{statement}
 use Rattle.sheet_verdicts.proofs.bad_kernel.Tie as tie
 

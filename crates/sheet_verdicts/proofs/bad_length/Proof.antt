@@ -1,6 +1,6 @@
 use borrow.Author.Needs.{needs}
 use borrow.Author.Tests.{eq-eqb, ne-eqb}
-use Rattle.model.specs.Reading.{badLength}
+use Rattle.model_sheet.specs.Reading.{badLength}
 use Rattle.sheet_verdicts.proofs.bad_length.Statement.{statement}
 use Rattle.sheet_verdicts.proofs.bad_length.Tie as tie
 

@@ -1,7 +1,7 @@
 use mathlib.Core.Path.{refl}
 use borrow.Author.Needs.{needs}
 use Rattle.model.specs.declared.Refusal.the-variants as refusal
-use Rattle.model.specs.Reading.{cellVerdict}
+use Rattle.model_sheet.specs.Reading.{cellVerdict}
 use Rattle.sheet_verdicts.proofs.CheckLaws.{none, more}
 use Rattle.sheet_verdicts.proofs.cell_verdict.Statement.{statement}
 use Rattle.sheet_verdicts.proofs.cell_verdict.Tie as tie

@@ -1,6 +1,6 @@
 use borrow.Author.Needs.{needs}
 use Rattle.model.specs.Lists.{any}
-use Rattle.model.specs.Reading.{nextInChain, among}
+use Rattle.model_sheet.specs.Reading.{nextInChain, among}
 use Rattle.sheet_verdicts.proofs.OrderLaws.{one-left, is-first, not-first}
 use Rattle.sheet_verdicts.proofs.comes_in_chain.Statement.{statement}
 use Rattle.sheet_verdicts.proofs.comes_in_chain.Tie as tie

@@ -1,6 +1,6 @@
 use borrow.Author.Needs.{needs}
 use Rattle.model.specs.Lists.{any}
-use Rattle.model.specs.Reading.{nextInRequest, among}
+use Rattle.model_sheet.specs.Reading.{nextInRequest, among}
 use Rattle.sheet_verdicts.proofs.OrderLaws.{one-left}
 use Rattle.sheet_verdicts.proofs.comes_in_request.Statement.{statement}
 use Rattle.sheet_verdicts.proofs.comes_in_request.Tie as tie

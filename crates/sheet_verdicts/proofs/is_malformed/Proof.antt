@@ -1,6 +1,6 @@
 use borrow.Author.Needs.{needs}
 use borrow.Author.Tests.{eq-eqb, ne-eqb, not-true, not-false}
-use Rattle.model.specs.Reading.{malformed}
+use Rattle.model_sheet.specs.Reading.{malformed}
 use Rattle.sheet_verdicts.proofs.is_malformed.Statement.{statement}
 use Rattle.sheet_verdicts.proofs.is_malformed.Tie as tie
 

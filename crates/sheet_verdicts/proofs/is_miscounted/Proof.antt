@@ -1,6 +1,6 @@
 use borrow.Author.Needs.{needs}
 use borrow.Author.Tests.{eq-eqb, ne-eqb}
-use Rattle.model.specs.Reading.{miscounted}
+use Rattle.model_sheet.specs.Reading.{miscounted}
 use Rattle.sheet_verdicts.proofs.is_miscounted.Statement.{statement}
 use Rattle.sheet_verdicts.proofs.is_miscounted.Tie as tie
 

@@ -1,8 +1,8 @@
 use mathlib.Core.Path.{_∙_}
 use borrow.Author.Needs.{needs}
 use Rattle.model.specs.declared.Refusal.the-variants as refusal
-use Rattle.model.specs.Numbers.{byteAt, halfAt}
-use Rattle.model.specs.Reading.{lineChecks, lineVerdict}
+use Rattle.model_sheet.specs.Numbers.{byteAt, halfAt}
+use Rattle.model_sheet.specs.Reading.{lineChecks, lineVerdict}
 use Rattle.sheet_verdicts.proofs.CheckLaws.{none, more, rows-alone}
 use Rattle.sheet_verdicts.proofs.line_verdict.Statement.{statement}
 use Rattle.sheet_verdicts.proofs.line_verdict.Tie as tie

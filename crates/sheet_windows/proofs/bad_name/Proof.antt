@@ -3,7 +3,7 @@ use mathlib.Core.Path.{_≡_}
 use native.Mathlib.Omega.{arith}
 use borrow.Author.Needs.{needs}
 use borrow.Author.Tests.{le-leb, lt-leb}
-use Rattle.model.specs.NamedWindows.{isName, badName}
+use Rattle.model_sheet.specs.NamedWindows.{isName, badName}
 use Rattle.sheet_windows.proofs.bad_name.Statement.{statement}
 use Rattle.sheet_windows.proofs.bad_name.Tie as tie
 

@@ -1,6 +1,6 @@
 use mathlib.Core.Path.{_≡_}
 use native.Mathlib.Omega.{arith}
-use Rattle.model.specs.NamedWindows.{windows, namedOf}
+use Rattle.model_sheet.specs.NamedWindows.{windows, namedOf}
 use Rattle.sheet_windows.proofs.NamedLaws.{within, fifth}
 use Rattle.sheet_windows.proofs.reference.Statement.{statement}
 use Rattle.sheet_windows.proofs.reference.Tie as tie

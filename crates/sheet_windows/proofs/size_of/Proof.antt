@@ -1,5 +1,5 @@
 use mathlib.Core.Path.{refl, sym}
-use Rattle.model.specs.NamedWindows.{windows, namedOf}
+use Rattle.model_sheet.specs.NamedWindows.{windows, namedOf}
 use Rattle.sheet_windows.proofs.NamedLaws.{no-name}
 use Rattle.sheet_windows.proofs.size_of.Statement.{statement}
 use Rattle.sheet_windows.proofs.size_of.Tie as tie

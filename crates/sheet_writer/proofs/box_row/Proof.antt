@@ -1,8 +1,8 @@
 use borrow.Author.Needs.{needs}
-use Rattle.model.specs.Frames.{padded}
-use Rattle.model.specs.Numbers.{wordBytes}
-use Rattle.model.specs.Writing.{indexPair}
-use Rattle.sheet_laws.specs.Rows.{boxRow}
+use Rattle.model_sheet.specs.Frames.{padded}
+use Rattle.model_sheet.specs.Numbers.{wordBytes}
+use Rattle.model_sheet.specs.Writing.{indexPair}
+use Rattle.sheet_laws.specs.Sections.{boxRow}
 use Rattle.sheet_writer.proofs.box_row.Statement.{statement}
 use Rattle.sheet_writer.proofs.box_row.Tie as tie
 

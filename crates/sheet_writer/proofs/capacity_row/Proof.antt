@@ -1,7 +1,7 @@
 use borrow.Author.Needs.{needs}
-use Rattle.model.specs.Frames.{padded}
-use Rattle.model.specs.Numbers.{wordBytes}
-use Rattle.model.specs.Writing.{capacityLine}
+use Rattle.model_sheet.specs.Frames.{padded}
+use Rattle.model_sheet.specs.Numbers.{wordBytes}
+use Rattle.model_sheet.specs.Writing.{capacityLine}
 use Rattle.sheet_writer.proofs.capacity_row.Statement.{statement}
 use Rattle.sheet_writer.proofs.capacity_row.Tie as tie
 

@@ -1,6 +1,6 @@
 use native.Mathlib.Omega.{arith}
 use borrow.Author.Needs.{needs}
-use Rattle.sheet_laws.specs.Rows.{gridLen}
+use Rattle.sheet_laws.specs.Sections.{gridLen}
 use Rattle.sheet_writer.proofs.grid_len.Statement.{statement}
 use Rattle.sheet_writer.proofs.grid_len.Tie as tie
 

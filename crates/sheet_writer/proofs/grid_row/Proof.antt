@@ -1,7 +1,7 @@
 use borrow.Author.Needs.{needs}
-use Rattle.model.specs.Frames.{padded}
-use Rattle.model.specs.Numbers.{wordBytes}
-use Rattle.sheet_laws.specs.Rows.{gridRow}
+use Rattle.model_sheet.specs.Frames.{padded}
+use Rattle.model_sheet.specs.Numbers.{wordBytes}
+use Rattle.sheet_laws.specs.Sections.{gridRow}
 use Rattle.sheet_writer.proofs.grid_row.Statement.{statement}
 use Rattle.sheet_writer.proofs.grid_row.Tie as tie
 

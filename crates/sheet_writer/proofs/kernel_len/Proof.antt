@@ -1,6 +1,6 @@
 use borrow.Author.Needs.{needs}
-use Rattle.model.specs.Numbers.{wordBytes}
-use Rattle.model.specs.Writing.{kernelLine}
+use Rattle.model_sheet.specs.Numbers.{wordBytes}
+use Rattle.model_sheet.specs.Writing.{kernelLine}
 use Rattle.sheet_writer.proofs.kernel_len.Statement.{statement}
 use Rattle.sheet_writer.proofs.kernel_len.Tie as tie
 

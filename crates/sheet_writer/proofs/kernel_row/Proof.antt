@@ -1,7 +1,7 @@
 use borrow.Author.Needs.{needs}
-use Rattle.model.specs.Frames.{padded}
-use Rattle.model.specs.Numbers.{wordBytes}
-use Rattle.model.specs.Writing.{kernelLine}
+use Rattle.model_sheet.specs.Frames.{padded}
+use Rattle.model_sheet.specs.Numbers.{wordBytes}
+use Rattle.model_sheet.specs.Writing.{kernelLine}
 use Rattle.sheet_writer.proofs.kernel_row.Statement.{statement}
 use Rattle.sheet_writer.proofs.kernel_row.Tie as tie
 

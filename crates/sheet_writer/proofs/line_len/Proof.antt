@@ -1,5 +1,5 @@
 use borrow.Author.Needs.{needs}
-use Rattle.sheet_laws.specs.Rows.{lenOf}
+use Rattle.sheet_laws.specs.Sections.{lenOf}
 use Rattle.sheet_writer.proofs.line_len.Statement.{statement}
 use Rattle.sheet_writer.proofs.line_len.Tie as tie
 

@@ -1,7 +1,7 @@
 use Prim.Native.Nat.{_≤_}
 use native.Mathlib.Omega.{arith}
 use borrow.Author.Needs.{needs}
-use Rattle.sheet_laws.specs.Rows.{linesBehind}
+use Rattle.sheet_laws.specs.Sections.{linesBehind}
 use Rattle.sheet_writer.proofs.LayLaws.{few-ahead}
 use Rattle.sheet_writer.proofs.lines_behind.Statement.{statement}
 use Rattle.sheet_writer.proofs.lines_behind.Tie as tie

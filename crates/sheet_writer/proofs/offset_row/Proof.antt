@@ -2,9 +2,9 @@ use Prim.Native.Nat.{_+_, _*_}
 use mathlib.Core.Path.{_≡_}
 use native.Mathlib.Omega.{arith}
 use borrow.Author.Needs.{needs}
-use Rattle.model.specs.Frames.{padded}
-use Rattle.model.specs.Numbers.{halfBytes}
-use Rattle.sheet_laws.specs.Rows.{offsetRow}
+use Rattle.model_sheet.specs.Frames.{padded}
+use Rattle.model_sheet.specs.Numbers.{halfBytes}
+use Rattle.sheet_laws.specs.Sections.{offsetRow}
 use Rattle.sheet_writer.proofs.offset_row.Statement.{statement}
 use Rattle.sheet_writer.proofs.offset_row.Tie as tie
 

@@ -5,14 +5,14 @@ use native.Mathlib.Omega.{arith}
 use lib.ListN.{drop}
 use lib.Seq.{sets}
 use borrow.Author.Needs.{needs}
-use Rattle.sheet_laws.specs.Rows.{orderRow}
+use Rattle.sheet_laws.specs.Sections.{orderRow}
 use Rattle.sheet_fields.proofs.FieldLaws.{next-put, all-put}
-use Rattle.sheet_writer.proofs.LayLaws.{numbers, length-numbers, number-at, numbers-put}
+use Rattle.sheet_writer.proofs.LayLaws.{rows, length-numbers, number-at, numbers-put}
 use Rattle.sheet_writer.proofs.order_row.Statement.{statement}
 use Rattle.sheet_writer.proofs.order_row.Tie as tie
 
 abbrev Inv-loop : tie.InvT-loop
-Inv-loop filters x₀ t₀ x t = (t ≤ 32) × (sets x (1 + t) (drop t (numbers filters)) ≡ sets x₀ 1 (numbers filters))
+Inv-loop filters x₀ t₀ x t = (t ≤ 32) × (sets x (1 + t) (drop t (rows filters)) ≡ sets x₀ 1 (rows filters))
 
 abbrev μ-loop : tie.MeasureT-loop
 μ-loop filters x₀ t₀ x t = 32 - t
@@ -45,7 +45,7 @@ loop-again c =
     let t = l .loop .t in
     let e : 1 + (t + 1) ≡ 1 + t + 1 = omega arith in (
       omega (arith, c .loop-test .taken),
-      rw (e, number-at filters t (c .loop-test .taken)) (next-put (numbers filters) (l .loop .x) (1 + t) t (omega (arith, length-numbers filters, c .loop-test .taken)))
+      rw (e, number-at filters t (c .loop-test .taken)) (next-put (rows filters) (l .loop .x) (1 + t) t (omega (arith, length-numbers filters, c .loop-test .taken)))
           ∙ l .loop .inv .1,
     )
 
@@ -54,7 +54,7 @@ unfolding orderRow
 returns c =
     let l = c .before in
     let filters = l .before .before .args .o .filters in
-    sym (all-put (numbers filters) (l .loop .x) (1 + l .loop .t) (l .loop .t) (omega (arith, length-numbers filters, c .loop-test .left)))
+    sym (all-put (rows filters) (l .loop .x) (1 + l .loop .t) (l .loop .t) (omega (arith, length-numbers filters, c .loop-test .left)))
     ∙ l .loop .inv .1
     ∙ numbers-put filters
 

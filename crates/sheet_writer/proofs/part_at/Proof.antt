@@ -1,6 +1,6 @@
 use borrow.Author.Needs.{needs}
 use borrow.Author.Tests.{lt-ltb, le-ltb}
-use Rattle.sheet_laws.specs.Rows.{partBehind, partAt}
+use Rattle.sheet_laws.specs.Sections.{partBehind, partAt}
 use Rattle.sheet_writer.proofs.part_at.Statement.{statement}
 use Rattle.sheet_writer.proofs.part_at.Tie as tie
 

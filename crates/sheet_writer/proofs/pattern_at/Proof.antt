@@ -4,7 +4,7 @@ use lib.ListN.{getD}
 use mir.Facts.{toZ-ofZ}
 use mir.Syntax.{w16}
 use borrow.Author.Needs.{needs}
-use Rattle.model.specs.Numbers.{pattern}
+use Rattle.model_sheet.specs.Numbers.{pattern}
 use Rattle.sheet_writer.proofs.pattern_at.Statement.{statement}
 use Rattle.sheet_writer.proofs.pattern_at.Tie as tie
 

@@ -5,7 +5,7 @@ use native.Mathlib.Omega.{arith}
 use lib.ListN.{length, take, drop, length-set}
 use lib.Seq.{sets}
 use borrow.Author.Needs.{needs}
-use Rattle.model.specs.Frames.{framed}
+use Rattle.model_sheet.specs.Frames.{framed}
 use Rattle.sheet_writer.proofs.LayLaws.{frame-on, frame-end}
 use Rattle.sheet_writer.proofs.put_frame.Statement.{statement}
 use Rattle.sheet_writer.proofs.put_frame.Tie as tie

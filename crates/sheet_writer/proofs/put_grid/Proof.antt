@@ -2,9 +2,9 @@ use mathlib.Core.Path.{sym, ap, _∙_}
 use native.Mathlib.Omega.{arith}
 use lib.Seq.{sets}
 use borrow.Author.Needs.{needs}
-use Rattle.model.specs.Frames.{framed}
-use Rattle.model.proofs.ChainLaws.{dims-flat}
-use Rattle.sheet_laws.proofs.SheetRows.{rows-line}
+use Rattle.model_sheet.specs.Frames.{framed}
+use Rattle.grid_laws.proofs.ChainLaws.{dims-flat}
+use Rattle.sheet_laws.proofs.SheetSections.{rows-line}
 use Rattle.sheet_writer.proofs.LayLaws.{flat-len, skewed-len, grid-laid}
 use Rattle.sheet_writer.proofs.put_grid.Statement.{statement}
 use Rattle.sheet_writer.proofs.put_grid.Tie as tie

@@ -2,7 +2,7 @@ use Prim.Native.Nat.{suc, _+_}
 use mathlib.Core.Path.{_≡_}
 use native.Mathlib.Omega.{arith}
 use borrow.Author.Needs.{needs}
-use Rattle.model.specs.Numbers.{halfBytes}
+use Rattle.model_sheet.specs.Numbers.{halfBytes}
 use Rattle.sheet_writer.proofs.put_half.Statement.{statement}
 use Rattle.sheet_writer.proofs.put_half.Tie as tie
 

@@ -4,7 +4,7 @@ use lib.ListN.{getD}
 use mir.Facts.{toZ-ofZ}
 use mir.Syntax.{w32}
 use borrow.Author.Needs.{needs}
-use Rattle.model.specs.Numbers.{wordPattern}
+use Rattle.model_sheet.specs.Numbers.{wordPattern}
 use Rattle.sheet_writer.proofs.LayLaws.{pair-put}
 use Rattle.sheet_writer.proofs.put_pair.Statement.{statement}
 use Rattle.sheet_writer.proofs.put_pair.Tie as tie

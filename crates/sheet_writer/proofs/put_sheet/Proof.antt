@@ -6,10 +6,10 @@ use native.Mathlib.Omega.{arith}
 use lib.ListN.{length}
 use lib.Seq.{sets, length-sets}
 use borrow.Author.Needs.{needs}
-use Rattle.model.specs.Frames.{framed}
-use Rattle.model.specs.Writing.{gridLine}
+use Rattle.model_sheet.specs.Frames.{framed}
+use Rattle.model_sheet.specs.Writing.{gridLine}
 use Rattle.sheet_laws.specs.declared.Part.{Part}
-use Rattle.sheet_laws.specs.Rows.{lenOf, partAt, linesFrom}
+use Rattle.sheet_laws.specs.Sections.{lenOf, partAt, linesFrom}
 use Rattle.sheet_writer.specs.Laying.{Inside}
 use Rattle.sheet_writer.proofs.LayLaws.{fit, inside, few-lines, more-length, no-more, line-on, all-length, all-laid}
 use Rattle.sheet_writer.proofs.put_sheet.Statement.{statement}

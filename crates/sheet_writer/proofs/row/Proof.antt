@@ -1,7 +1,7 @@
 use Prim.Native.Nat.{_+_, _<_}
 use native.Mathlib.Omega.{arith}
 use borrow.Author.Needs.{needs}
-use Rattle.sheet_laws.specs.Rows.{rowOf}
+use Rattle.sheet_laws.specs.Sections.{rowOf}
 use Rattle.sheet_writer.proofs.LayLaws.{offset-inside, capacity-inside}
 use Rattle.sheet_writer.proofs.row.Statement.{statement}
 use Rattle.sheet_writer.proofs.row.Tie as tie

@@ -6,15 +6,15 @@ use native.Mathlib.Nat.{sub-zero}
 use native.Mathlib.Omega.{arith}
 use lib.ListN.{length}
 use borrow.Author.Needs.{needs}
-use Rattle.model.specs.Frames.{kept}
-use Rattle.sheet_laws.specs.Rows.{lenOf, partAt, linesFrom}
+use Rattle.model_sheet.specs.Frames.{kept}
+use Rattle.sheet_laws.specs.Sections.{lenOf, partAt, linesFrom}
 use Rattle.sheet_writer.proofs.LayLaws.{fit, few-bytes, few-lines, more-length, no-more, all-length}
 use Rattle.sheet_writer.proofs.sheet_len.Statement.{statement}
 use Rattle.sheet_writer.proofs.sheet_len.Tie as tie
 
 abbrev Inv-loop : tie.InvT-loop
 Inv-loop c boxed ordered n lines total₀ m₀ total m =
-    (m ≤ lines) × (total ≤ 2 * 2051 + 1 + (2 * kept + 1) * m) × ((numbers : List ℕ) → total + length (linesFrom c numbers (1 + m) (lines - m)) ≡ total₀ + length (linesFrom c numbers 1 lines))
+    (m ≤ lines) × (total ≤ 2 * 2051 + 1 + (2 * kept + 1) * m) × ((rows : List ℕ) → total + length (linesFrom c rows (1 + m) (lines - m)) ≡ total₀ + length (linesFrom c rows 1 lines))
 
 abbrev μ-loop : tie.MeasureT-loop
 μ-loop c boxed ordered n lines total₀ m₀ total m = lines - m
@@ -59,7 +59,7 @@ grid-len-requires c κs = search needs
 grid-few : (c : tie.After-grid-len Inv-loop μ-loop) → c .grid-len .result ≤ 2051
 grid-few c =
     let s = c .before .before .before .before .before .before .before in
-    omega (arith, c .grid-len .ensures, few-bytes (s .args .c .grid) (s .pre .dims) (s .pre .rows))
+    omega (arith, c .grid-len .ensures, few-bytes (s .args .c .grid) (s .pre .dims) (s .pre .few-rows))
 
 mul-total : tie.Need-mul-total Inv-loop μ-loop
 mul-total c = omega (arith, grid-few c)
@@ -68,7 +68,7 @@ add-total : tie.Need-add-total Inv-loop μ-loop
 add-total c = omega (arith, grid-few c)
 
 loop-holds : tie.Need-loop-holds Inv-loop μ-loop
-loop-holds c = (search needs, omega (arith, grid-few c), λ numbers. rw sub-zero)
+loop-holds c = (search needs, omega (arith, grid-few c), λ rows. rw sub-zero)
 
 part-at-requires : tie.Need-part-at-requires Inv-loop μ-loop
 part-at-requires c κs = (start (c .before) .pre .most, omega (arith, c .loop-test .taken, most-lines (c .before)))
@@ -98,22 +98,22 @@ loop-again c =
     let s = start l in (
       search needs,
       omega (arith, short c),
-      λ numbers. omega (
+      λ rows. omega (
         arith,
         len c,
-        l .loop .inv .2 numbers,
-        more-length (s .args .c) numbers (l .loop .m) (lines-told l .lines-behind .result) (s .pre .dims) (s .pre .most) (t .loop-test .taken),
+        l .loop .inv .2 rows,
+        more-length (s .args .c) rows (l .loop .m) (lines-told l .lines-behind .result) (s .pre .dims) (s .pre .most) (t .loop-test .taken),
       ),
     )
 
 returns : tie.Need-returns Inv-loop μ-loop
-returns c = λ numbers.
+returns c = λ rows.
     let l = c .before in
     let s = start l in
     let told = lines-told l .lines-behind in
-    let none = no-more (s .args .c) numbers (l .loop .m) (told .result) (c .loop-test .left) in
-    let all = all-length (s .args .c) numbers (s .pre .dims) (s .pre .some) (s .pre .most) (told .result) (told .ensures) in
-    omega (arith, l .loop .inv .2 numbers, l .before .grid-len .ensures, ap length none, all)
+    let none = no-more (s .args .c) rows (l .loop .m) (told .result) (c .loop-test .left) in
+    let all = all-length (s .args .c) rows (s .pre .dims) (s .pre .some) (s .pre .most) (told .result) (told .ensures) in
+    omega (arith, l .loop .inv .2 rows, l .before .grid-len .ensures, ap length none, all)
 
 pub sheet-len-spec : {M : Type 1} → statement M
 sheet-len-spec =

@@ -8,7 +8,7 @@ use Rattle.model.specs.Judging.{badRows}
 use Rattle.sheet_laws.proofs.AcceptedChains.{few-rows}
 use Rattle.sheet_writer.specs.Laying.{Counted, RowsFit}
 use Rattle.sheet_writer.proofs.RowsLaws.{rows-fit}
-use Rattle.sheet_writer.proofs.CallLaws.{rows-turned, no-dims, many-dims, no-references, many-references, no-room, laid}
+use Rattle.sheet_writer.proofs.WriteCalls.{rows-turned, no-dims, many-dims, no-references, many-references, no-room, laid}
 use Rattle.sheet_writer.proofs.write_sheet.Statement.{statement}
 use Rattle.sheet_writer.proofs.write_sheet.Tie as tie
 
@@ -66,7 +66,7 @@ counts c =
     let e4 = c .before .before in
     let e3 = e4 .before .before in
     let e1 = e3 .before .before .before in
-    record { dims = few e3; rows = λ e. few-rows _ _ (fit e1 e); some = omega (arith, e4 .if4 .left); most = c .if5 .left }
+    record { dims = few e3; few-rows = λ e. few-rows _ _ (fit e1 e); some = omega (arith, e4 .if4 .left); most = c .if5 .left }
 
 sheet-len-requires : tie.Need-sheet-len-requires
 sheet-len-requires c κs = counts c

@@ -1,5 +1,5 @@
 use mathlib.Core.Path.{sym}
-use Rattle.model.proofs.ChainLaws.{dims-flat, dims-skewed}
+use Rattle.grid_laws.proofs.ChainLaws.{dims-flat, dims-skewed}
 use Rattle.values.proofs.dims_of.Statement.{statement}
 use Rattle.values.proofs.dims_of.Tie as tie
 

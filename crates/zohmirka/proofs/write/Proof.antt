@@ -1,4 +1,4 @@
-use Rattle.zohmirka.proofs.CallLaws.{sheet-written}
+use Rattle.zohmirka.proofs.FaceCalls.{sheet-written}
 use borrow.Author.Needs.{needs}
 use Rattle.zohmirka.proofs.write.Statement.{statement}
 use Rattle.zohmirka.proofs.write.Tie as tie

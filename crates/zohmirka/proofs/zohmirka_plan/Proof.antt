@@ -1,4 +1,4 @@
-use Rattle.zohmirka.proofs.CallLaws.{plan-refused, plan-written, flat-plan-written}
+use Rattle.zohmirka.proofs.FaceCalls.{plan-refused, plan-written, flat-plan-written}
 use borrow.Author.Needs.{needs}
 use Rattle.zohmirka.proofs.zohmirka_plan.Statement.{statement}
 use Rattle.zohmirka.proofs.zohmirka_plan.Tie as tie

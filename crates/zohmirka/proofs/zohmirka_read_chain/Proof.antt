@@ -1,4 +1,4 @@
-use Rattle.zohmirka.proofs.CallLaws.{read-refused, read-short, rows-short, read-written, flat-read-written}
+use Rattle.zohmirka.proofs.FaceCalls.{read-refused, read-short, rows-short, read-written, flat-read-written}
 use borrow.Author.Needs.{needs}
 use Rattle.zohmirka.proofs.zohmirka_read_chain.Statement.{statement}
 use Rattle.zohmirka.proofs.zohmirka_read_chain.Tie as tie

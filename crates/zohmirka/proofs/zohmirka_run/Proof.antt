@@ -1,4 +1,4 @@
-use Rattle.zohmirka.proofs.CallLaws.{sheet-refused, sheet-run, flat-sheet-run}
+use Rattle.zohmirka.proofs.FaceCalls.{sheet-refused, sheet-run, flat-sheet-run}
 use borrow.Author.Needs.{needs}
 use Rattle.zohmirka.proofs.zohmirka_run.Statement.{statement}
 use Rattle.zohmirka.proofs.zohmirka_run.Tie as tie

@@ -6,7 +6,7 @@ use mir.Facts.{toZ-ofZ}
 use mir.Syntax.{w32}
 use borrow.Author.Tests.{lt-ltb, le-ltb}
 use borrow.Author.Needs.{needs}
-use Rattle.model.specs.Numbers.{wordPattern}
+use Rattle.model_sheet.specs.Numbers.{wordPattern}
 use Rattle.zohmirka_words.specs.Words.{boxWord}
 use Rattle.zohmirka_words.proofs.WordLaws.{stood-word}
 use Rattle.zohmirka_words.proofs.box_word.Statement.{statement}

@@ -5,7 +5,7 @@ use lib.ListN.{getD}
 use mir.Facts.{toZ-ofZ}
 use mir.Syntax.{w16}
 use borrow.Author.Tests.{lt-ltb, le-ltb}
-use Rattle.model.specs.Numbers.{pattern}
+use Rattle.model_sheet.specs.Numbers.{pattern}
 use Rattle.zohmirka_words.specs.Words.{chainWord}
 use borrow.Author.Needs.{needs}
 use Rattle.zohmirka_words.proofs.chain_word.Statement.{statement}

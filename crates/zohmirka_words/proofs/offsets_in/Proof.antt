@@ -6,7 +6,7 @@ use lib.ListN.{replicate, length-replicate}
 use mir.Facts.{toZ-ofZ}
 use mir.Syntax.{w16}
 use borrow.Author.Needs.{needs}
-use Rattle.model.specs.Numbers.{signed}
+use Rattle.model_sheet.specs.Numbers.{signed}
 use Rattle.zohmirka_words.specs.Words.{wordAt}
 use Rattle.zohmirka_words.proofs.WordLaws.{front, front-none, front-more, front-whole}
 use Rattle.zohmirka_words.proofs.offsets_in.Statement.{statement}

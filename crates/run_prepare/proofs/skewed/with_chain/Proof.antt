@@ -1,7 +1,7 @@
 -- 10 turns the store back, or the call is looked at further. Assumes nothing.
 use mathlib.Core.Path.{_≡_, sym, _∙_}
 use Rattle.model.specs.Values.{trimmed}
-use Rattle.model.specs.Running.{shortStore}
+use Rattle.model_run.specs.Running.{shortStore}
 use Rattle.run_laws.specs.Accepted.{Accepted}
 use Rattle.run_laws.proofs.Accepts.{accepted-chain, trimmed-proper}
 use Rattle.run_prepare.specs.RowsReady.{inRows}
@@ -47,9 +47,9 @@ is-short : (c : tie.After-short) → let a = start (widened c) .args in c .short
 is-short c =
     let w = widened c in
     let s = start w in
-    let numbers = s .args .rows .now in
+    let rows = s .args .rows .now in
     c .short .ensures
-    ∙ short-is (chain-capped (inRows (s .args .chain)) numbers (accepted s) _ (w .widen31 .ensures)) (trimmed-proper (inRows (s .args .chain)) numbers) (accepted s) (s .args .store .now) _
+    ∙ short-is (chain-capped (inRows (s .args .chain)) rows (accepted s) _ (w .widen31 .ensures)) (trimmed-proper (inRows (s .args .chain)) rows) (accepted s) (s .args .store .now) _
     (c .before .bases-of .ensures .0)
 
 returns : tie.Need-returns

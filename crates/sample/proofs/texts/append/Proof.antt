@@ -5,7 +5,7 @@ use native.Mathlib.Omega.{arith}
 use lib.ListN.{length}
 use lib.Seq.{length-take-le}
 use borrow.Author.Needs.{needs}
-use Rattle.program_lines.specs.Texts.{Within}
+use Rattle.program_writer.specs.Texts.{Within}
 use Rattle.sample.proofs.texts.append.Statement.{statement}
 use Rattle.sample.proofs.texts.append.Tie as tie
 

@@ -3,8 +3,8 @@ use mathlib.Core.Path.{_≡_}
 use native.Mathlib.Omega.{arith}
 use lib.ListN.{length-set}
 use borrow.Author.Needs.{needs}
-use Rattle.model.specs.Frames.{digitsOf}
-use Rattle.model.specs.Numbers.{halfBytes}
+use Rattle.model_sheet.specs.Frames.{digitsOf}
+use Rattle.model_sheet.specs.Numbers.{halfBytes}
 use Rattle.sheet_writer.proofs.skewed.put_number.Statement.{statement}
 use Rattle.sheet_writer.proofs.skewed.put_number.Tie as tie
 

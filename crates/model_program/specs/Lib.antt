@@ -1,0 +1,3 @@
+pub mod Programs
+pub mod FirstChecks
+pub mod ProgramCases

@@ -1,0 +1,11 @@
+pub mod Kernels
+pub mod Clock
+pub mod Store
+pub mod Running
+pub mod CallLists
+pub mod Reports
+pub mod Words
+pub mod Cases
+pub mod RunCases
+pub mod RowCases
+pub mod KernelCases

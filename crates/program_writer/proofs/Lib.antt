@@ -1,0 +1,5 @@
+pub mod DigitLaws
+pub mod FiringLaws
+pub mod RoomLaws
+pub mod LineCalls
+pub mod WithinLaws
