@@ -81,7 +81,8 @@ afterCall r s a width =
 
 -- What a call is lent: all that is there, or pieces by its number.
 unfoldable pub shareOf : Bool → (call from : ℕ) → Share
-shareOf true call from = record { from = from; count = call % 211 * 37 % 211; places = call % 997 * 290 % 997; clocks = call % 199 * 53 % 199 }
+shareOf true call from = record
+    { from = from; count = call % 211 * 37 % 211; places = call % 997 * 290 % 997; clocks = call % 199 * 53 % 199 }
 shareOf false call from = record { from = from; count = 1048576; places = 1048576; clocks = 4294967295 }
 
 -- A run so far, with the store and the output that its calls are lent.

@@ -57,8 +57,8 @@ fn is_iteration(l: Loops, window: &[u8], inside: &[u32], z: usize, y: usize, x: 
     reads_cells(l, window, inside, z, y, x) == references(window)
 }
 
-// Every word of a run, in order, beside what the nested loop reads: from `field`, which is the stream of a rectangle, or that of a skewed grid laid into the
-// rectangle around it, where `inside` says which places are cells (empty: all).
+// Every word of a run, in order, beside what the nested loop reads: from `field`, which is the stream of a rectangle, or that
+// of a skewed grid laid into the rectangle around it, where `inside` says which places are cells (empty: all).
 pub fn compare(
     l: Loops,
     kernel: Kernel,

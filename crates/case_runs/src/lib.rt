@@ -9,15 +9,17 @@ use model::FiringsMade;
 use model::Outcome;
 use model::Ran;
 use model::State;
+use values::counts_of;
 use values::lesser;
 use values::wide_usize;
 ghost use mathlib.Core.Path.{_≡_};
 ghost use Prim.Native.Nat.{_+_, _*_, _%_, _^_};
-ghost use Rattle.model.specs.Answers.{answerCounts};
 ghost use Rattle.runner.specs.Runs.{ranOf};
-ghost use Rattle.case_runs.specs.CaseRuns.{fresh as freshState, begun, lent, firstFiring, endOf, afterCall, shareOf, course, called, calledOn, stopped};
+ghost use Rattle.case_runs.specs.CaseRuns.{fresh as freshState, begun, lent, firstFiring, endOf, afterCall, shareOf};
+ghost use Rattle.case_runs.specs.CaseRuns.{course, called, calledOn, stopped};
 
-// A run so far: its state, sums over its calls, how many words the last call wrote, and which outcomes were met; `broken` is a refusal or a stall.
+// A run so far: its state, sums over its calls, how many words the last call wrote, and which outcomes were met; `broken` is
+// a refusal or a stall.
 pub struct Run {
     pub state: State,
     pub calls: usize,
@@ -83,7 +85,8 @@ pub fn lend(
     store: &mut [u32],
     out: &mut [u32],
 ) -> Ran
-    ensures { λ r. ⌜ ranOf r (now (store .exit)) (now (out .exit)) ≡ lent chain (now (rows .entry)) state share (now (cells .entry)) (now (store .entry)) (now (out .entry)) ⌝ }
+    ensures { λ r. ⌜ ranOf r (now (store .exit)) (now (out .exit))
+        ≡ lent chain (now (rows .entry)) state share (now (cells .entry)) (now (store .entry)) (now (out .entry)) ⌝ }
 {
     let from = lesser(share.from, cells.len());
     let count = lesser(share.count, cells.len() - from);
@@ -97,26 +100,6 @@ pub fn lend(
         &mut out[..end],
         share.clocks,
     )
-}
-
-// The counts of a call; 0 where it was refused.
-pub fn counts(a: Answer) -> Counts
-    ensures { λ r. ⌜ r ≡ answerCounts a ⌝ }
-{
-    match a {
-        Answer::Refused(_) => Counts {
-            cells: 0,
-            firings: 0,
-            clocks: 0,
-        },
-        Answer::Ended(o) => match o {
-            Outcome::Done(c) => c,
-            Outcome::Spent(c) => c,
-            Outcome::Starved(c) => c,
-            Outcome::Stalled(c) => c,
-            Outcome::Full(c) => c,
-        },
-    }
 }
 
 // Without an output place a fresh run makes all clocks before its first firing; then it gets places and one clock more.
@@ -137,7 +120,7 @@ pub fn first_firing(
     };
     let r = lend(chain, rows, fresh(), all, cells, store, out);
     let answer = r.answer;
-    let before = counts(answer);
+    let before = counts_of(answer);
     let state = r.state;
     let one = Share {
         from: wide_usize(before.cells),
@@ -149,7 +132,7 @@ pub fn first_firing(
     let answer = s.answer;
     FirstFiring {
         before,
-        next: counts(answer),
+        next: counts_of(answer),
     }
 }
 
@@ -188,7 +171,7 @@ fn after(r: Run, ran: Ran, width: usize) -> Run
 {
     let state = ran.state;
     let answer = ran.answer;
-    let c = counts(answer);
+    let c = counts_of(answer);
     let end = end_of(answer);
     Run {
         state,
@@ -205,7 +188,8 @@ fn after(r: Run, ran: Ran, width: usize) -> Run
     }
 }
 
-// What call number `call` is lent, from cell number `from` on: all that is there, or of each a number that varies from call to call, 0 among them.
+// What call number `call` is lent, from cell number `from` on: all that is there, or of each a number that varies from call
+// to call, 0 among them.
 fn share_of(pieces: bool, call: usize, from: usize) -> Share
     ensures { λ r. ⌜ r ≡ shareOf pieces call from ⌝ }
 {
@@ -235,7 +219,9 @@ fn call(
     store: &mut [u32],
     out: &mut [u32],
 ) -> Run
-    ensures { λ r. ⌜ course r (now (store .exit)) (now (out .exit)) ≡ called chain (now (rows .entry)) pieces width (now (cells .entry)) (course run (now (store .entry)) (now (out .entry))) ⌝ }
+    ensures { λ r. ⌜ course r (now (store .exit)) (now (out .exit))
+        ≡ called chain (now (rows .entry)) pieces width (now (cells .entry))
+        (course run (now (store .entry)) (now (out .entry))) ⌝ }
 {
     let state = run.state;
     let share = share_of(pieces, run.calls, run.cells);
@@ -260,7 +246,9 @@ pub fn more(
     store: &mut [u32],
     out: &mut [u32],
 ) -> Run
-    ensures { λ r. ⌜ course r (now (store .exit)) (now (out .exit)) ≡ calledOn 100000 chain (now (rows .entry)) pieces width (now (cells .entry)) (course run (now (store .entry)) (now (out .entry))) ⌝ }
+    ensures { λ r. ⌜ course r (now (store .exit)) (now (out .exit))
+        ≡ calledOn 100000 chain (now (rows .entry)) pieces width (now (cells .entry))
+        (course run (now (store .entry)) (now (out .entry))) ⌝ }
 {
     let mut r = run;
     let mut left: u32 = 100000;

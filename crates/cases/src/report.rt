@@ -184,7 +184,8 @@ fn asked(l: Loops, author: &[u8], kernel: Kernel, count: u32) -> Request {
     on_rows(r, count)
 }
 
-// Lent whole, and lent in pieces. `author`: the window as its author wrote it; `window`: in the order in which the nested loop goes.
+// Lent whole, and lent in pieces. `author`: the window as its author wrote it; `window`: in the order in which the nested
+// loop goes.
 fn with_kernel(
     l: Loops,
     kernel: Kernel,

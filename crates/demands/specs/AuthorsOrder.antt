@@ -22,9 +22,12 @@ pub record EachOnce (n : ℕ) (order : List ℕ) : Type 0 where
 pub record AuthorsOrder : Type 0 where
   -- 14: the n bytes "are not each filter number once".
   pub number-14 : (n : ℕ) (order : List ℕ) → length order ≡ n → (badOrder n order ≡ false) ↔ EachOnce n order
-  -- "kernel outputs are compared with the author's own loop": of a request that no number turns back, whatever the cells are, the planned chain writes in every iteration the
-  -- words that the kernel gives over the request's references in the request's order;
-  pub loop : (r : Request) (rows : List ℕ) → judgeRequest r rows ≡ verdict.Accepted → (stream : ℕ → ℕ) (j : ℕ) → wordsOf (trimmed (planOf r rows .chain) rows) stream j ≡ loopOf r rows stream j
+  -- "kernel outputs are compared with the author's own loop": of a request that no number turns back, whatever the cells are,
+  -- the planned chain writes in every iteration the words that the kernel gives over the request's references in the
+  -- request's order;
+  pub loop : (r : Request) (rows : List ℕ) → judgeRequest r rows ≡ verdict.Accepted → (stream : ℕ → ℕ) (j : ℕ)
+      → wordsOf (trimmed (planOf r rows .chain) rows) stream j ≡ loopOf r rows stream j
   -- and all outputs of a list of calls on it are those words of iterations 0, 1, 2, .., as many as there were firings.
-  pub outputs : (r : Request) (rows : List ℕ) → judgeRequest r rows ≡ verdict.Accepted → (q : ListOfCalls) → Same (q .chain) (q .rows) (planOf r rows .chain) rows
+  pub outputs : (r : Request) (rows : List ℕ) → judgeRequest r rows ≡ verdict.Accepted → (q : ListOfCalls)
+      → Same (q .chain) (q .rows) (planOf r rows .chain) rows
       → allWords (chainIn q) (q .stream) (q .calls) (q .start) ≡ loopFrom r rows (q .stream) 0 (firingsMade (runsOf q))

@@ -16,10 +16,13 @@ module _ (t : Trimmed) (stream : ℕ → ℕ) where
   Kept [] b = Unit {0}
   Kept (l ∷ ls) b =
       (length (callRun t stream l b .output) ≡ length (l .output))
-      × (drop (firingsOf (callRun t stream l b) * widthOf t) (callRun t stream l b .output) ≡ drop (firingsOf (callRun t stream l b) * widthOf t) (l .output))
+      × (drop (firingsOf (callRun t stream l b) * widthOf t) (callRun t stream l b .output)
+      ≡ drop (firingsOf (callRun t stream l b) * widthOf t) (l .output))
       × Kept ls (after t stream l b)
 
--- All outputs together are the words of iterations 0, 1, 2, .. in order, as many as there were firings; later output places are unchanged.
+-- All outputs together are the words of iterations 0, 1, 2, .. in order, as many as there were firings; later output places
+-- are unchanged.
 pub record Demand2 (q : ListOfCalls) : Type 0 where
-  pub words : allWords (chainIn q) (q .stream) (q .calls) (q .start) ≡ wordsFrom (chainIn q) (q .stream) 0 (firingsMade (runsOf q))
+  pub words : allWords (chainIn q) (q .stream) (q .calls) (q .start)
+      ≡ wordsFrom (chainIn q) (q .stream) 0 (firingsMade (runsOf q))
   pub kept : Kept (chainIn q) (q .stream) (q .calls) (q .start)

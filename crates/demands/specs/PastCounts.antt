@@ -1,5 +1,6 @@
--- "entries past its counts play no part, and chains that differ only there are the same" (document 01, "Turned back on account of the input"). That such chains are judged and run alike
--- stands in `Promises`. "A part of the record whose line is absent plays no part" (document 02, request 2).
+-- "entries past its counts play no part, and chains that differ only there are the same" (document 01, "Turned back on
+-- account of the input"). That such chains are judged and run alike stands in `Promises`. "A part of the record whose line is
+-- absent plays no part" (document 02, request 2).
 use Prim.Native.Nat.{ℕ, _-_, _*_, _<_}
 use mathlib.Core.Bool.{true, false}
 use mathlib.Core.List.{List}
@@ -16,8 +17,9 @@ use Rattle.model.specs.declared.Order.{Order}
 use Rattle.model.specs.declared.Request.{Request}
 use Rattle.model.specs.declared.Chain.{Chain}
 
--- Two grids, two windows and two boxes on a grid of some dimensions, two orders of n terms, two chains and two requests that differ only past their counts or in an absent part.
--- Beside a grid its rows are lent: of a rectangle the sizes play a part, of a skewed grid how many rows it has, and two numbers for each of them.
+-- Two grids, two windows and two boxes on a grid of some dimensions, two orders of n terms, two chains and two requests that
+-- differ only past their counts or in an absent part. Beside a grid its rows are lent: of a rectangle the sizes play a part,
+-- of a skewed grid how many rows it has, and two numbers for each of them.
 pub record GridsAgree (g : Grid) (rows : List ℕ) (h : Grid) (rows′ : List ℕ) : Type 0 where
   pub skewed : g .skewed ≡ h .skewed
   pub dims : g .skewed ≡ false → g .dims ≡ h .dims
@@ -63,10 +65,13 @@ pub record PastCounts : Type 0 where
   -- A written order, the chain order too, is not the same as none.
   pub apart : (c d : Chain) (rows rows′ : List ℕ) → c .order .stood ≡ true → d .order .stood ≡ false → Same c rows d rows′ → ⊥
   -- "the record tells a written full box from none": any written box, in a chain and in a request.
-  pub box-apart : (c d : Chain) (rows rows′ : List ℕ) → c .bounds .stood ≡ true → d .bounds .stood ≡ false → Same c rows d rows′ → ⊥
-  pub box-asked : (r q : Request) (rows rows′ : List ℕ) → r .bounds .stood ≡ true → q .bounds .stood ≡ false → SameRequest r rows q rows′ → ⊥
+  pub box-apart : (c d : Chain) (rows rows′ : List ℕ) → c .bounds .stood ≡ true → d .bounds .stood ≡ false
+      → Same c rows d rows′ → ⊥
+  pub box-asked : (r q : Request) (rows rows′ : List ℕ) → r .bounds .stood ≡ true → q .bounds .stood ≡ false
+      → SameRequest r rows q rows′ → ⊥
   -- The same chain is written alike,
-  pub written : (c d : Chain) (rows rows′ : List ℕ) → Same c rows d rows′ → (output : List ℕ) → writeOf c rows output ≡ writeOf d rows′ output
+  pub written : (c d : Chain) (rows rows′ : List ℕ) → Same c rows d rows′ → (output : List ℕ)
+      → writeOf c rows output ≡ writeOf d rows′ output
   -- the same request judged and planned alike.
   pub judged : (r q : Request) (rows rows′ : List ℕ) → SameRequest r rows q rows′ → judgeRequest r rows ≡ judgeRequest q rows′
   pub planned : (r q : Request) (rows rows′ : List ℕ) → SameRequest r rows q rows′ → planOf r rows ≡ planOf q rows′

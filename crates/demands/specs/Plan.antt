@@ -16,7 +16,8 @@ use Rattle.model.specs.declared.Request.{Request}
 use Rattle.model.specs.declared.Verdict.the-variants as verdict
 use Rattle.grid_laws.specs.Right.{Right, Planned}
 
--- Values of the same grid, box and window: the same cells, the same box or none, and the same offsets in any order; capacities, orders and kernels as they like.
+-- Values of the same grid, box and window: the same cells, the same box or none, and the same offsets in any order;
+-- capacities, orders and kernels as they like.
 pub record SameWindow (t u : Trimmed) : Type 0 where
   pub ground : t .ground ≡ u .ground
   pub part : t .part ≡ u .part
@@ -38,12 +39,14 @@ pub record PlanRight (r : Request) (rows : List ℕ) (t : Trimmed) : Type 0 wher
   pub ordered : t .ordered ≡ true
   pub terms : length (t .order) ≡ r .window .count
   pub holds : (i : ℕ) → i < r .window .count
-      → (getD (t .order) i 0 < t .count) × (getD (t .offsets) (getD (t .order) i 0) [] ≡ getD (offsetsOf (dimsOf (r .grid)) (r .window)) i [])
+      → (getD (t .order) i 0 < t .count)
+      × (getD (t .offsets) (getD (t .order) i 0) [] ≡ getD (offsetsOf (dimsOf (r .grid)) (r .window)) i [])
   -- They fall, and the capacities are the reuse distances of neighbours,
   pub planned : Planned t
   -- which no iteration exceeds and one has: "the largest over all iterations, or over the box's where a box is given";
   pub most : (j k : ℕ) → j < iterationsOf t → suc k < t .count → readsOf t j k ≤ readsOf t j (suc k) + getD (t .capacities) k 0
-  pub reached : (k : ℕ) → suc k < t .count → (j : ℕ) × (j < iterationsOf t) × (readsOf t j k ≡ readsOf t j (suc k) + getD (t .capacities) k 0)
+  pub reached : (k : ℕ) → suc k < t .count
+      → (j : ℕ) × (j < iterationsOf t) × (readsOf t j k ≡ readsOf t j (suc k) + getD (t .capacities) k 0)
   -- on a rectangle every iteration has them,
   pub every : (sizes : List ℕ) → t .ground ≡ rectangle sizes → (j k : ℕ) → j < iterationsOf t → suc k < t .count
       → readsOf t j k ≡ readsOf t j (suc k) + getD (t .capacities) k 0
@@ -51,7 +54,8 @@ pub record PlanRight (r : Request) (rows : List ℕ) (t : Trimmed) : Type 0 wher
   pub total : (sizes : List ℕ) → t .ground ≡ rectangle sizes → (j : ℕ) → j < iterationsOf t
       → readsOf t j 0 ≡ readsOf t j (t .count - 1) + sum (t .capacities)
   -- No chain of the same grid, box and window, accepted or not, whose order and capacities are right has fewer places.
-  pub least : (c : Chain) (rows : List ℕ) → SameWindow t (trimmed c rows) → Right (trimmed c rows) → sum (t .capacities) ≤ sum (trimmed c rows .capacities)
+  pub least : (c : Chain) (rows : List ℕ) → SameWindow t (trimmed c rows) → Right (trimmed c rows)
+      → sum (t .capacities) ≤ sum (trimmed c rows .capacities)
 
 -- What planning gives.
 pub record PlanGives (r : Request) (rows : List ℕ) : Type 0 where

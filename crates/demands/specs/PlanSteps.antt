@@ -1,4 +1,5 @@
--- The three steps of planning (document 003, section 3.3), each by itself, of every grid, window and box that 3 to 6 and 15 let pass: so also of a request that 7, 8 or 9 turns back.
+-- The three steps of planning (document 003, section 3.3), each by itself, of every grid, window and box that 3 to 6 and 15
+-- let pass: so also of a request that 7, 8 or 9 turns back.
 use Prim.Native.Nat.{ℕ, suc, _+_, _-_, _≤_, _<_}
 use mathlib.Core.Bool.{true}
 use mathlib.Core.List.{List, []}
@@ -54,8 +55,10 @@ module _ (g : Grid) (rows : List ℕ) (w : Window) (b : Bounds) where
   -- Section 3.3.2: "the maximum reuse distances of all the pairs of adjacent array references"
   pub record Distances : Type 0 where
     -- In no iteration that a run covers the pair's positions differ by more than the distance, in one they differ by it,
-    pub most : (v : List ℤ) (k : ℕ) → coversOf (onGrid g rows w b) v ≡ true → suc k < w .count → readBy v k ≤ readBy v (suc k) + distance k
-    pub reached : (k : ℕ) → suc k < w .count → (v : List ℤ) × (coversOf (onGrid g rows w b) v ≡ true) × (readBy v k ≡ readBy v (suc k) + distance k)
+    pub most : (v : List ℤ) (k : ℕ) → coversOf (onGrid g rows w b) v ≡ true → suc k < w .count
+        → readBy v k ≤ readBy v (suc k) + distance k
+    pub reached : (k : ℕ) → suc k < w .count
+        → (v : List ℤ) × (coversOf (onGrid g rows w b) v ≡ true) × (readBy v k ≡ readBy v (suc k) + distance k)
     -- and it is at least 1.
     pub some : (k : ℕ) → suc k < w .count → 0 < distance k
 
@@ -63,10 +66,13 @@ module _ (g : Grid) (rows : List ℕ) (w : Window) (b : Bounds) where
   abbrev pub Summed : Type 0
   Summed = steps .total ≡ sum (tabulate (w .count - 1) distance)
 
-  -- On a rectangle they differ by the distance in every iteration, inside the box and outside it, and the sum "is equal to the maximum reuse distance between array reference A_0 and A_{n-1}".
+  -- On a rectangle they differ by the distance in every iteration, inside the box and outside it, and the sum "is equal to
+  -- the maximum reuse distance between array reference A_0 and A_{n-1}".
   pub record OnRectangle : Type 0 where
-    pub every : (v : List ℤ) (k : ℕ) → isIterationOf (onGrid g rows w b) v ≡ true → suc k < w .count → readBy v k ≡ readBy v (suc k) + distance k
-    pub first-to-last : (v : List ℤ) → isIterationOf (onGrid g rows w b) v ≡ true → readBy v 0 ≡ readBy v (w .count - 1) + steps .total
+    pub every : (v : List ℤ) (k : ℕ) → isIterationOf (onGrid g rows w b) v ≡ true → suc k < w .count
+        → readBy v k ≡ readBy v (suc k) + distance k
+    pub first-to-last : (v : List ℤ) → isIterationOf (onGrid g rows w b) v ≡ true
+        → readBy v 0 ≡ readBy v (w .count - 1) + steps .total
 
 abbrev pub StepOne : Type 0
 StepOne = (g : Grid) (rows : List ℕ) (w : Window) (b : Bounds) → judgeWindow g rows w b ≡ verdict.Accepted → Sorted g rows w b
@@ -78,13 +84,16 @@ abbrev pub StepThree : Type 0
 StepThree = (g : Grid) (rows : List ℕ) (w : Window) (b : Bounds) → judgeWindow g rows w b ≡ verdict.Accepted → Summed g rows w b
 
 abbrev pub OnRectangles : Type 0
-OnRectangles = (g : Grid) (rows : List ℕ) (w : Window) (b : Bounds) (sizes : List ℕ) → onGrid g rows w b .ground ≡ rectangle sizes → judgeWindow g rows w b ≡ verdict.Accepted → OnRectangle g rows w b
+OnRectangles = (g : Grid) (rows : List ℕ) (w : Window) (b : Bounds) (sizes : List ℕ)
+    → onGrid g rows w b .ground ≡ rectangle sizes → judgeWindow g rows w b ≡ verdict.Accepted → OnRectangle g rows w b
 
 -- A plan is these steps, then what refuses, then the chain.
 pub record PlannedBySteps (r : Request) (rows : List ℕ) (s : Steps) : Type 0 where
   -- 3 to 6 and 15 come before the steps, 7 and 8 behind them, and 9 goes by their total;
   pub found : s .verdict ≡ judgeWindow (r .grid) rows (r .window) (r .bounds)
-  pub refused : planOf r rows .verdict ≡ byVerdict (s .verdict) (judgeBehind (r .kernel) (centred (offsetsOf (dimsOf (r .grid)) (r .window))) (s .total)) verdict.Refused
+  pub refused : planOf r rows .verdict
+      ≡ byVerdict (s .verdict) (judgeBehind (r .kernel) (centred (offsetsOf (dimsOf (r .grid)) (r .window))) (s .total))
+      verdict.Refused
   -- the chain has the request's box, their window, their distances for its capacities, and their filters for its order.
   pub chain : planOf r rows .verdict ≡ verdict.Accepted → planOf r rows .chain ≡ chainBy (r .grid) (r .bounds) (r .kernel) s
 

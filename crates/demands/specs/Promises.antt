@@ -34,7 +34,8 @@ module _ (q : ListOfCalls) where
   abbrev pub FewClocks : Type 0
   FewClocks = clocksMade (runsOf q) ≤ chainIn q .count * layout (chainIn q) .cells
 
-  -- A state that the list reaches is never refused by 11: of all numbers only 10 turns a call of it back, and only where the store that is lent is short.
+  -- A state that the list reaches is never refused by 11: of all numbers only 10 turns a call of it back, and only where the
+  -- store that is lent is short.
   abbrev pub NeverStale : Type 0
   NeverStale = (l : Lending) → (answerNumber (oneMore q l .answer) ≡ 0)
       ⊎ ((answerNumber (oneMore q l .answer) ≡ 10) × (shortStore (chainIn q) (take (l .front) (handedOn q .store)) ≡ true))
@@ -50,15 +51,18 @@ module _ (q : ListOfCalls) where
   abbrev pub againStore : (l m : Lending) → List ℕ
   againStore l m = take (m .front) (after (chainIn q) (q .stream) l (handedOn q) .store)
 
-  -- "Calling again after Done or Stalled gives the same outcome with zeros, unless an earlier line of the list applies." The line before Stalled are Spent, with no clock allowed, and
-  -- Starved, with no cell lent.
+  -- "Calling again after Done or Stalled gives the same outcome with zeros, unless an earlier line of the list applies." The
+  -- line before Stalled are Spent, with no clock allowed, and Starved, with no cell lent.
   pub record Again (l m : Lending) : Type 0 where
-    pub done : Reports outcome.Done (oneMore q l) → shortStore (chainIn q) (againStore l m) ≡ false → again l m .answer ≡ answer.Ended (outcome.Done noCounts)
-    pub stalled : Reports outcome.Stalled (oneMore q l) → shortStore (chainIn q) (againStore l m) ≡ false → 0 < m .allowance → 0 < m .cells
+    pub done : Reports outcome.Done (oneMore q l) → shortStore (chainIn q) (againStore l m) ≡ false
+        → again l m .answer ≡ answer.Ended (outcome.Done noCounts)
+    pub stalled : Reports outcome.Stalled (oneMore q l) → shortStore (chainIn q) (againStore l m) ≡ false → 0 < m .allowance
+        → 0 < m .cells
         → again l m .answer ≡ answer.Ended (outcome.Stalled noCounts)
     pub spent : Reports outcome.Stalled (oneMore q l) → shortStore (chainIn q) (againStore l m) ≡ false → m .allowance ≡ 0
         → again l m .answer ≡ answer.Ended (outcome.Spent noCounts)
-    pub starved : Reports outcome.Stalled (oneMore q l) → shortStore (chainIn q) (againStore l m) ≡ false → 0 < m .allowance → m .cells ≡ 0
+    pub starved : Reports outcome.Stalled (oneMore q l) → shortStore (chainIn q) (againStore l m) ≡ false → 0 < m .allowance
+        → m .cells ≡ 0
         → again l m .answer ≡ answer.Ended (outcome.Starved noCounts)
 
 -- Two lists of calls on one chain and one stream.
@@ -84,9 +88,10 @@ pub record SameStart (p q : ListOfCalls) : Type 0 where
   pub start : p .start ≡ q .start
   pub long : chainIn p .count ≤ length (p .start .state .passed)
 
--- "A run split over calls makes the same firings, clocks and end state as one call": two lists that made equally many clocks stand at the same counters, and made the same firings and
--- words; if they started alike, they hand on the same state, counters past n among it, and the same store; and two lists, each with one more call that is lent enough, end alike. (One of
--- them may be empty, so that its one more call is the whole run.)
+-- "A run split over calls makes the same firings, clocks and end state as one call": two lists that made equally many clocks
+-- stand at the same counters, and made the same firings and words; if they started alike, they hand on the same state,
+-- counters past n among it, and the same store; and two lists, each with one more call that is lent enough, end alike. (One
+-- of them may be empty, so that its one more call is the whole run.)
 pub record Split (p q : ListOfCalls) : Type 0 where
   pub counters : SameRun p q → clocksMade (runsOf p) ≡ clocksMade (runsOf q)
       → countersOf (chainIn p .count) (handedOn p .state) ≡ countersOf (chainIn q .count) (handedOn q .state)
@@ -94,7 +99,8 @@ pub record Split (p q : ListOfCalls) : Type 0 where
   pub words : SameRun p q → clocksMade (runsOf p) ≡ clocksMade (runsOf q)
       → allWords (chainIn p) (p .stream) (p .calls) (p .start) ≡ allWords (chainIn q) (q .stream) (q .calls) (q .start)
   pub handed-on : SameRun p q → SameStart p q → clocksMade (runsOf p) ≡ clocksMade (runsOf q) → handedOn p ≡ handedOn q
-  pub ends : SameRun p q → (l m : Lending) → LentEnough (chainIn p) l (handedOn p) → LentEnough (chainIn q) m (handedOn q) → EndAlike p q l m
+  pub ends : SameRun p q → (l m : Lending) → LentEnough (chainIn p) l (handedOn p) → LentEnough (chainIn q) m (handedOn q)
+      → EndAlike p q l m
 
 module _ (t : Trimmed) (stream : ℕ → ℕ) where
   -- Each call of a list has such a lending.
@@ -102,15 +108,18 @@ module _ (t : Trimmed) (stream : ℕ → ℕ) where
   Pieces [] b = Unit {0}
   Pieces (l ∷ ls) b = Piece t l b × Pieces ls (after t stream l b)
 
--- "so runs fed in small pieces end alike": two lists, each with one more call that ends Done or Stalled, end alike; and after n times the number of cells such calls one more does end so.
+-- "so runs fed in small pieces end alike": two lists, each with one more call that ends Done or Stalled, end alike; and after
+-- n times the number of cells such calls one more does end so.
 pub record SmallPieces : Type 0 where
   pub alike : (p q : ListOfCalls) → SameRun p q → (l m : Lending) → Over (oneMore p l) → Over (oneMore q m) → EndAlike p q l m
-  pub over : (q : ListOfCalls) → Pieces (chainIn q) (q .stream) (q .calls) (q .start) → chainIn q .count * layout (chainIn q) .cells ≤ length (q .calls)
+  pub over : (q : ListOfCalls) → Pieces (chainIn q) (q .stream) (q .calls) (q .start)
+      → chainIn q .count * layout (chainIn q) .cells ≤ length (q .calls)
       → (l : Lending) → Piece (chainIn q) l (handedOn q) → Over (oneMore q l)
 
 -- A refused call, of any chain and any state, changes nothing and counts 0.
 abbrev pub RefusedKeeps : Type 0
-RefusedKeeps = (c : Chain) (rows : List ℕ) (s : State) (store lent output : List ℕ) (allowance : ℕ) (x : Refusal) → runOf c rows s store lent output allowance .answer ≡ answer.Refused x
+RefusedKeeps = (c : Chain) (rows : List ℕ) (s : State) (store lent output : List ℕ) (allowance : ℕ) (x : Refusal)
+    → runOf c rows s store lent output allowance .answer ≡ answer.Refused x
     → (runOf c rows s store lent output allowance .state ≡ s)
     × (runOf c rows s store lent output allowance .store ≡ store)
     × (runOf c rows s store lent output allowance .output ≡ output)
@@ -125,7 +134,8 @@ PastCount = (c : Chain) (rows : List ℕ) (s : State) (store lent output : List 
 abbrev pub Alike : Type 0
 Alike = (c d : Chain) (rows rows′ : List ℕ) → Same c rows d rows′
     → (judgeChain c rows ≡ judgeChain d rows′)
-    × ((s : State) (store lent output : List ℕ) (allowance : ℕ) → runOf c rows s store lent output allowance ≡ runOf d rows′ s store lent output allowance)
+    × ((s : State) (store lent output : List ℕ) (allowance : ℕ)
+    → runOf c rows s store lent output allowance ≡ runOf d rows′ s store lent output allowance)
 
 -- All of them.
 pub record Promises : Type 0 where

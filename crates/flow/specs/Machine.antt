@@ -77,7 +77,8 @@ module _ (L : Layout) where
   Fits k p [] = Unit {0}
   Fits k p (q ∷ qs) = p ≤ q + capacity k
 
-  -- Filter k may stand at p after f firings, where its source has let `source` cells through and the filters behind it stand at the list.
+  -- Filter k may stand at p after f firings, where its source has let `source` cells through and the filters behind it stand
+  -- at the list.
   pub record Placed (f k source p : ℕ) (ps : List ℕ) : Type 0 where
     pub filter : k < filters
     pub fired : past f k ≤ p

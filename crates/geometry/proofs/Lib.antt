@@ -1,5 +1,4 @@
 pub mod PartLaws
 pub mod FillLaws
 pub mod EntryLaws
-pub mod OffsetLaws
 pub mod GridLaws

@@ -40,7 +40,8 @@ Lows dims count offsets lows = Filled 4 (pos 0) (λ d. least (entriesIn count of
 
 -- The position of reference k, its entries counted from the lows, each times its stride.
 abbrev pub placeBy : (dims : ℕ) (lows : List ℤ) (strides : List ℕ) (offsets : List ℤ) (k : ℕ) → ℕ
-placeBy dims lows strides offsets k = sum (tabulate dims (λ d. above (entryAt offsets k d) (getD lows d (pos 0)) * numberAt strides d))
+placeBy dims lows strides offsets k = sum
+    (tabulate dims (λ d. above (entryAt offsets k d) (getD lows d (pos 0)) * numberAt strides d))
 
 -- No product of the last numbers, those before place `to`, is above the most cells.
 abbrev pub Small : List ℕ → (to : ℕ) → Type 0

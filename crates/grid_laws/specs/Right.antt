@@ -1,4 +1,5 @@
--- When order and capacities of a chain are right, when they are the planned ones, and which iteration is the first that needs more.
+-- When order and capacities of a chain are right, when they are the planned ones, and which iteration is the first that needs
+-- more.
 use Prim.Native.Nat.{ℕ, suc, _≤_, _<_}
 use mathlib.Core.Bool.{true}
 use mathlib.Core.List.{[]}
@@ -13,7 +14,8 @@ module _ (t : Trimmed) where
   abbrev pub Falls : Type 0
   Falls = (k : ℕ) → suc k < t .count → before (getD (t .offsets) (suc k) []) (getD (t .offsets) k []) ≡ true
 
-  -- The offset of filter k + 1 comes lexicographically before that of filter k, and FIFO k, between them, is at least their reuse distance, the largest over the iterations.
+  -- The offset of filter k + 1 comes lexicographically before that of filter k, and FIFO k, between them, is at least their
+  -- reuse distance, the largest over the iterations.
   pub record RightPair (k : ℕ) : Type 0 where
     pub falls : before (getD (t .offsets) (suc k) []) (getD (t .offsets) k []) ≡ true
     pub holds : distanceOf t k ≤ getD (t .capacities) k 0

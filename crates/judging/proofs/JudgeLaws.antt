@@ -21,10 +21,10 @@ use Rattle.model.specs.declared.Verdict.the-variants as verdict
 use Rattle.grid_laws.proofs.ListLaws.{length-tabulate}
 use Rattle.grid_laws.proofs.ChainLaws.{dims-flat, on-flat, dims-skewed, on-skewed}
 use Rattle.grid_laws.proofs.CheckLaws.{then-checks, both-pass, WindowPasses, window-passes}
-use Rattle.geometry.specs.Windows.{centreIn}
+use Rattle.windows.specs.Windows.{centreIn}
 use Rattle.shape.specs.Shapes.{surveyOf, chainShape}
 use Rattle.shape.specs.declared.Survey.{Survey}
-use Rattle.geometry.proofs.OffsetLaws.{below-count}
+use Rattle.windows.proofs.OffsetLaws.{below-count}
 use Rattle.shape.proofs.Answers.{centre-is, survey-verdict}
 use Rattle.rows.specs.Surveys.{rowSurveyOf}
 use Rattle.rows.specs.declared.RowSurvey.{RowSurvey}

@@ -22,7 +22,8 @@ judgedRest k centred capacities n order = firstOf (kernelChecks k centred ++ cha
 unfoldable pub judgedBehind : (found : Verdict) (dims : ℕ) → Chain → Verdict
 judgedBehind found dims c =
     byVerdict found
-    (judgedRest (c .kernel) (centred (offsetsOf dims (c .window))) (capacitiesOf c) (c .window .count) (orderOf (c .window .count) (c .order)))
+    (judgedRest (c .kernel) (centred (offsetsOf dims (c .window))) (capacitiesOf c) (c .window .count)
+    (orderOf (c .window .count) (c .order)))
     verdict.Refused
 
 -- What judging a chain on a rectangle finds, and one on rows.
@@ -34,4 +35,10 @@ examinedOf c =
 unfoldable pub examinedRows : Chain → (rows : List ℕ) → RowSurvey
 examinedRows c rows =
     let survey = rowSurveyOf (c .grid .rows) rows (c .window) (c .bounds) in
-    record { verdict = judgedBehind (survey .verdict) 2 c; centre = survey .centre; cells = survey .cells; iterations = survey .iterations; course = survey .course }
+    record {
+      verdict = judgedBehind (survey .verdict) 2 c;
+      centre = survey .centre;
+      cells = survey .cells;
+      iterations = survey .iterations;
+      course = survey .course;
+    }

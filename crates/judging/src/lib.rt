@@ -1,4 +1,5 @@
-// Judging a chain that is handed over as a value, by 3 to 9, lowest first, with 15 after 6, then 14; and a request behind the steps of its plan.
+// Judging a chain that is handed over as a value, by 3 to 9, lowest first, with 15 after 6, then 14; and a request behind the
+// steps of its plan.
 use model::Chain;
 use model::Kernel;
 use model::Order;
@@ -16,14 +17,14 @@ ghost use Rattle.model.specs.Values.{orderOf};
 ghost use Rattle.model.specs.Answers.{byVerdict};
 ghost use Rattle.model.specs.declared.Verdict.the-variants.{Accepted, Refused};
 ghost use Rattle.geometry.specs.Parts.{numberAt};
-ghost use Rattle.geometry.specs.Windows.{hasCentre};
+ghost use Rattle.windows.specs.Windows.{hasCentre};
 ghost use Rattle.judging.specs.Checks.{judgedRest, examinedOf, examinedRows};
 
 // 7: difference or blend without a centre.
 fn lacks_centre(kernel: Kernel, centred: bool) -> bool
     ensures { λ r. ⌜ r ≡ lacksCentre kernel centred ⌝ }
 {
-    if kernel::needs_centre(kernel) {
+    if kernel_checks::needs_centre(kernel) {
         return !centred;
     }
     false
@@ -36,16 +37,17 @@ fn judge_total(kernel: Kernel, centred: bool, total: u64) -> Verdict
     if lacks_centre(kernel, centred) {
         return Verdict::Refused(Refusal::NoCentre);
     }
-    if kernel::bad_factor(kernel) {
+    if kernel_checks::bad_factor(kernel) {
         return Verdict::Refused(Refusal::BadFactor);
     }
-    if 16384 < total {
+    if limits::too_large(total) {
         return Verdict::Refused(Refusal::TooLarge);
     }
     Verdict::Accepted
 }
 
-// What 3 to 6 and 15 found of a request's window before it was planned; where they let pass, 7 and 8, and 9 by the total of its distances.
+// What 3 to 6 and 15 found of a request's window before it was planned; where they let pass, 7 and 8, and 9 by the total of
+// its distances.
 pub fn judge_planned(
     found: Verdict,
     dims: u8,
@@ -58,7 +60,7 @@ pub fn judge_planned(
     match found {
         Verdict::Refused(x) => Verdict::Refused(x),
         Verdict::Accepted => {
-            let centred = geometry::has_centre(dims, window);
+            let centred = windows::has_centre(dims, window);
             judge_total(kernel, centred, total)
         }
     }
@@ -113,7 +115,9 @@ fn judge_rest(
     order: Order,
 ) -> Verdict
     requires { ⌜ badCount count ≡ false ⌝ }
-    ensures { λ r. ⌜ r ≡ judgedRest kernel centred (tabulate (count - 1) (numberAt (now (capacities .entry)))) count (orderOf count order) ⌝ }
+    ensures { λ r. ⌜ r
+        ≡ judgedRest kernel centred (tabulate (count - 1) (numberAt (now (capacities .entry)))) count (orderOf count order)
+        ⌝ }
 {
     let total = plan_steps::total::total(capacities, count);
     match judge_total(kernel, centred, total) {
@@ -137,7 +141,10 @@ fn judge_behind(
     order: Order,
 ) -> Verdict
     requires { ⌜ (found ≡ Accepted → badCount count ≡ false) ⌝ }
-    ensures { λ r. ⌜ r ≡ byVerdict found (judgedRest kernel centred (tabulate (count - 1) (numberAt (now (capacities .entry)))) count (orderOf count order)) Refused ⌝ }
+    ensures { λ r. ⌜ r
+        ≡ byVerdict found
+        (judgedRest kernel centred (tabulate (count - 1) (numberAt (now (capacities .entry)))) count (orderOf count order))
+        Refused ⌝ }
 {
     match found {
         Verdict::Refused(x) => Verdict::Refused(x),
@@ -145,7 +152,8 @@ fn judge_behind(
     }
 }
 
-// What judging a chain on a rectangle finds: the first of 3 to 9, 14 and 15 that turns it back, and, where 3 to 6 and 15 let it pass, its centre and its shape.
+// What judging a chain on a rectangle finds: the first of 3 to 9, 14 and 15 that turns it back, and, where 3 to 6 and 15 let
+// it pass, its centre and its shape.
 pub struct Examined {
     pub shape: Shape,
     pub centre: u8,

@@ -11,7 +11,7 @@ use borrow.Author.Tests.{le-leb, lt-leb}
 use Rattle.model_run.specs.Kernels.{wordsAt, written, width}
 use Rattle.model.specs.declared.Kernel.{Kernel}
 use Rattle.kernel.specs.Applied.{applied}
-use Rattle.kernel.proofs.SumLaws.{words-count}
+use Rattle.kernel_words.proofs.SumLaws.{words-count}
 
 -- Words stored one after the other: the first is to be stored, then those from number i on.
 pub copy-start : (out ws : List ℕ) (at i : ℕ) → i ≡ 0 → sets out (at + i) (drop i ws) ≡ sets out at ws

@@ -1,4 +1,1 @@
-pub mod FloatLaws
-pub mod SumLaws
-pub mod TableLaws
 pub mod AppliedLaws

@@ -8,7 +8,8 @@ use lib.Seq.{sets}
 use Rattle.model_run.specs.Kernels.{written, width}
 use Rattle.model.specs.declared.Kernel.{Kernel}
 
--- A firing whose cells have the words `ws` in chain order, its result written from place `at` on; where it does not fit, nothing changes.
+-- A firing whose cells have the words `ws` in chain order, its result written from place `at` on; where it does not fit,
+-- nothing changes.
 unfoldable pub applied : Kernel → (centre : ℕ) (terms writes ws : List ℕ) (at : ℕ) (output : List ℕ) → List ℕ
 applied k c ks us ws at output =
     let after = sets output at (written k c ks us ws) in

@@ -1,3 +1,1 @@
-pub mod FilterTables
-pub mod Sums
 pub mod Applied

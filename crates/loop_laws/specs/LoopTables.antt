@@ -9,8 +9,8 @@ use Rattle.loop_laws.specs.Passes.{of, Aligned, Places, gets, puts}
 use Rattle.loop_laws.specs.Sweeps.{Ringed}
 use Rattle.loop_laws.specs.Standings.{counting}
 
--- How far the cells that iteration j reads lie behind those of iteration 0, where `spans` and `strides` have, for each of the m dimensions from d on, how many
--- iterations and how many places one index there is.
+-- How far the cells that iteration j reads lie behind those of iteration 0, where `spans` and `strides` have, for each of the
+-- m dimensions from d on, how many iterations and how many places one index there is.
 unfoldable pub walked : (spans strides : List ℕ) (m d j : ℕ) → ℕ
 walked spans strides zero d j = 0
 walked spans strides (suc m) d j = j / getD spans d 0 * getD strides d 0 + walked spans strides m (suc d) (j % getD spans d 0)
@@ -35,7 +35,8 @@ pub record Stands (L : Layout) (n fired : ℕ) (caps bases passed store : List �
   pub holds : Invariant L (counting fired (take n passed))
 
 -- What the clocks before the filters are aligned are handed.
-pub record Fills (L : Layout) (walk : ℕ → ℕ) (n cells iterations fired : ℕ) (at wants caps bases tops passed puts₀ gets₀ store : List ℕ) : Type 0 where
+pub record Fills (L : Layout) (walk : ℕ → ℕ) (n cells iterations fired : ℕ)
+    (at wants caps bases tops passed puts₀ gets₀ store : List ℕ) : Type 0 where
   pub tables : Tables L walk n cells iterations at caps bases
   pub stands : Stands L n fired caps bases passed store
   pub more : fired < iterations

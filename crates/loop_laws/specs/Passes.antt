@@ -1,4 +1,5 @@
--- A clock in which every filter moves: the words pass through the FIFOs from the first to the last. FIFO k's places go from `base k` on, `cap k` of them.
+-- A clock in which every filter moves: the words pass through the FIFOs from the first to the last. FIFO k's places go from
+-- `base k` on, `cap k` of them.
 use Prim.Native.Nat.{ℕ, zero, suc, _+_, _%_, _≤_, _<_}
 use mathlib.Core.Bool.{Bool, cond}
 use mathlib.Core.List.{List, [], _∷_, map}
@@ -12,7 +13,8 @@ use Rattle.model_run.specs.Store.{firstPlace}
 abbrev pub of : List ℕ → ℕ → ℕ
 of l k = getD l k 0
 
--- Each FIFO holds a cell, no more than it has places for, and as many as its two references are apart: in some iteration reference k reads w k.
+-- Each FIFO holds a cell, no more than it has places for, and as many as its two references are apart: in some iteration
+-- reference k reads w k.
 module _ (w cap : ℕ → ℕ) where
   abbrev pub Aligned : (k : ℕ) → List ℕ → Type 0
   Aligned k [] = Unit {0}

@@ -26,7 +26,8 @@ swept wants caps ps n cells = turns (of wants) (of caps) 0 cells (slice 0 n ps) 
 -- FIFO k's ring places, where it has any: the next cell goes to `puts` at k, the head is at `gets` at k.
 abbrev pub Ringed : (n : ℕ) (bases caps ps puts gets : List ℕ) → Type 0
 Ringed n bases caps ps puts gets = (k : ℕ) → suc k < n → 0 < getD caps k 0
-    → (getD puts k 0 ≡ getD bases k 0 + getD ps k 0 % getD caps k 0) × (getD gets k 0 ≡ getD bases k 0 + getD ps (suc k) 0 % getD caps k 0)
+    → (getD puts k 0 ≡ getD bases k 0 + getD ps k 0 % getD caps k 0)
+    × (getD gets k 0 ≡ getD bases k 0 + getD ps (suc k) 0 % getD caps k 0)
 
 -- The word that filter k is presented, where the heads of the FIFOs are at `gets`.
 unfoldable pub wordAt : (k word : ℕ) (gets store : List ℕ) → ℕ
@@ -40,7 +41,8 @@ getsOn (suc i) bases tops gets = set gets i (step (getD bases i 0) (getD tops i 
 
 -- Filter k, of n, has put the word x into the FIFO behind it; there is none behind the last.
 pub record PutOn (n k x : ℕ) (bases tops puts puts′ store store′ : List ℕ) : Type 0 where
-  pub inner : k + 1 < n → (puts′ ≡ set puts k (step (getD bases k 0) (getD tops k 0) (getD puts k 0))) × (store′ ≡ set store (getD puts k 0) x)
+  pub inner : k + 1 < n
+      → (puts′ ≡ set puts k (step (getD bases k 0) (getD tops k 0) (getD puts k 0))) × (store′ ≡ set store (getD puts k 0) x)
   pub last : n ≤ k + 1 → (puts′ ≡ puts) × (store′ ≡ store)
 
 -- What the splitters' turns are handed: counters, ring places and a store whose FIFOs have c's capacities.
@@ -58,7 +60,8 @@ pub record Turns (c : ℕ → ℕ) (n : ℕ) (bases tops caps ps puts gets store
   pub rings : Ringed n bases caps ps puts gets
 
 -- What they leave; `moved` tells whether a filter moved.
-pub record Turned (c : ℕ → ℕ) (n cells word : ℕ) (wants bases caps ps ps′ puts′ gets′ store store′ : List ℕ) (moved : Bool) : Type 0 where
+pub record Turned (c : ℕ → ℕ) (n cells word : ℕ) (wants bases caps ps ps′ puts′ gets′ store store′ : List ℕ)
+    (moved : Bool) : Type 0 where
   pub counters : ps′ ≡ swept wants caps ps n cells
   pub words : store′ ≡ stored c 0 word store (slice 0 n ps) (slice 0 n ps′) store
   pub puts-there : length puts′ ≡ 32
@@ -69,11 +72,13 @@ pub record Turned (c : ℕ → ℕ) (n cells word : ℕ) (wants bases caps ps ps
 
 -- Each FIFO holds as many cells as its two references are apart, and one at least.
 abbrev pub Lined : (n : ℕ) (at ps : List ℕ) → Type 0
-Lined n at ps = (k : ℕ) → k + 1 < n → (getD ps (k + 1) 0 < getD ps k 0) × (getD ps k 0 + getD at (k + 1) 0 ≡ getD ps (k + 1) 0 + getD at k 0)
+Lined n at ps = (k : ℕ) → k + 1 < n
+    → (getD ps (k + 1) 0 < getD ps k 0) × (getD ps k 0 + getD at (k + 1) 0 ≡ getD ps (k + 1) 0 + getD at k 0)
 
 -- ---- the same filters move clock after clock
 
--- The first cell for which filter k, of n, has no place behind it: the filter there is at q after its turn; the last needs no place.
+-- The first cell for which filter k, of n, has no place behind it: the filter there is at q after its turn; the last needs no
+-- place.
 unfoldable pub roomFor : (n k cap p q : ℕ) → ℕ
 roomFor n k cap p q = cond (ltb (suc k) n) (q + cap) (suc p)
 
@@ -91,7 +96,8 @@ pub record Movers (n : ℕ) (goes : List ℕ) (count : ℕ) : Type 0 where
   pub none : count ≡ 0 → (k : ℕ) → k < n → getD goes k 0 ≡ 0
   pub one : 0 < count → (k : ℕ) × (k < n) × (0 < getD goes k 0)
 
--- Of one filter at p: it goes g cells on in each of t clocks, where its source, at s, goes sg on, and the first cell without a place, b before the clock, goes bg on.
+-- Of one filter at p: it goes g cells on in each of t clocks, where its source, at s, goes sg on, and the first cell without
+-- a place, b before the clock, goes bg on.
 abbrev pub Keeps : (g p w s sg b bg t : ℕ) → Type 0
 Keeps g p w s sg b bg t = (i : ℕ) → i < t → p + i * g + g ≡ turn (s + i * sg) w (b + i * bg + bg) (p + i * g)
 
@@ -100,7 +106,8 @@ abbrev pub goesBefore : (g : ℕ → ℕ) → ℕ → ℕ
 goesBefore g zero = 0
 goesBefore g (suc k) = g k
 
--- and the first cell without a place behind filter k, before the clock and as it goes on in it: behind the last there is always one.
+-- and the first cell without a place behind filter k, before the clock and as it goes on in it: behind the last there is
+-- always one.
 unfoldable pub roomAt : (n k cap p q : ℕ) → ℕ
 roomAt n k cap p q = cond (ltb (suc k) n) (q + cap) p
 
@@ -109,7 +116,8 @@ roomGoes n k q = cond (ltb (suc k) n) q 1
 
 -- Filter k, of those that stand at f, keeps to what it does.
 abbrev pub KeepsAt : (n cells : ℕ) (w c g f : ℕ → ℕ) (t k : ℕ) → Type 0
-KeepsAt n cells w c g f t k = Keeps (g k) (f k) (w k) (before cells f k) (goesBefore g k) (roomAt n k (c k) (f k) (f (suc k))) (roomGoes n k (g (suc k))) t
+KeepsAt n cells w c g f t k = Keeps (g k) (f k) (w k) (before cells f k) (goesBefore g k) (roomAt n k (c k) (f k) (f (suc k)))
+    (roomGoes n k (g (suc k))) t
 
 -- No filter is past the cell that it wants or past its source, and no FIFO is over its capacity.
 pub record InPlace (n cells : ℕ) (w c f : ℕ → ℕ) : Type 0 where

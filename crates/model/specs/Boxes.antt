@@ -11,7 +11,8 @@ use Rattle.model.specs.Grounds.{Row, Ground, isIteration}
 use Rattle.model.specs.Grounds.Ground.{rectangle, skewed}
 use Rattle.model.specs.Courses.{Course, count, vector, allIterations}
 
--- Which iterations a run covers: all of them, or those of a box, given by "the lowest, then the highest index of the iterations" in each dimension.
+-- Which iterations a run covers: all of them, or those of a box, given by "the lowest, then the highest index of the
+-- iterations" in each dimension.
 pub data Part : Type 0 where
   whole : Part
   box : (lowest highest : List ℤ) → Part

@@ -1,4 +1,5 @@
--- The course of a run: how many iterations it has, and which vector is number j. They are the cells of a ground of their own, the course's shape, counted from its first vector.
+-- The course of a run: how many iterations it has, and which vector is number j. They are the cells of a ground of their own,
+-- the course's shape, counted from its first vector.
 use Prim.Native.Nat.{ℕ, _+_, _-_, min}
 use mathlib.Core.List.{List, [], _∷_, map}
 use lib.ListN.{length}
@@ -55,7 +56,10 @@ commonRow rs offsets u = record { start = commonStart rs offsets u; length = com
 
 -- All iterations: counted from the negated lows.
 unfoldable pub allIterations : Ground → List (List ℤ) → Course
-allIterations (rectangle sizes) offsets = record { first = map negℤ (lows sizes offsets); shape = rectangle (extents sizes offsets) }
+allIterations (rectangle sizes) offsets = record {
+  first = map negℤ (lows sizes offsets);
+  shape = rectangle (extents sizes offsets);
+}
 allIterations (skewed rs) offsets = record {
   first = negℤ (lowRow offsets) ∷ negℤ (lowColumn offsets) ∷ [];
   shape = skewed (tabulate (length rs) (commonRow rs offsets));

@@ -1,4 +1,5 @@
--- Rectangles and windows (document 01, "Grid, window, distances"). `sizes`: the rectangle's, slowest dimension first; `offsets`: one vector a reference.
+-- Rectangles and windows (document 01, "Grid, window, distances"). `sizes`: the rectangle's, slowest dimension first;
+-- `offsets`: one vector a reference.
 use Prim.Native.Nat.{ℕ, _+_, _-_, _*_, _/_, _%_}
 use mathlib.Core.Bool.{Bool, true, false, cond, _&&_}
 use mathlib.Core.List.{List, [], _∷_, map}
@@ -52,7 +53,8 @@ unfoldable pub lows : List ℕ → List (List ℤ) → List ℤ
 lows [] offsets = []
 lows (s ∷ ss) offsets = least (map firstEntry offsets) ∷ lows ss (map otherEntries offsets)
 
--- In one dimension: how many indices the iterations have there, where the grid has s and the window the entries es. Widths below 0 are 0.
+-- In one dimension: how many indices the iterations have there, where the grid has s and the window the entries es. Widths
+-- below 0 are 0.
 unfoldable pub extent : ℕ → List ℤ → ℕ
 extent s es = let low = least es in s - greatest (map (λ e. above e low) es)
 

@@ -1,5 +1,5 @@
--- Grounds: what the cells of a grid are (document 01, "Grid, window, distances"; document 02, request 5). A rectangle is given by its sizes, slowest dimension first; rows are numbered
--- from 0, and each has a start and a length.
+-- Grounds: what the cells of a grid are (document 01, "Grid, window, distances"; document 02, request 5). A rectangle is
+-- given by its sizes, slowest dimension first; rows are numbered from 0, and each has a start and a length.
 use Prim.Native.Nat.{ℕ, zero, suc, _+_, _-_}
 use mathlib.Core.Bool.{Bool, false, cond, _&&_}
 use mathlib.Core.List.{List, [], _∷_, map}

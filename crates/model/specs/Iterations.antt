@@ -1,4 +1,5 @@
--- Cells, iterations and what is read, of a request or a chain as a value (document 01, "Grid, window, distances"; document 02, requests 4 and 5). What is said of a chain goes by these names.
+-- Cells, iterations and what is read, of a request or a chain as a value (document 01, "Grid, window, distances"; document
+-- 02, requests 4 and 5). What is said of a chain goes by these names.
 use Prim.Native.Nat.{ℕ, suc, _+_, _-_}
 use mathlib.Core.Bool.{Bool, cond, _&&_}
 use mathlib.Core.List.{List, [], _∷_, map}

@@ -1,4 +1,5 @@
--- Judging a request or a chain as a value (document 01, "Turned back on account of the input", 3 to 9; document 02, requests 2, 4 and 5, 14 to 16).
+-- Judging a request or a chain as a value (document 01, "Turned back on account of the input", 3 to 9; document 02, requests
+-- 2, 4 and 5, 14 to 16).
 use Prim.Native.Nat.{ℕ}
 use mathlib.Core.Bool.{Bool, true, false, not, _&&_, _||_}
 use mathlib.Core.List.{List, [], _∷_, _++_}
@@ -142,7 +143,8 @@ chainChecks capacities n order = check (tooLarge capacities) refusal.TooLarge �
 
 -- all of them, in their order.
 unfoldable pub valueChecks : Trimmed → List Check
-valueChecks t = windowChecks t ++ (kernelChecks (t .kernel) (centred (t .offsets)) ++ chainChecks (t .capacities) (t .count) (t .order))
+valueChecks t = windowChecks t
+    ++ (kernelChecks (t .kernel) (centred (t .offsets)) ++ chainChecks (t .capacities) (t .count) (t .order))
 
 -- The first of these numbers whose condition holds.
 unfoldable pub judged : Trimmed → Verdict

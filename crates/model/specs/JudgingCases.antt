@@ -1,4 +1,5 @@
--- Chains and requests handed over as values, judged (document 01, "Turned back on account of the input", 3 to 9; document 02, requests 2 and 4, 14 and 15): one table, computed.
+-- Chains and requests handed over as values, judged (document 01, "Turned back on account of the input", 3 to 9; document 02,
+-- requests 2 and 4, 14 and 15): one table, computed.
 use Prim.Native.Nat.{ℕ}
 use mathlib.Core.Bool.{Bool, true, false}
 use mathlib.Core.List.{List, [], _∷_, map, flatMap}
@@ -12,10 +13,13 @@ use Rattle.model.specs.Geometry as rectangular
 use Rattle.model.specs.Grounds.{cellCount, inside, cellPlace, position, cellAt, isIteration}
 use Rattle.model.specs.Courses.{count, vector, allIterations}
 use Rattle.model.specs.Boxes.{indexCount, widths, boxShape, boxCourse, course, crossed, readsOutside, badBox}
-use Rattle.model.specs.Values.{sizesOf, offsetOf, offsetsOf, partOf, capacitiesOf, orderOf, trimmed, noBounds, noOrder, requestOf, groundOf, dimsOf}
+use Rattle.model.specs.Values.{sizesOf, offsetOf, offsetsOf, partOf, capacitiesOf, orderOf, trimmed, noBounds, noOrder}
+use Rattle.model.specs.Values.{requestOf, groundOf, dimsOf}
 use Rattle.model.specs.Iterations.{positionOf, courseOf, iterationOf, readsOf, firsts, distanceIn, distanceOf}
 use Rattle.model.specs.Answers.{numberOf, verdictNumber, firstOf}
-use Rattle.model.specs.Judging.{badDims, badSizes, badGrid, badCount, repeats, noIteration, needsCentre, lacksCentre, notFinite, badFactor, tooLarge, twice, badOrder, windowChecks, kernelChecks, chainChecks, valueChecks, judged, judgeChain}
+use Rattle.model.specs.Judging.{badDims, badSizes, badGrid, badCount, repeats, noIteration, needsCentre, lacksCentre}
+use Rattle.model.specs.Judging.{notFinite, badFactor, tooLarge, twice, badOrder, windowChecks, kernelChecks}
+use Rattle.model.specs.Judging.{chainChecks, valueChecks, judged, judgeChain}
 use Rattle.model.specs.Steps.{insert, falling, whichOf, authorsOrder, sorted, distances}
 use Rattle.model.specs.Planning.{trimmedRequest, judgeRequest}
 use Rattle.model.specs.declared.Bounds.{Bounds}
@@ -29,7 +33,8 @@ use Rattle.model.specs.declared.Order.{Order}
 abbrev float : ℕ → Float
 float w = ofBits binary32 w
 
--- The number that turns a chain back, and the one that turns back the request which the chain without its capacities is; 0 for none.
+-- The number that turns a chain back, and the one that turns back the request which the chain without its capacities is; 0
+-- for none.
 pub record Numbers : Type 0 where
   pub chain : ℕ
   pub request : ℕ
@@ -39,17 +44,22 @@ pub record Case : Type 0 where
   pub rows : Numbers
 
 unfoldable pub answered : Case → Numbers
-answered c = record { chain = verdictNumber (judgeChain (c .value) []); request = verdictNumber (judgeRequest (requestOf (c .value)) []) }
+answered c = record
+    { chain = verdictNumber (judgeChain (c .value) []); request = verdictNumber (judgeRequest (requestOf (c .value)) []) }
 
 unfoldable pub expected : Case → Numbers
 expected c = c .rows
 
 -- A value with bounds and an order.
-abbrev valued : Grid → (count : ℕ) (offsets : List ℤ) → Bounds → (capacities : List ℕ) → Order → Kernel → (chain request : ℕ) → Case
+abbrev valued : Grid → (count : ℕ) (offsets : List ℤ) → Bounds → (capacities : List ℕ) → Order → Kernel → (chain request : ℕ)
+    → Case
 valued g count offsets b capacities o k chain request = record {
   value = record {
     grid = g;
-    window = record { count = count; offsets = flatMap (λ (x : ℤ). let offset : List ℤ = x ∷ pos 0 ∷ pos 0 ∷ pos 0 ∷ [] in offset) offsets };
+    window = record {
+      count = count;
+      offsets = flatMap (λ (x : ℤ). let offset : List ℤ = x ∷ pos 0 ∷ pos 0 ∷ pos 0 ∷ [] in offset) offsets;
+    };
     bounds = b;
     capacities = capacities;
     order = o;
@@ -59,10 +69,13 @@ valued g count offsets b capacities o k chain request = record {
 }
 
 -- With an order, whose line stood or did not; with bounds, likewise; and without both.
-abbrev ordered : (stood : Bool) → Grid → (count : ℕ) (offsets : List ℤ) (capacities filters : List ℕ) → Kernel → (chain request : ℕ) → Case
-ordered stood g count offsets capacities filters k chain request = valued g count offsets noBounds capacities (record { stood = stood; filters = filters }) k chain request
+abbrev ordered : (stood : Bool) → Grid → (count : ℕ) (offsets : List ℤ) (capacities filters : List ℕ) → Kernel
+    → (chain request : ℕ) → Case
+ordered stood g count offsets capacities filters k chain request = valued g count offsets noBounds capacities
+    (record { stood = stood; filters = filters }) k chain request
 
-abbrev bounded : (stood : Bool) (lowest highest : List ℤ) → Grid → (count : ℕ) (offsets : List ℤ) (capacities : List ℕ) → Kernel → (chain request : ℕ) → Case
+abbrev bounded : (stood : Bool) (lowest highest : List ℤ) → Grid → (count : ℕ) (offsets : List ℤ) (capacities : List ℕ)
+    → Kernel → (chain request : ℕ) → Case
 bounded stood lowest highest g count offsets capacities k chain request =
     valued g count offsets (record { stood = stood; lowest = lowest; highest = highest }) capacities noOrder k chain request
 
@@ -142,14 +155,16 @@ cases =
     -- 15: on 5 cells the offsets 3 and 0 have the iterations 0 and 1: both, and one of them
     ∷ bounded true (pos 0 ∷ []) (pos 1 ∷ []) (line 5) 2 (pos 3 ∷ pos 0 ∷ []) (3 ∷ []) kernel.Raw 0 0
     ∷ bounded true (pos 1 ∷ []) (pos 1 ∷ []) (line 5) 2 (pos 3 ∷ pos 0 ∷ []) (3 ∷ []) kernel.Raw 0 0
-    -- "a lowest above its highest"; "an iteration of the box that reads outside the grid": behind the last, before the first, and a box without any iteration
+    -- "a lowest above its highest"; "an iteration of the box that reads outside the grid": behind the last, before the first,
+    -- and a box without any iteration
     ∷ bounded true (pos 1 ∷ []) (pos 0 ∷ []) (line 5) 2 (pos 3 ∷ pos 0 ∷ []) (3 ∷ []) kernel.Raw 15 15
     ∷ bounded true (pos 0 ∷ []) (pos 2 ∷ []) (line 5) 2 (pos 3 ∷ pos 0 ∷ []) (3 ∷ []) kernel.Raw 15 15
     ∷ bounded true (negsuc 0 ∷ []) (pos 1 ∷ []) (line 5) 2 (pos 3 ∷ pos 0 ∷ []) (3 ∷ []) kernel.Raw 15 15
     ∷ bounded true (pos 7 ∷ []) (pos 9 ∷ []) (line 5) 2 (pos 3 ∷ pos 0 ∷ []) (3 ∷ []) kernel.Raw 15 15
     -- in one dimension of two, the second
     ∷ bounded true (pos 0 ∷ pos 0 ∷ []) (pos 1 ∷ pos 3 ∷ []) (grid 2 (5 ∷ 4 ∷ [])) 2 (pos 3 ∷ pos 0 ∷ []) (12 ∷ []) kernel.Raw 0 0
-    ∷ bounded true (pos 0 ∷ pos 0 ∷ []) (pos 1 ∷ pos 4 ∷ []) (grid 2 (5 ∷ 4 ∷ [])) 2 (pos 3 ∷ pos 0 ∷ []) (12 ∷ []) kernel.Raw 15 15
+    ∷ bounded true (pos 0 ∷ pos 0 ∷ []) (pos 1 ∷ pos 4 ∷ []) (grid 2 (5 ∷ 4 ∷ [])) 2 (pos 3 ∷ pos 0 ∷ []) (12 ∷ []) kernel.Raw
+    15 15
     -- "4 bytes each, signed": the least and the greatest number
     ∷ bounded true (negsuc 2147483647 ∷ []) (negsuc 2147483647 ∷ []) (line 5) 2 (pos 3 ∷ pos 0 ∷ []) (3 ∷ []) kernel.Raw 15 15
     ∷ bounded true (pos 2147483647 ∷ []) (pos 2147483647 ∷ []) (line 5) 2 (pos 3 ∷ pos 0 ∷ []) (3 ∷ []) kernel.Raw 15 15
@@ -166,9 +181,13 @@ cases =
     ∷ []
 
 pub table : map answered cases ≡ map expected cases
-unfolding answered expected cases flatMap ofBits tabulate sum product greatest all any someBelow same above plus equal before isZero
-    rectangular.cellCount cellCount place natural position cellPlace cellAt firstEntry otherEntries leastFrom least lows extent extents indices count vector allIterations rectangular.inside inside isIteration indexCount widths boxShape boxCourse course crossed readsOutside badBox positionOf courseOf iterationOf readsOf firsts distanceIn distanceOf
+unfolding answered expected cases flatMap ofBits tabulate sum product greatest all any someBelow same above plus equal before
+    isZero
+    rectangular.cellCount cellCount place natural position cellPlace cellAt firstEntry otherEntries leastFrom least lows
+    extent extents indices count vector allIterations rectangular.inside inside isIteration indexCount widths boxShape
+    boxCourse course crossed readsOutside badBox positionOf courseOf iterationOf readsOf firsts distanceIn distanceOf
     sizesOf groundOf dimsOf offsetOf offsetsOf partOf capacitiesOf orderOf trimmed numberOf verdictNumber firstOf
-    badDims badSizes badGrid badCount repeats noIteration needsCentre lacksCentre notFinite badFactor tooLarge twice badOrder windowChecks kernelChecks chainChecks valueChecks judged judgeChain
+    badDims badSizes badGrid badCount repeats noIteration needsCentre lacksCentre notFinite badFactor tooLarge twice badOrder
+    windowChecks kernelChecks chainChecks valueChecks judged judgeChain
     insert falling whichOf authorsOrder sorted distances trimmedRequest judgeRequest
 table = refl

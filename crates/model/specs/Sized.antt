@@ -19,7 +19,8 @@ abbrev pub Bounded : (dims : ℕ) → Part → Type 0
 Bounded dims whole = Unit {0}
 Bounded dims (box lowest highest) = (length lowest ≡ dims) × (length highest ≡ dims)
 
--- What the laws of iterations ask of a window and a box on a ground: offsets and a box that fit it, an offset, and a box, if there is one, that 15 does not turn back.
+-- What the laws of iterations ask of a window and a box on a ground: offsets and a box that fit it, an offset, and a box, if
+-- there is one, that 15 does not turn back.
 pub record Suits (g : Ground) (offsets : List (List ℤ)) (p : Part) : Type 0 where
   pub some : 0 < length offsets
   pub entries : Sized (dims g) offsets

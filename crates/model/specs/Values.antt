@@ -1,4 +1,5 @@
--- What of a grid, a window, a request and a chain handed over as a value plays a part: "entries past its counts play no part, and chains that differ only there are the same".
+-- What of a grid, a window, a request and a chain handed over as a value plays a part: "entries past its counts play no part,
+-- and chains that differ only there are the same".
 use Prim.Native.Nat.{ℕ, _+_, _-_, _*_, _/_, _%_}
 use mathlib.Core.Bool.{Bool, true, false, cond}
 use mathlib.Core.List.{List, []}
@@ -23,7 +24,8 @@ use Rattle.model.specs.declared.Chain.{Chain}
 unfoldable pub sizesOf : Grid → List ℕ
 sizesOf g = tabulate (g .dims) (λ d. getD (g .sizes) d 0)
 
--- Rows that are lent beside a value, so many of them: row i's start is number 2 i and its length number 2 i + 1; where there are too few numbers, a row has no cells.
+-- Rows that are lent beside a value, so many of them: row i's start is number 2 i and its length number 2 i + 1; where there
+-- are too few numbers, a row has no cells.
 unfoldable pub rowsOf : (count : ℕ) → List ℕ → List Row
 rowsOf count rows = tabulate count (λ i. record { start = getD rows (2 * i) 0; length = getD rows (2 * i + 1) 0 })
 
@@ -51,13 +53,15 @@ capacityOf c k = getD (c .capacities) k 0
 unfoldable pub capacitiesOf : Chain → List ℕ
 capacitiesOf c = tabulate (c .window .count - 1) (λ k. capacityOf c k)
 
--- The author's order where there are n filters: the filter of each term in turn; none where its line did not stand: "A part of the record whose line is absent plays no part."
+-- The author's order where there are n filters: the filter of each term in turn; none where its line did not stand: "A part
+-- of the record whose line is absent plays no part."
 unfoldable pub orderOf : ℕ → Order → List ℕ
 orderOf n o = cond (o .stood) (tabulate n (λ t. getD (o .filters) t 0)) []
 
 -- Which iterations a run covers, in so many dimensions: those of the box; all, where its line did not stand.
 unfoldable pub partOf : ℕ → Bounds → Part
-partOf dims b = cond (b .stood) (box (tabulate dims (λ d. getD (b .lowest) d (pos 0))) (tabulate dims (λ d. getD (b .highest) d (pos 0)))) whole
+partOf dims b = cond (b .stood)
+    (box (tabulate dims (λ d. getD (b .lowest) d (pos 0))) (tabulate dims (λ d. getD (b .highest) d (pos 0)))) whole
 
 -- A request or a chain without the entries past its counts and without an absent part: all of it that plays a part.
 pub record Trimmed : Type 0 where
@@ -72,7 +76,8 @@ pub record Trimmed : Type 0 where
   pub kernel : Kernel
 
 -- A grid, a window, bounds, capacities, an order, which stood or did not, and a kernel: what of them plays a part.
-abbrev pub trimmedOf : Grid → (rows : List ℕ) → Window → Bounds → (capacities : List ℕ) → (ordered : Bool) (order : List ℕ) → Kernel → Trimmed
+abbrev pub trimmedOf : Grid → (rows : List ℕ) → Window → Bounds → (capacities : List ℕ) → (ordered : Bool) (order : List ℕ)
+    → Kernel → Trimmed
 trimmedOf g rows w b capacities ordered order k = record {
   dims = dimsOf g;
   ground = groundOf g rows;
@@ -86,7 +91,8 @@ trimmedOf g rows w b capacities ordered order k = record {
 }
 
 unfoldable pub trimmed : Chain → (rows : List ℕ) → Trimmed
-trimmed c rows = trimmedOf (c .grid) rows (c .window) (c .bounds) (capacitiesOf c) (c .order .stood) (orderOf (c .window .count) (c .order)) (c .kernel)
+trimmed c rows = trimmedOf (c .grid) rows (c .window) (c .bounds) (capacitiesOf c) (c .order .stood)
+    (orderOf (c .window .count) (c .order)) (c .kernel)
 
 -- Two chains, each with its rows, are the same.
 abbrev pub Same : Chain → (rows : List ℕ) → Chain → (rows : List ℕ) → Type 0
@@ -153,7 +159,12 @@ gridOf dims (rectangle sizes) = record { skewed = false; rows = 0; dims = dims; 
 gridOf dims (skewed rs) = record { skewed = true; rows = length rs; dims = dims; sizes = sizeArray [] }
 
 abbrev pub normalGrid : Grid → Grid
-normalGrid g = record { skewed = g .skewed; rows = cond (g .skewed) (g .rows) 0; dims = dimsOf g; sizes = sizeArray (cond (g .skewed) [] (sizesOf g)) }
+normalGrid g = record {
+  skewed = g .skewed;
+  rows = cond (g .skewed) (g .rows) 0;
+  dims = dimsOf g;
+  sizes = sizeArray (cond (g .skewed) [] (sizesOf g));
+}
 
 -- The chain of which this plays a part, with 0 past its counts: a chain's normal form. Its rows are lent beside it.
 unfoldable pub chainOf : Trimmed → Chain
@@ -198,19 +209,61 @@ requestOf c = record { grid = c .grid; window = c .window; bounds = c .bounds; k
 
 -- A chain with one field set.
 abbrev pub setGrid : Grid → Chain → Chain
-setGrid g c = record { grid = g; window = c .window; bounds = c .bounds; capacities = c .capacities; order = c .order; kernel = c .kernel }
+setGrid g c = record {
+  grid = g;
+  window = c .window;
+  bounds = c .bounds;
+  capacities = c .capacities;
+  order = c .order;
+  kernel = c .kernel;
+}
 
 abbrev pub setWindow : Window → Chain → Chain
-setWindow w c = record { grid = c .grid; window = w; bounds = c .bounds; capacities = c .capacities; order = c .order; kernel = c .kernel }
+setWindow w c = record {
+  grid = c .grid;
+  window = w;
+  bounds = c .bounds;
+  capacities = c .capacities;
+  order = c .order;
+  kernel = c .kernel;
+}
 
 abbrev pub setBounds : Bounds → Chain → Chain
-setBounds b c = record { grid = c .grid; window = c .window; bounds = b; capacities = c .capacities; order = c .order; kernel = c .kernel }
+setBounds b c = record {
+  grid = c .grid;
+  window = c .window;
+  bounds = b;
+  capacities = c .capacities;
+  order = c .order;
+  kernel = c .kernel;
+}
 
 abbrev pub setCapacities : List ℕ → Chain → Chain
-setCapacities xs c = record { grid = c .grid; window = c .window; bounds = c .bounds; capacities = xs; order = c .order; kernel = c .kernel }
+setCapacities xs c = record {
+  grid = c .grid;
+  window = c .window;
+  bounds = c .bounds;
+  capacities = xs;
+  order = c .order;
+  kernel = c .kernel;
+}
 
 abbrev pub setOrder : Order → Chain → Chain
-setOrder o c = record { grid = c .grid; window = c .window; bounds = c .bounds; capacities = c .capacities; order = o; kernel = c .kernel }
+setOrder o c = record {
+  grid = c .grid;
+  window = c .window;
+  bounds = c .bounds;
+  capacities = c .capacities;
+  order = o;
+  kernel = c .kernel;
+}
 
 abbrev pub setKernel : Kernel → Chain → Chain
-setKernel k c = record { grid = c .grid; window = c .window; bounds = c .bounds; capacities = c .capacities; order = c .order; kernel = k }
+setKernel k c = record {
+  grid = c .grid;
+  window = c .window;
+  bounds = c .bounds;
+  capacities = c .capacities;
+  order = c .order;
+  kernel = k;
+}

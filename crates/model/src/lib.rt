@@ -6,7 +6,8 @@ pub struct CellsPassed(pub u32);
 // Firings made: the output counter, one for all filters.
 pub struct FiringsMade(pub u32);
 
-// A grid: a rectangle by its first `dims` sizes, slowest dimension first; where it is skewed, `rows` rows, which are lent beside it, each by its start and its length.
+// A grid: a rectangle by its first `dims` sizes, slowest dimension first; where it is skewed, `rows` rows, which are lent
+// beside it, each by its start and its length.
 pub struct Grid {
     pub skewed: bool,
     pub rows: u32,
@@ -36,7 +37,8 @@ pub enum Kernel {
     Blend(Factors),
 }
 
-// A smaller box: whether its line stood, and where it did, in each of the grid's dimensions the lowest and the highest index of the iterations.
+// A smaller box: whether its line stood, and where it did, in each of the grid's dimensions the lowest and the highest index
+// of the iterations.
 pub struct Bounds {
     pub stood: bool,
     pub lowest: [i32; 4],
@@ -51,7 +53,8 @@ pub struct Request {
     pub kernel: Kernel,
 }
 
-// The author's order of terms: whether its line stood, and where it did, filters[t] is the filter that holds the author's reference t.
+// The author's order of terms: whether its line stood, and where it did, filters[t] is the filter that holds the author's
+// reference t.
 pub struct Order {
     pub stood: bool,
     pub filters: [u8; 32],
@@ -96,6 +99,18 @@ pub const STALLED_BYTE: u8 = 1;
 
 pub const STARVED_BYTE: u8 = 2;
 
+// The most cells of a grid, references of a window, rows of a skewed grid, and places of all FIFOs together.
+pub const MOST_CELLS: usize = 1048576;
+
+pub const MOST_REFERENCES: u8 = 32;
+
+pub const MOST_ROWS: u32 = 512;
+
+pub const MOST_PLACES: usize = 16384;
+
+// A start and a length of each of the most rows.
+pub const ROW_NUMBERS: usize = 2 * MOST_ROWS as usize;
+
 // Why input is turned back, from number 1 to 16.
 pub enum Refusal {
     Malformed,
@@ -122,7 +137,8 @@ pub enum Verdict {
     Refused(Refusal),
 }
 
-// What the three steps of planning give (document 003, section 3.3), of a grid, a window and a box that 3 to 6 and 15 let pass; where one of these refuses, there is no reference, and the numbers are 0.
+// What the three steps of planning give (document 003, section 3.3), of a grid, a window and a box that 3 to 6 and 15 let
+// pass; where one of these refuses, there is no reference, and the numbers are 0.
 pub struct Steps {
     pub verdict: Verdict,
     // The offsets sorted, and for each of the author's references the filter that holds it.
@@ -156,8 +172,8 @@ pub struct Ran {
 // How many bytes of a line are kept: no line that is accepted has as many.
 pub const KEPT: usize = 40;
 
-// A line decoded as its characters arrive: the bytes that are kept, 0 past its end; how many it has, counted no further than those; whether
-// every character was a digit; and, where `half`, the digit `high` of a byte that is not whole yet.
+// A line decoded as its characters arrive: the bytes that are kept, 0 past its end; how many it has, counted no further than
+// those; whether every character was a digit; and, where `half`, the digit `high` of a byte that is not whole yet.
 pub struct Frame {
     pub first: [u8; KEPT],
     pub len: usize,
@@ -209,8 +225,8 @@ pub struct Wrote {
     pub bytes: usize,
 }
 
-// Where the reading of a sheet stands as its characters arrive: the verdict on the last line that was read, what was read, and the line that is open, with
-// whether it has a character.
+// Where the reading of a sheet stands as its characters arrive: the verdict on the last line that was read, what was read,
+// and the line that is open, with whether it has a character.
 pub struct Arriving {
     pub verdict: Verdict,
     pub reading: Reading,
@@ -225,12 +241,13 @@ pub struct CellLine {
     pub begun: bool,
 }
 
-// Places of the buffers of the programs (specs/Programs.antt): of each the block of input, of `plan` its text, of `run` the store, cells, output words and text.
+// Places of the buffers of the programs (specs/Programs.antt): of each the block of input, of `plan` its text, of `run` the
+// store, cells, output words and text.
 pub const BLOCK_PLACES: usize = 65536;
 
 pub const PLAN_TEXT_PLACES: usize = 8192;
 
-pub const STORE_PLACES: usize = 16384;
+pub const STORE_PLACES: usize = MOST_PLACES;
 
 pub const CELL_PLACES: usize = 6144;
 

@@ -30,7 +30,8 @@ pub record HoldsFirst (conditions : List Bool) (k : ℕ) : Type 0 where
 abbrev pub NoneHolds : List Bool → Type 0
 NoneHolds conditions = (k : ℕ) → getD conditions k false ≡ false
 
--- Conditions in an order, with their numbers: the verdict answers a number exactly if one of its conditions holds first, and accepts exactly if none holds.
+-- Conditions in an order, with their numbers: the verdict answers a number exactly if one of its conditions holds first, and
+-- accepts exactly if none holds.
 pub record AnswersFirst (rows : List ℕ) (conditions : List Bool) (v : Verdict) : Type 0 where
   pub if-first : (k : ℕ) → HoldsFirst conditions k → verdictNumber v ≡ getD rows k 0
   pub only-first : (x : ℕ) → 0 < x → verdictNumber v ≡ x → (k : ℕ) × HoldsFirst conditions k × (getD rows k 0 ≡ x)
@@ -59,15 +60,24 @@ valueNumbers g = gridNumber g ∷ 4 ∷ 5 ∷ 6 ∷ 15 ∷ 7 ∷ 8 ∷ 9 ∷ 14 
 pub record FirstChecks : Type 0 where
   pub checks : (cs : List Check) → AnswersFirst (numbersOf cs) (conditionsOf cs) (firstOf cs)
   -- "A chain or request handed over as a value is judged by 3 to 9, lowest first"; "14 .. after 9", "15 .. after 6"
-  pub chain : (c : Chain) (rows : List ℕ) → AnswersFirst (valueNumbers (groundOf (c .grid) rows)) (valueConditions (trimmed c rows)) (judgeChain c rows)
-  pub request : (r : Request) (rows : List ℕ) → AnswersFirst (valueNumbers (groundOf (r .grid) rows)) (valueConditions (trimmedRequest r rows)) (judgeRequest r rows)
+  pub chain : (c : Chain) (rows : List ℕ)
+      → AnswersFirst (valueNumbers (groundOf (c .grid) rows)) (valueConditions (trimmed c rows)) (judgeChain c rows)
+  pub request : (r : Request) (rows : List ℕ)
+      → AnswersFirst (valueNumbers (groundOf (r .grid) rows)) (valueConditions (trimmedRequest r rows)) (judgeRequest r rows)
   -- "A run looks at the chain first, then 10, then 11."
   pub run : (t : Trimmed) (s : State) (store : List ℕ)
-      → AnswersFirst (valueNumbers (t .ground) ++ (10 ∷ 11 ∷ [])) (valueConditions t ++ (shortStore t store ∷ badState (layout t) (countersOf (t .count) s) ∷ [])) (judgeRun t s store)
+      → AnswersFirst (valueNumbers (t .ground) ++ (10 ∷ 11 ∷ []))
+      (valueConditions t ++ (shortStore t store ∷ badState (layout t) (countersOf (t .count) s) ∷ []))
+      (judgeRun t s store)
   -- 12 is "looked at last".
   pub write : (c : Chain) (rows : List ℕ) (room : ℕ)
-      → AnswersFirst (valueNumbers (groundOf (c .grid) rows) ++ (12 ∷ [])) (valueConditions (trimmed c rows) ++ (ltb room (length (sheetOf c rows)) ∷ [])) (writeVerdict c rows room)
-  -- A sheet's line: form 1, order 2, a bad count 3 (of rows 16), a wrong length 1, sizes 3, rows 16, a 33rd `02` line 4, a bad name 13; and a line where a cell is wanted: 1, then 2.
+      → AnswersFirst (valueNumbers (groundOf (c .grid) rows) ++ (12 ∷ []))
+      (valueConditions (trimmed c rows) ++ (ltb room (length (sheetOf c rows)) ∷ [])) (writeVerdict c rows room)
+  -- A sheet's line: form 1, order 2, a bad count 3 (of rows 16), a wrong length 1, sizes 3, rows 16, a 33rd `02` line 4, a
+  -- bad name 13; and a line where a cell is wanted: 1, then 2.
   pub line : (chainSheet : Bool) (rows : List ℕ) (r : Reading) (l : Seen)
-      → AnswersFirst (1 ∷ 2 ∷ 3 ∷ 16 ∷ 1 ∷ 3 ∷ 16 ∷ 4 ∷ 13 ∷ []) (conditionsOf (lineChecks chainSheet rows r l)) (lineVerdict chainSheet rows r l)
-  pub cell : (l : Seen) → AnswersFirst (1 ∷ 2 ∷ []) (malformed (l .sound) (l .len) (kindOf l) (secondOf l) ∷ not (eqb (kindOf l) 5) ∷ []) (cellVerdict l)
+      → AnswersFirst (1 ∷ 2 ∷ 3 ∷ 16 ∷ 1 ∷ 3 ∷ 16 ∷ 4 ∷ 13 ∷ []) (conditionsOf (lineChecks chainSheet rows r l))
+      (lineVerdict chainSheet rows r l)
+  pub cell : (l : Seen)
+      → AnswersFirst (1 ∷ 2 ∷ []) (malformed (l .sound) (l .len) (kindOf l) (secondOf l) ∷ not (eqb (kindOf l) 5) ∷ [])
+      (cellVerdict l)

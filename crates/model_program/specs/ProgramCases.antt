@@ -9,14 +9,19 @@ use Rattle.model.specs.Lists.{tabulate, upTo, without, sum, product, greatest, 
 use Rattle.model.specs.Vectors.{same, above, plus, equal, before, isZero}
 use Rattle.model.specs.Geometry.{place, natural, firstEntry, otherEntries, leastFrom, least, lows, extent, extents}
 use Rattle.model.specs.Geometry as rectangular
-use Rattle.model.specs.Grounds.{cellCount, inside, cellPlace, position, cellAt, isIteration, cellsAbove, rowCells, hasColumn, insideRows, rowPlace, rowAt, columnAt}
+use Rattle.model.specs.Grounds.{cellCount, inside, cellPlace, position, cellAt, isIteration, cellsAbove, rowCells, hasColumn}
+use Rattle.model.specs.Grounds.{insideRows, rowPlace, rowAt, columnAt}
 use Rattle.model.specs.Courses.{count, vector, allIterations, smallest, rowsDown, columnsOn, commonStart, commonEnd, commonRow}
 use Rattle.model.specs.Geometry.{indices}
 use Rattle.model.specs.Boxes.{indexCount, widths, boxShape, boxCourse, course, crossed, readsOutside, badBox, equalRows}
-use Rattle.model.specs.Values.{sizesOf, offsetOf, offsetsOf, partOf, capacitiesOf, orderOf, trimmed, boundsOf, chainOf, groundOf, dimsOf, gridOf, rowsOf}
-use Rattle.model.specs.Iterations.{cellsOf, positionOf, courseOf, iterationsOf, iterationOf, readsOf, firsts, distanceIn, distanceOf, firstsFrom}
+use Rattle.model.specs.Values.{sizesOf, offsetOf, offsetsOf, partOf, capacitiesOf, orderOf, trimmed, boundsOf, chainOf}
+use Rattle.model.specs.Values.{groundOf, dimsOf, gridOf, rowsOf}
+use Rattle.model.specs.Iterations.{cellsOf, positionOf, courseOf, iterationsOf, iterationOf, readsOf, firsts, distanceIn}
+use Rattle.model.specs.Iterations.{distanceOf, firstsFrom}
 use Rattle.model.specs.Answers.{numberOf, verdictNumber, firstOf}
-use Rattle.model.specs.Judging.{badDims, badSizes, badGrid, badCount, repeats, noIteration, needsCentre, lacksCentre, notFinite, badFactor, tooLarge, twice, badOrder, windowChecks, kernelChecks, chainChecks, valueChecks, judged, judgeChain, badRow, badRowCount, badRows}
+use Rattle.model.specs.Judging.{badDims, badSizes, badGrid, badCount, repeats, noIteration, needsCentre, lacksCentre}
+use Rattle.model.specs.Judging.{notFinite, badFactor, tooLarge, twice, badOrder, windowChecks, kernelChecks, chainChecks}
+use Rattle.model.specs.Judging.{valueChecks, judged, judgeChain, badRow, badRowCount, badRows}
 use Rattle.model.specs.Steps.{insert, falling, whichOf, authorsOrder, distances, sorted}
 use Rattle.model.specs.Planning.{trimmedRequest, judgeRequest, plannedChain}
 use Rattle.model_run.specs.Kernels.{sumFrom, sumOf, wordsAt, terms, squared, difference, scaled, blend, written, width}
@@ -27,12 +32,17 @@ use Rattle.model_run.specs.Running.{layout, words, clocked, look, call, filters
 use Rattle.model_sheet.specs.Lines.{linesOf}
 use Rattle.model_sheet.specs.Frames.{isDigit, valueOf, digitOf, whole, bytesOf, digitsOf, framed, padded}
 use Rattle.model_sheet.specs.Numbers.{halfAt, halvesOf, wordAt, halfBytes, wordBytes, signed, pattern, signedWord, wordPattern}
-use Rattle.model_sheet.specs.Reading.{badKernel, badForm, malformed, nextInRequest, nextInChain, miscounted, among, misplaced, badLength, sizesIn, lineChecks, lineVerdict, numbersOn, numbersIn, withRows}
+use Rattle.model_sheet.specs.Reading.{badKernel, badForm, malformed, nextInRequest, nextInChain, miscounted, among, misplaced}
+use Rattle.model_sheet.specs.Reading.{badLength, sizesIn, lineChecks, lineVerdict, numbersOn, numbersIn, withRows}
 use Rattle.model_sheet.specs.NamedWindows.{windows, isName, namedOf, badName, withReferences, windowNamed}
-use Rattle.model_sheet.specs.Reading.{withGrid, entriesIn, withOffset, withName, lowestIn, highestIn, withBox, withCapacity, filtersIn, withOrder, kernelIn, withKernel, taken, stepOf, closes, complete, readLines, endVerdict}
+use Rattle.model_sheet.specs.Reading.{withGrid, entriesIn, withOffset, withName, lowestIn, highestIn, withBox, withCapacity}
+use Rattle.model_sheet.specs.Reading.{filtersIn, withOrder, kernelIn, withKernel, taken, stepOf, closes, complete, readLines}
+use Rattle.model_sheet.specs.Reading.{endVerdict}
 use Rattle.model_sheet.specs.Reading.{readRequest, cellVerdict}
-use Rattle.model_sheet.specs.Writing.{groundLine, offsetLine, indexPair, boxLines, capacityLine, orderLines, kernelLine, chainLines, sheetOf}
-use Rattle.model_program.specs.Programs.{firingLine, endLine, refusalLine, firingsText, planText, sheetAndBehind, cellsIn, behindCells, wholeRun, runText}
+use Rattle.model_sheet.specs.Writing.{groundLine, offsetLine, indexPair, boxLines, capacityLine, orderLines, kernelLine}
+use Rattle.model_sheet.specs.Writing.{chainLines, sheetOf}
+use Rattle.model_program.specs.Programs.{firingLine, endLine, refusalLine, firingsText, planText, sheetAndBehind}
+use Rattle.model_program.specs.Programs.{cellsIn, behindCells, wholeRun, runText}
 use Rattle.model_sheet.specs.SheetCases.{bytesIn, five, plane, printed, sameBytes}
 
 -- What stands on standard input, and what is written.
@@ -55,7 +65,8 @@ plans =
     -- document 01's listing, which "gains `060100`"; one reference; three, whose order is not its own inverse
     listing (five ++ "020000\n020003\n0400\n") (five ++ "020003\n020000\n0300000003\n060100\n0400\n")
     ∷ listing (five ++ "020000\n0400\n") (five ++ "020000\n0600\n0400\n")
-    ∷ listing (five ++ "020000\n020002\n020001\n0400\n") (five ++ "020002\n020001\n020000\n0300000001\n0300000001\n06020001\n0400\n")
+    ∷ listing (five ++ "020000\n020002\n020001\n0400\n")
+    (five ++ "020002\n020001\n020000\n0300000001\n0300000001\n06020001\n0400\n")
     ∷ listing "" "1F02\n"
     ∷ listing (five ++ "020000\n020000\n0400\n") "1F05\n"
     -- rows: the largest distance; 16
@@ -69,7 +80,8 @@ plans =
     -- a box is copied as it is written, also the full one; 15
     ∷ listing (plane ++ "0701\n0800000001000000010000000200000003\n0400\n")
     (plane ++ "0200010000\n0200000001\n0200000000\n020000FFFF\n02FFFF0000\n0800000001000000010000000200000003\n0300000004\n0300000001\n0300000001\n0300000004\n060001020304\n0400\n")
-    ∷ listing (five ++ "020000\n020003\n080000000000000001\n0400\n") (five ++ "020003\n020000\n080000000000000001\n0300000003\n060100\n0400\n")
+    ∷ listing (five ++ "020000\n020003\n080000000000000001\n0400\n")
+    (five ++ "020003\n020000\n080000000000000001\n0300000003\n060100\n0400\n")
     ∷ listing (five ++ "020000\n020003\n080000000000000002\n0400\n") "1F0F\n"
     ∷ []
 
@@ -125,7 +137,8 @@ runs =
     ∷ listing "" "1F02\n"
     ∷ listing (five ++ "020000\n020003\n0400\n") "1F02\n"
     ∷ listing (five ++ "020000\n020000\n0300000001\n0400\nx") "1F05\n"
-    -- difference: the squares 1, 1 and 2^24 in chain order; 2^24, 1 and 1 in the author's, with the centre first; 1, 1 and 2^24 with the centre last
+    -- difference: the squares 1, 1 and 2^24 in chain order; 2^24, 1 and 1 in the author's, with the centre first; 1, 1 and
+    -- 2^24 with the centre last
     ∷ listing (squares ++ "0401\n" ++ apart) "10000000004B800001\n110000000004\n"
     ∷ listing (squares ++ "0603020001\n0401\n" ++ apart) "10000000004B800000\n110000000004\n"
     ∷ listing (squares ++ "0601000203\n0401\n" ++ apart) "10000000004B800001\n110000000004\n"
@@ -134,11 +147,13 @@ runs =
     ∷ listing (squares ++ "0603000103\n0400\nx") "1F0E\n"
     ∷ listing (printed ++ "0600\n") "1F02\n"
     -- a box: its iteration 1 alone, which is number 0 of the run; and iteration 0, after which no cell is looked at
-    ∷ listing (boxed ++ "080000000100000001\n0300000003\n0400\n" ++ four ++ "0500000005\n") "10000000000000000500000002\n110000000005\n"
+    ∷ listing (boxed ++ "080000000100000001\n0300000003\n0400\n" ++ four ++ "0500000005\n")
+    "10000000000000000500000002\n110000000005\n"
     ∷ listing (boxed ++ "080000000000000000\n0300000003\n0400\n" ++ four ++ "x") (firing ++ "110000000004\n")
     ∷ listing (boxed ++ "080000000100000002\n0300000003\n0400\nx") "1F0F\n"
     -- rows: firings in clocks 2 and 4, 5 clocks over 4 cells; a capacity too short
-    ∷ listing (tapered ++ "0200000000\n02FFFF0000\n0300000002\n0400\n" ++ four) "10000000000000000300000001\n10000000010000000400000003\n110000000005\n"
+    ∷ listing (tapered ++ "0200000000\n02FFFF0000\n0300000002\n0400\n" ++ four)
+    "10000000000000000300000001\n10000000010000000400000003\n110000000005\n"
     ∷ listing (slanted ++ "0200000000\n02FFFF0000\n0300000001\n0400\n" ++ four) "10000000000000000200000001\n110100000002\n"
     -- a sum of no terms
     ∷ listing "010100000001\n020000\n0401\n05FFFFFFFF\n" "100000000000000000\n110000000001\n"
@@ -153,16 +168,26 @@ runRight l = sameBytes (runText (bytesIn (l .input))) (bytesIn (l .output))
 pub table : (all planRight plans && all runRight runs) ≡ true
 unfolding bytesIn plans runs sameBytes planRight runRight flatMap ofBits toBits add sub mul
     tabulate upTo without sum product greatest all any someBelow same above plus equal before isZero
-    cellsAbove rowCells hasColumn insideRows rowPlace rowAt columnAt smallest rowsDown columnsOn commonStart commonEnd commonRow equalRows firstsFrom rectangular.cellCount cellCount place natural position cellPlace cellAt firstEntry otherEntries leastFrom least lows extent extents indices count vector allIterations rectangular.inside inside isIteration indexCount widths boxShape boxCourse course crossed readsOutside badBox cellsOf positionOf courseOf iterationsOf iterationOf readsOf firsts distanceIn distanceOf
-    sizesOf rowsOf groundOf dimsOf offsetOf offsetsOf partOf capacitiesOf orderOf chainOf gridOf boundsOf numberOf verdictNumber firstOf
-    badDims badSizes badGrid badRow badRowCount badRows badCount repeats noIteration needsCentre lacksCentre notFinite badFactor tooLarge twice badOrder windowChecks kernelChecks chainChecks valueChecks judged judgeChain
+    cellsAbove rowCells hasColumn insideRows rowPlace rowAt columnAt smallest rowsDown columnsOn commonStart commonEnd
+    commonRow equalRows firstsFrom rectangular.cellCount cellCount place natural position cellPlace cellAt firstEntry
+    otherEntries leastFrom least lows extent extents indices count vector allIterations rectangular.inside inside
+    isIteration indexCount widths boxShape boxCourse course crossed readsOutside badBox cellsOf positionOf courseOf
+    iterationsOf iterationOf readsOf firsts distanceIn distanceOf
+    sizesOf rowsOf groundOf dimsOf offsetOf offsetsOf partOf capacitiesOf orderOf chainOf gridOf boundsOf numberOf
+    verdictNumber firstOf
+    badDims badSizes badGrid badRow badRowCount badRows badCount repeats noIteration needsCentre lacksCentre notFinite
+    badFactor tooLarge twice badOrder windowChecks kernelChecks chainChecks valueChecks judged judgeChain
     insert falling whichOf authorsOrder distances trimmedRequest judgeRequest sorted trimmed plannedChain
     sumFrom sumOf centreOf wordsAt terms squared difference scaled blend written width
     fresh ready fires turn limit turns next moves firstPlace placeIn presented stored
     layout words clocked look call filtersOf termsOf writesOf writtenBy widthOf
-    linesOf isDigit valueOf digitOf whole bytesOf digitsOf framed padded halfAt halvesOf wordAt halfBytes wordBytes signed pattern signedWord wordPattern
-    badKernel badForm malformed nextInRequest nextInChain miscounted among misplaced badLength sizesIn numbersOn numbersIn lineChecks lineVerdict
-    windows isName namedOf badName withReferences windowNamed withGrid withRows entriesIn withOffset withName lowestIn highestIn withBox withCapacity filtersIn withOrder kernelIn withKernel taken stepOf closes complete readLines endVerdict readRequest cellVerdict
+    linesOf isDigit valueOf digitOf whole bytesOf digitsOf framed padded halfAt halvesOf wordAt halfBytes wordBytes signed
+    pattern signedWord wordPattern
+    badKernel badForm malformed nextInRequest nextInChain miscounted among misplaced badLength sizesIn numbersOn numbersIn
+    lineChecks lineVerdict
+    windows isName namedOf badName withReferences windowNamed withGrid withRows entriesIn withOffset withName lowestIn
+    highestIn withBox withCapacity filtersIn withOrder kernelIn withKernel taken stepOf closes complete readLines
+    endVerdict readRequest cellVerdict
     groundLine offsetLine indexPair boxLines capacityLine orderLines kernelLine chainLines sheetOf
     firingLine endLine refusalLine firingsText planText sheetAndBehind cellsIn behindCells wholeRun runText
 table = refl

@@ -39,7 +39,8 @@ refusalText x = framed (refusalLine x)
 -- The lines of n firings, the first of which has this index, of `size` words each.
 unfoldable pub firingsText : (size index n : ℕ) → List ℕ → List ℕ
 firingsText size index zero words = []
-firingsText size index (suc n) words = framed (firingLine index (take size words)) ++ firingsText size (suc index) n (drop size words)
+firingsText size index (suc n) words = framed (firingLine index (take size words))
+    ++ firingsText size (suc index) n (drop size words)
 
 -- "`plan` turns a request sheet on standard input into a chain sheet."
 unfoldable pub planText : (input : List ℕ) → List ℕ
@@ -76,8 +77,8 @@ behindCells (l ∷ ls) =
     let further = behindCells ls in
     byVerdict (cellVerdict (seenOf (l .ended) (l .chars))) further verdict.Refused
 
--- How a run ends. "It reads a `05` line only when starved, and stops reading at done or stalled": so a line that is turned back answers only where the run
--- took every cell before it.
+-- How a run ends. "It reads a `05` line only when starved, and stops reading at done or stalled": so a line that is turned
+-- back answers only where the run took every cell before it.
 abbrev pub endText : Ending → (clocks : ℕ) → (behind : Verdict) → List ℕ
 endText Done clocks behind = framed (endLine doneByte clocks)
 endText Stalled clocks behind = framed (endLine stalledByte clocks)
@@ -85,7 +86,8 @@ endText Starved clocks behind = byVerdict behind (framed (endLine starvedByte cl
 endText Spent clocks behind = []
 endText Full clocks behind = []
 
--- A fresh run of an accepted chain over these cells, with places for all firings and as many clocks as a whole run can make, so that it ends neither Spent nor Full.
+-- A fresh run of an accepted chain over these cells, with places for all firings and as many clocks as a whole run can make,
+-- so that it ends neither Spent nor Full.
 unfoldable pub wholeRun : Trimmed → List ℕ → Ended
 wholeRun t cells =
     let L = layout t in
@@ -105,7 +107,8 @@ runText input =
     let t = trimmed chain rows in
     let e = wholeRun t (cellsIn (p .behind)) in
     let done = e .standing .done in
-    let text = firingsText (widthOf t) 0 (done .firings) (e .standing .output) ++ endText (e .ending) (done .clocks) (behindCells (p .behind)) in
+    let text = firingsText (widthOf t) 0 (done .firings) (e .standing .output)
+    ++ endText (e .ending) (done .clocks) (behindCells (p .behind)) in
     byVerdict (endVerdict (p .step) (judgeChain chain rows)) text refusalText
 
 -- No firing writes more words, and no `10` line has more characters.
@@ -115,7 +118,8 @@ mostWords = 32
 abbrev pub longestFiring : ℕ
 longestFiring = 267
 
--- Places of the buffers of the programs: of each the block of input, of `plan` its text, of `run` the store, cells, output words and text.
+-- Places of the buffers of the programs: of each the block of input, of `plan` its text, of `run` the store, cells, output
+-- words and text.
 abbrev pub blockPlaces : ℕ
 blockPlaces = 65536
 

@@ -58,7 +58,8 @@ module _ (t : Trimmed) (stream : ℕ → ℕ) where
   -- The words that the list's calls wrote, in order: of each call, those of its firings.
   unfoldable pub allWords : List Lending → Between → List ℕ
   allWords [] b = []
-  allWords (l ∷ ls) b = take (answerCounts (callRun l b .answer) .firings * widthOf t) (callRun l b .output) ++ allWords ls (after l b)
+  allWords (l ∷ ls) b = take (answerCounts (callRun l b .answer) .firings * widthOf t) (callRun l b .output)
+      ++ allWords ls (after l b)
 
 -- "Clocks and firings made are sums over the list", to which a refused call adds 0.
 unfoldable pub clocksMade : List Run → ℕ
@@ -86,8 +87,8 @@ pub record FiresIn (es : List Bool) (t j : ℕ) : Type 0 where
 pub record Fresh (t : Trimmed) (b : Between) : Type 0 where
   pub counters : countersOf (t .count) (b .state) ≡ fresh (layout t)
 
--- "A call is lent enough if it has all cells not yet taken, places for all firings not yet made, an allowance of at least n times the number of cells and a store
--- that 10 does not refuse."
+-- "A call is lent enough if it has all cells not yet taken, places for all firings not yet made, an allowance of at least n
+-- times the number of cells and a store that 10 does not refuse."
 pub record LentEnough (t : Trimmed) (l : Lending) (b : Between) : Type 0 where
   pub cells : layout t .cells ≤ first (countersOf (t .count) (b .state) .passed) + l .cells
   pub places : (layout t .iterations - countersOf (t .count) (b .state) .fired) * widthOf t ≤ length (l .output)

@@ -14,17 +14,23 @@ use Rattle.model.specs.Grounds.Ground.{rectangle}
 use Rattle.model.specs.Courses.{count, vector, allIterations}
 use Rattle.model.specs.Boxes.{Part, indexCount, widths, boxShape, boxCourse, course, crossed, readsOutside, badBox}
 use Rattle.model.specs.Boxes.Part.{whole, box}
-use Rattle.model.specs.Values.{sizesOf, offsetOf, offsetsOf, partOf, capacitiesOf, orderOf, trimmed, boundsOf, chainOf, requestOf, groundOf, dimsOf, gridOf}
-use Rattle.model.specs.Iterations.{cellsOf, positionOf, courseOf, iterationsOf, iterationOf, readsOf, firsts, distanceIn, distanceOf}
+use Rattle.model.specs.Values.{sizesOf, offsetOf, offsetsOf, partOf, capacitiesOf, orderOf, trimmed, boundsOf, chainOf}
+use Rattle.model.specs.Values.{requestOf, groundOf, dimsOf, gridOf}
+use Rattle.model.specs.Iterations.{cellsOf, positionOf, courseOf, iterationsOf, iterationOf, readsOf, firsts, distanceIn}
+use Rattle.model.specs.Iterations.{distanceOf}
 use Rattle.model.specs.Answers.{numberOf, verdictNumber, outcomeCase, outcomeCounts, answerCounts, answerNumber, firstOf}
-use Rattle.model.specs.Judging.{badDims, badSizes, badGrid, badCount, repeats, noIteration, needsCentre, lacksCentre, notFinite, badFactor, tooLarge, twice, badOrder, windowChecks, kernelChecks, chainChecks, valueChecks, judged}
+use Rattle.model.specs.Judging.{badDims, badSizes, badGrid, badCount, repeats, noIteration, needsCentre, lacksCentre}
+use Rattle.model.specs.Judging.{notFinite, badFactor, tooLarge, twice, badOrder, windowChecks, kernelChecks, chainChecks}
+use Rattle.model.specs.Judging.{valueChecks, judged}
 use Rattle.model.specs.Steps.{insert, falling, whichOf, authorsOrder, distances, sorted}
 use Rattle.model.specs.Planning.{trimmedRequest, judgeRequest, plannedChain, planOf}
 use Rattle.model_run.specs.Kernels.{wordsAt, terms, written, width}
 use Rattle.model.specs.Windows.{centreOf}
 use Rattle.model_run.specs.Clock.{turn, limit, turns, ready, fires, next, moves}
 use Rattle.model_run.specs.Store.{firstPlace, placeIn, presented, stored}
-use Rattle.model_run.specs.Running.{layout, countersOf, withCounters, outcomeOf, words, clocked, look, call, events, shortStore, notPast, badCounter, badFifo, badFilters, badState, judgeRun, begun, filtersOf, termsOf, writesOf, writtenBy, widthOf, ended, runTrimmed, eventsTrimmed}
+use Rattle.model_run.specs.Running.{layout, countersOf, withCounters, outcomeOf, words, clocked, look, call, events}
+use Rattle.model_run.specs.Running.{shortStore, notPast, badCounter, badFifo, badFilters, badState, judgeRun, begun}
+use Rattle.model_run.specs.Running.{filtersOf, termsOf, writesOf, writtenBy, widthOf, ended, runTrimmed, eventsTrimmed}
 use Rattle.model.specs.declared.Chain.{Chain}
 use Rattle.model.specs.declared.State.{State}
 use Rattle.model.specs.declared.Answer.{Answer}
@@ -33,10 +39,12 @@ use Rattle.model.specs.declared.Kernel.the-variants as kernel
 
 -- A row of the table, with raw kernel, and a run that covers all iterations or those of a box.
 pub data Case : Type 0 where
-  -- Planned: the sizes and the offsets; the number, 0 for none, the offsets in the plan's order, the capacities and the author's order.
+  -- Planned: the sizes and the offsets; the number, 0 for none, the offsets in the plan's order, the capacities and the
+  -- author's order.
   plansIn : Part → List ℕ → List (List ℤ) → (number : ℕ) → List (List ℤ) → List ℕ → List ℕ → Case
-  -- Run from a fresh state, lent all cells: the sizes, the offsets and the capacities as they stand; the outcome's place in the list of five, the cells taken, the
-  -- clocks made, the clocks that fire, and the words written, where a cell's word is its position.
+  -- Run from a fresh state, lent all cells: the sizes, the offsets and the capacities as they stand; the outcome's place in
+  -- the list of five, the cells taken, the clocks made, the clocks that fire, and the words written, where a cell's word is
+  -- its position.
   runsIn : Part → List ℕ → List (List ℤ) → List ℕ → (outcome cells clocks : ℕ) → List ℕ → List ℕ → Case
 
 -- Without a box.
@@ -70,13 +78,34 @@ endOf (answer.Refused r) = 5
 -- The raw chain of these sizes, offsets and capacities, without an order.
 abbrev rawChain : Part → List ℕ → List (List ℤ) → List ℕ → Chain
 rawChain part sizes offsets capacities =
-    chainOf (record { dims = length sizes; ground = rectangle sizes; count = length offsets; offsets = offsets; part = part; capacities = capacities; ordered = false; order = []; kernel = kernel.Raw })
+    chainOf (record {
+      dims = length sizes;
+      ground = rectangle sizes;
+      count = length offsets;
+      offsets = offsets;
+      part = part;
+      capacities = capacities;
+      ordered = false;
+      order = [];
+      kernel = kernel.Raw;
+    })
 
 unfoldable pub planned : Part → List ℕ → List (List ℤ) → Result
 planned part sizes offsets =
     let p = planOf (requestOf (rawChain part sizes offsets [])) [] in
     let t = trimmed (p .chain) [] in
-    record { number = verdictNumber (p .verdict); offsets = t .offsets; part = t .part; capacities = t .capacities; order = t .order; outcome = 0; cells = 0; clocks = 0; firing = []; words = [] }
+    record {
+      number = verdictNumber (p .verdict);
+      offsets = t .offsets;
+      part = t .part;
+      capacities = t .capacities;
+      order = t .order;
+      outcome = 0;
+      cells = 0;
+      clocks = 0;
+      firing = [];
+      words = [];
+    }
 
 unfoldable pub start : State
 start = record { passed = replicate 32 (record { 0 = 0 }); fired = record { 0 = 0 } }
@@ -116,9 +145,31 @@ copied (suc n) part = whole
 
 unfoldable pub expected : Case → Result
 expected (plansIn part sizes offsets number arranged capacities order) =
-    record { number = number; offsets = arranged; part = copied number part; capacities = capacities; order = order; outcome = 0; cells = 0; clocks = 0; firing = []; words = [] }
+    record {
+      number = number;
+      offsets = arranged;
+      part = copied number part;
+      capacities = capacities;
+      order = order;
+      outcome = 0;
+      cells = 0;
+      clocks = 0;
+      firing = [];
+      words = [];
+    }
 expected (runsIn part sizes offsets capacities outcome cells clocks firing words) =
-    record { number = 0; offsets = offsets; part = part; capacities = capacities; order = []; outcome = outcome; cells = cells; clocks = clocks; firing = firing; words = words }
+    record {
+      number = 0;
+      offsets = offsets;
+      part = part;
+      capacities = capacities;
+      order = [];
+      outcome = outcome;
+      cells = cells;
+      clocks = clocks;
+      firing = firing;
+      words = words;
+    }
 
 -- The five-point cross: centre and its four neighbours, in falling order.
 unfoldable pub cross : List (List ℤ)
@@ -151,7 +202,8 @@ cases =
     ∷ runs (3 ∷ []) ((pos 1 ∷ []) ∷ (−1 ∷ []) ∷ []) (2 ∷ []) 0 3 3 (2 ∷ []) (2 ∷ 0 ∷ [])
     ∷ plans (2 ∷ []) ((−1 ∷ []) ∷ (pos 1 ∷ []) ∷ []) 6 [] [] []
     -- 11. "Two rows of 5, offsets (0,3) and (1,−1): (1,−1) first, capacity 1. Two rows of 4: refusal 6."
-    ∷ plans (2 ∷ 5 ∷ []) ((pos 0 ∷ pos 3 ∷ []) ∷ (pos 1 ∷ −1 ∷ []) ∷ []) 0 ((pos 1 ∷ −1 ∷ []) ∷ (pos 0 ∷ pos 3 ∷ []) ∷ []) (1 ∷ []) (1 ∷ 0 ∷ [])
+    ∷ plans (2 ∷ 5 ∷ []) ((pos 0 ∷ pos 3 ∷ []) ∷ (pos 1 ∷ −1 ∷ []) ∷ []) 0 ((pos 1 ∷ −1 ∷ []) ∷ (pos 0 ∷ pos 3 ∷ []) ∷ [])
+    (1 ∷ []) (1 ∷ 0 ∷ [])
     ∷ runs (2 ∷ 5 ∷ []) ((pos 1 ∷ −1 ∷ []) ∷ (pos 0 ∷ pos 3 ∷ []) ∷ []) (1 ∷ []) 0 6 6 (5 ∷ []) (5 ∷ 4 ∷ [])
     ∷ plans (2 ∷ 4 ∷ []) ((pos 0 ∷ pos 3 ∷ []) ∷ (pos 1 ∷ −1 ∷ []) ∷ []) 6 [] [] []
     -- 12. "Size 20,000, offsets 0 and 16,384: accepted. 0 and 16,385: refusal 9."
@@ -163,23 +215,42 @@ cases =
     -- The printed example: "`plan` given .. writes these lines", "`run` given that and cells 1 to 5 writes".
     ∷ plans (5 ∷ []) ((pos 0 ∷ []) ∷ (pos 3 ∷ []) ∷ []) 0 ((pos 3 ∷ []) ∷ (pos 0 ∷ []) ∷ []) (3 ∷ []) (1 ∷ 0 ∷ [])
     ∷ runs (5 ∷ []) ((pos 3 ∷ []) ∷ (pos 0 ∷ []) ∷ []) (3 ∷ []) 0 5 5 (3 ∷ 4 ∷ []) (3 ∷ 0 ∷ 4 ∷ 1 ∷ [])
-    -- Document 02, request 2: "the filter number of each term in turn", of three references whose order is not its own inverse; and Listing 1 of document 003, centre, left,
-    -- right, up, down.
-    ∷ plans (5 ∷ []) ((pos 0 ∷ []) ∷ (pos 2 ∷ []) ∷ (pos 1 ∷ []) ∷ []) 0 ((pos 2 ∷ []) ∷ (pos 1 ∷ []) ∷ (pos 0 ∷ []) ∷ []) (1 ∷ 1 ∷ []) (2 ∷ 0 ∷ 1 ∷ [])
-    ∷ plans (4 ∷ 5 ∷ []) ((pos 0 ∷ pos 0 ∷ []) ∷ (pos 0 ∷ −1 ∷ []) ∷ (pos 0 ∷ pos 1 ∷ []) ∷ (−1 ∷ pos 0 ∷ []) ∷ (pos 1 ∷ pos 0 ∷ []) ∷ []) 0 cross (4 ∷ 1 ∷ 1 ∷ 4 ∷ [])
+    -- Document 02, request 2: "the filter number of each term in turn", of three references whose order is not its own
+    -- inverse; and Listing 1 of document 003, centre, left, right, up, down.
+    ∷ plans (5 ∷ []) ((pos 0 ∷ []) ∷ (pos 2 ∷ []) ∷ (pos 1 ∷ []) ∷ []) 0 ((pos 2 ∷ []) ∷ (pos 1 ∷ []) ∷ (pos 0 ∷ []) ∷ [])
+    (1 ∷ 1 ∷ []) (2 ∷ 0 ∷ 1 ∷ [])
+    ∷ plans (4 ∷ 5 ∷ [])
+    ((pos 0 ∷ pos 0 ∷ []) ∷ (pos 0 ∷ −1 ∷ []) ∷ (pos 0 ∷ pos 1 ∷ []) ∷ (−1 ∷ pos 0 ∷ []) ∷ (pos 1 ∷ pos 0 ∷ []) ∷ []) 0
+    cross (4 ∷ 1 ∷ 1 ∷ 4 ∷ [])
     (2 ∷ 3 ∷ 1 ∷ 4 ∷ 0 ∷ [])
     -- Document 02, request 4, on case 6: row 1, columns 2 to 3, and rows 1 to 2, column 3. Planning copies the box.
     ∷ plansIn (rowsAndColumns 1 2 1 3) (4 ∷ 5 ∷ []) crossByRows 0 cross (4 ∷ 1 ∷ 1 ∷ 4 ∷ []) (4 ∷ 3 ∷ 2 ∷ 1 ∷ 0 ∷ [])
-    ∷ runsIn (rowsAndColumns 1 2 1 3) (4 ∷ 5 ∷ []) cross (4 ∷ 1 ∷ 1 ∷ 4 ∷ []) 0 14 14 (12 ∷ 13 ∷ []) (12 ∷ 8 ∷ 7 ∷ 6 ∷ 2 ∷ 13 ∷ 9 ∷ 8 ∷ 7 ∷ 3 ∷ [])
-    ∷ runsIn (rowsAndColumns 1 3 2 3) (4 ∷ 5 ∷ []) cross (4 ∷ 1 ∷ 1 ∷ 4 ∷ []) 0 19 19 (13 ∷ 18 ∷ []) (13 ∷ 9 ∷ 8 ∷ 7 ∷ 3 ∷ 18 ∷ 14 ∷ 13 ∷ 12 ∷ 8 ∷ [])
+    ∷ runsIn (rowsAndColumns 1 2 1 3) (4 ∷ 5 ∷ []) cross (4 ∷ 1 ∷ 1 ∷ 4 ∷ []) 0 14 14 (12 ∷ 13 ∷ [])
+    (12 ∷ 8 ∷ 7 ∷ 6 ∷ 2 ∷ 13 ∷ 9 ∷ 8 ∷ 7 ∷ 3 ∷ [])
+    ∷ runsIn (rowsAndColumns 1 3 2 3) (4 ∷ 5 ∷ []) cross (4 ∷ 1 ∷ 1 ∷ 4 ∷ []) 0 19 19 (13 ∷ 18 ∷ [])
+    (13 ∷ 9 ∷ 8 ∷ 7 ∷ 3 ∷ 18 ∷ 14 ∷ 13 ∷ 12 ∷ 8 ∷ [])
     -- a shorter FIFO stalls there too, before any firing; the full box, written, runs as none, and is copied
     ∷ runsIn (rowsAndColumns 1 2 1 3) (4 ∷ 5 ∷ []) cross (3 ∷ 1 ∷ 1 ∷ 4 ∷ []) 3 11 11 [] []
-    ∷ plansIn (box (pos 0 ∷ []) (pos 1 ∷ [])) (5 ∷ []) ((pos 0 ∷ []) ∷ (pos 3 ∷ []) ∷ []) 0 ((pos 3 ∷ []) ∷ (pos 0 ∷ []) ∷ []) (3 ∷ []) (1 ∷ 0 ∷ [])
-    ∷ runsIn (box (pos 0 ∷ []) (pos 1 ∷ [])) (5 ∷ []) ((pos 3 ∷ []) ∷ (pos 0 ∷ []) ∷ []) (3 ∷ []) 0 5 5 (3 ∷ 4 ∷ []) (3 ∷ 0 ∷ 4 ∷ 1 ∷ [])
+    ∷ plansIn (box (pos 0 ∷ []) (pos 1 ∷ [])) (5 ∷ []) ((pos 0 ∷ []) ∷ (pos 3 ∷ []) ∷ []) 0 ((pos 3 ∷ []) ∷ (pos 0 ∷ []) ∷ [])
+    (3 ∷ []) (1 ∷ 0 ∷ [])
+    ∷ runsIn (box (pos 0 ∷ []) (pos 1 ∷ [])) (5 ∷ []) ((pos 3 ∷ []) ∷ (pos 0 ∷ []) ∷ []) (3 ∷ []) 0 5 5 (3 ∷ 4 ∷ [])
+    (3 ∷ 0 ∷ 4 ∷ 1 ∷ [])
     -- indices are entries of the vector, which may be negative: offsets 1 and 3 on 5 cells have iterations -1, 0 and 1
-    ∷ runsIn (box (−1 ∷ []) (pos 0 ∷ [])) (5 ∷ []) ((pos 3 ∷ []) ∷ (pos 1 ∷ []) ∷ []) (2 ∷ []) 0 4 4 (2 ∷ 3 ∷ []) (2 ∷ 0 ∷ 3 ∷ 1 ∷ [])
+    ∷ runsIn (box (−1 ∷ []) (pos 0 ∷ [])) (5 ∷ []) ((pos 3 ∷ []) ∷ (pos 1 ∷ []) ∷ []) (2 ∷ []) 0 4 4 (2 ∷ 3 ∷ [])
+    (2 ∷ 0 ∷ 3 ∷ 1 ∷ [])
     ∷ []
 
 pub table : map answered cases ≡ map expected cases
-unfolding answered copied expected cases cross crossByRows planned ran start endOf firingClocks tabulate upTo sum product greatest all any someBelow same above plus equal before isZero rectangular.cellCount cellCount place natural position cellPlace cellAt firstEntry otherEntries leastFrom least lows extent extents indices count vector allIterations rectangular.inside inside isIteration indexCount widths boxShape boxCourse course crossed readsOutside badBox cellsOf positionOf courseOf iterationsOf iterationOf readsOf firsts distanceIn distanceOf sizesOf groundOf dimsOf offsetOf offsetsOf partOf capacitiesOf orderOf trimmed chainOf gridOf boundsOf numberOf verdictNumber outcomeCase outcomeCounts answerCounts answerNumber firstOf badDims badSizes badGrid badCount repeats noIteration needsCentre lacksCentre notFinite badFactor tooLarge twice badOrder windowChecks kernelChecks chainChecks valueChecks judged insert falling whichOf authorsOrder distances trimmedRequest judgeRequest sorted plannedChain planOf wordsAt terms written width centreOf turn limit turns ready fires next moves firstPlace placeIn presented stored layout countersOf withCounters outcomeOf words clocked look call events shortStore notPast badCounter badFifo badFilters badState judgeRun begun filtersOf termsOf writesOf writtenBy widthOf ended runTrimmed eventsTrimmed
+unfolding answered copied expected cases cross crossByRows planned ran start endOf firingClocks tabulate upTo sum product
+    greatest all any someBelow same above plus equal before isZero rectangular.cellCount cellCount place natural position
+    cellPlace cellAt firstEntry otherEntries leastFrom least lows extent extents indices count vector allIterations
+    rectangular.inside inside isIteration indexCount widths boxShape boxCourse course crossed readsOutside badBox cellsOf
+    positionOf courseOf iterationsOf iterationOf readsOf firsts distanceIn distanceOf sizesOf groundOf dimsOf offsetOf
+    offsetsOf partOf capacitiesOf orderOf trimmed chainOf gridOf boundsOf numberOf verdictNumber outcomeCase outcomeCounts
+    answerCounts answerNumber firstOf badDims badSizes badGrid badCount repeats noIteration needsCentre lacksCentre notFinite
+    badFactor tooLarge twice badOrder windowChecks kernelChecks chainChecks valueChecks judged insert falling whichOf
+    authorsOrder distances trimmedRequest judgeRequest sorted plannedChain planOf wordsAt terms written width centreOf turn
+    limit turns ready fires next moves firstPlace placeIn presented stored layout countersOf withCounters outcomeOf words
+    clocked look call events shortStore notPast badCounter badFifo badFilters badState judgeRun begun filtersOf termsOf
+    writesOf writtenBy widthOf ended runTrimmed eventsTrimmed
 table = refl

@@ -6,8 +6,8 @@ use lib.Dec.{ltb, eqb}
 use lib.ListN.{replicate}
 use Rattle.model.specs.Lists.{sum}
 
--- A chain as numbers: in iteration j reference k reads position `wants j k`; FIFO k, between filters k and k + 1, has `capacity k` places.
--- Past the last iteration, at j = iterations, `wants j k` stands for `cells`.
+-- A chain as numbers: in iteration j reference k reads position `wants j k`; FIFO k, between filters k and k + 1, has
+-- `capacity k` places. Past the last iteration, at j = iterations, `wants j k` stands for `cells`.
 pub record Layout : Type 0 where
   pub wants : (j k : ℕ) → ℕ
   pub capacity : ℕ → ℕ
@@ -25,8 +25,9 @@ abbrev pub first : List ℕ → ℕ
 first [] = 0
 first (p ∷ ps) = p
 
--- A splitter's turn in a clock without firing. It has passed p cells, so it is presented cell p where p is below `source`, the cells that its source has
--- let through. "one moves if it is presented an unwanted cell and the FIFO behind it has a free place": where p is below `limit`.
+-- A splitter's turn in a clock without firing. It has passed p cells, so it is presented cell p where p is below `source`,
+-- the cells that its source has let through. "one moves if it is presented an unwanted cell and the FIFO behind it has a free
+-- place": where p is below `limit`.
 unfoldable pub turn : (source wanted limit p : ℕ) → ℕ
 turn source wanted limit p = cond (ltb p source && (not (eqb p wanted) && ltb p limit)) (suc p) p
 
@@ -35,8 +36,9 @@ unfoldable pub limit : (capacity : ℕ → ℕ) (k p : ℕ) → List ℕ → ℕ
 limit capacity k p [] = suc p
 limit capacity k p (q ∷ qs) = q + capacity k
 
--- "Otherwise splitters are looked at from last to first": the turns of filter k, which stands at the list's head, and of those behind it, which go first, so that
--- "a place freed earlier in this clock" counts. `source`: what filter k's source has let through at the start of the clock.
+-- "Otherwise splitters are looked at from last to first": the turns of filter k, which stands at the list's head, and of
+-- those behind it, which go first, so that "a place freed earlier in this clock" counts. `source`: what filter k's source has
+-- let through at the start of the clock.
 unfoldable pub turns : (wanted capacity : ℕ → ℕ) (k source : ℕ) → List ℕ → List ℕ
 turns wanted capacity k source [] = []
 turns wanted capacity k source (p ∷ ps) =

@@ -1,4 +1,5 @@
--- What a firing writes, on words whose sums and products round (document 01, "Kernels"): one table, computed. Words are f32 bits, in hexadecimal.
+-- What a firing writes, on words whose sums and products round (document 01, "Kernels"): one table, computed. Words are f32
+-- bits, in hexadecimal.
 use Prim.Native.Nat.{ℕ}
 use mathlib.Core.Bool.{Bool, true, false}
 use mathlib.Core.List.{List, [], _∷_, map}
@@ -17,7 +18,8 @@ use Rattle.model_run.specs.Running.{filtersOf, termsOf, writesOf, writte
 use Rattle.model.specs.declared.Kernel.{Kernel}
 use Rattle.model.specs.declared.Kernel.the-variants as kernel
 
--- A kernel, and a window in one dimension; the author's order, where its line stood; the words that the filters are presented, and what the firing writes.
+-- A kernel, and a window in one dimension; the author's order, where its line stood; the words that the filters are
+-- presented, and what the firing writes.
 pub record Case : Type 0 where
   pub kernel : Kernel
   pub offsets : List ℤ
@@ -27,10 +29,12 @@ pub record Case : Type 0 where
   pub writes : List ℕ
 
 abbrev case : Kernel → List ℤ → (words writes : List ℕ) → Case
-case k offsets words writes = record { kernel = k; offsets = offsets; ordered = false; order = []; words = words; writes = writes }
+case k offsets words writes = record
+    { kernel = k; offsets = offsets; ordered = false; order = []; words = words; writes = writes }
 
 abbrev inOrder : (order : List ℕ) → Kernel → List ℤ → (words writes : List ℕ) → Case
-inOrder order k offsets words writes = record { kernel = k; offsets = offsets; ordered = true; order = order; words = words; writes = writes }
+inOrder order k offsets words writes = record
+    { kernel = k; offsets = offsets; ordered = true; order = order; words = words; writes = writes }
 
 abbrev scaledBy : ℕ → Kernel
 scaledBy f = kernel.Scaled (float f)
@@ -83,12 +87,17 @@ cases =
     ∷ inOrder (2 ∷ 1 ∷ 0 ∷ []) (scaledBy 0x3F800000) three (0x4B800000 ∷ 0x3F800000 ∷ 0x3F800000 ∷ []) (0x4B800001 ∷ [])
     ∷ inOrder (2 ∷ 0 ∷ 1 ∷ []) (scaledBy 0x3F800000) three (0x3F800000 ∷ 0x3F800000 ∷ 0x4B800000 ∷ []) (0x4B800000 ∷ [])
     -- "raw outputs keep chain order"
-    ∷ inOrder (2 ∷ 0 ∷ 1 ∷ []) kernel.Raw three (0x3F800000 ∷ 0x40400000 ∷ 0x40800000 ∷ []) (0x3F800000 ∷ 0x40400000 ∷ 0x40800000 ∷ [])
+    ∷ inOrder (2 ∷ 0 ∷ 1 ∷ []) kernel.Raw three (0x3F800000 ∷ 0x40400000 ∷ 0x40800000 ∷ [])
+    (0x3F800000 ∷ 0x40400000 ∷ 0x40800000 ∷ [])
     -- the centre, first, last or between, is passed over: 2^24 and twice 1, as squares and as words
-    ∷ inOrder (1 ∷ 0 ∷ 2 ∷ 3 ∷ []) kernel.Difference four (0x45800000 ∷ 0x00000000 ∷ 0x3F800000 ∷ 0x3F800000 ∷ []) (0x4B800000 ∷ [])
-    ∷ inOrder (2 ∷ 3 ∷ 0 ∷ 1 ∷ []) kernel.Difference four (0x45800000 ∷ 0x00000000 ∷ 0x3F800000 ∷ 0x3F800000 ∷ []) (0x4B800001 ∷ [])
-    ∷ inOrder (3 ∷ 1 ∷ 2 ∷ 0 ∷ []) (blendBy 0x3F800000 0x3F800000) four (0x4B800000 ∷ 0x00000000 ∷ 0x3F800000 ∷ 0x3F800000 ∷ []) (0x4B800001 ∷ [])
-    ∷ inOrder (0 ∷ 3 ∷ 2 ∷ 1 ∷ []) (blendBy 0x3F800000 0x3F800000) four (0x4B800000 ∷ 0x00000000 ∷ 0x3F800000 ∷ 0x3F800000 ∷ []) (0x4B800000 ∷ [])
+    ∷ inOrder (1 ∷ 0 ∷ 2 ∷ 3 ∷ []) kernel.Difference four (0x45800000 ∷ 0x00000000 ∷ 0x3F800000 ∷ 0x3F800000 ∷ [])
+    (0x4B800000 ∷ [])
+    ∷ inOrder (2 ∷ 3 ∷ 0 ∷ 1 ∷ []) kernel.Difference four (0x45800000 ∷ 0x00000000 ∷ 0x3F800000 ∷ 0x3F800000 ∷ [])
+    (0x4B800001 ∷ [])
+    ∷ inOrder (3 ∷ 1 ∷ 2 ∷ 0 ∷ []) (blendBy 0x3F800000 0x3F800000) four
+    (0x4B800000 ∷ 0x00000000 ∷ 0x3F800000 ∷ 0x3F800000 ∷ []) (0x4B800001 ∷ [])
+    ∷ inOrder (0 ∷ 3 ∷ 2 ∷ 1 ∷ []) (blendBy 0x3F800000 0x3F800000) four
+    (0x4B800000 ∷ 0x00000000 ∷ 0x3F800000 ∷ 0x3F800000 ∷ []) (0x4B800000 ∷ [])
     -- "the sum of all references times a factor": half of the least subnormal is 0, half of twice it is not
     ∷ case (scaledBy 0x3F000000) two (0x00000001 ∷ 0x00000001 ∷ []) (0x00000001 ∷ [])
     -- "A result that is not a number is written as 7FC00000": the greatest number twice is infinite, and 0 times that is none
@@ -100,7 +109,8 @@ cases =
     ∷ case (blendBy 0x3F800800 0x3F800000) two (0xBF801000 ∷ 0x3F800800 ∷ []) (0x00000000 ∷ [])
     -- "a times the centre plus b times the sum of the others": 2 × 3 + 10 × (1 + 4)
     ∷ case (blendBy 0x40000000 0x41200000) three (0x3F800000 ∷ 0x40400000 ∷ 0x40800000 ∷ []) (0x42600000 ∷ [])
-    -- "the squares of centre less each other reference": the centre's own term, infinity less itself, is left out; (3 − 1)² + (3 − 4)²
+    -- "the squares of centre less each other reference": the centre's own term, infinity less itself, is left out; (3 − 1)² +
+    -- (3 − 4)²
     ∷ case kernel.Difference two (0x3F800000 ∷ 0x7F800000 ∷ []) (0x7F800000 ∷ [])
     ∷ case kernel.Difference three (0x3F800000 ∷ 0x40400000 ∷ 0x40800000 ∷ []) (0x40A00000 ∷ [])
     -- of a centre alone, whatever it is
@@ -109,5 +119,6 @@ cases =
 
 pub table : map answered cases ≡ map expected cases
 unfolding answered expected cases ofBits toBits add sub mul
-    tabulate upTo without same isZero sumFrom sumOf centreOf wordsAt terms squared difference scaled blend written filtersOf termsOf writesOf writtenBy
+    tabulate upTo without same isZero sumFrom sumOf centreOf wordsAt terms squared difference scaled blend written filtersOf
+    termsOf writesOf writtenBy
 table = refl

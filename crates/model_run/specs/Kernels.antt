@@ -1,4 +1,5 @@
--- The kernels on words (document 01, "Kernels"). "Arithmetic is f32, each operation rounded once"; `toBits` writes what is not a number as 7FC00000.
+-- The kernels on words (document 01, "Kernels"). "Arithmetic is f32, each operation rounded once"; `toBits` writes what is
+-- not a number as 7FC00000.
 use Prim.Native.Nat.{ℕ}
 use mathlib.Core.List.{List, [], _∷_, map}
 use mathlib.Core.Path.{_≡_, refl}
@@ -28,7 +29,8 @@ sumOf (x ∷ xs) = sumFrom x xs
 unfoldable pub wordsAt : (filters : List ℕ) → List ℕ → List ℕ
 wordsAt ks ws = map (λ k. getD ws k 0) ks
 
--- The filters whose words a kernel adds, of filters that stand in some order: difference and blend add "the others", scaled "all references"; raw adds nothing.
+-- The filters whose words a kernel adds, of filters that stand in some order: difference and blend add "the others", scaled
+-- "all references"; raw adds nothing.
 unfoldable pub terms : Kernel → (centre : ℕ) → List ℕ → List ℕ
 terms kernel.Raw c ks = []
 terms kernel.Difference c ks = without c ks
@@ -39,7 +41,8 @@ terms (kernel.Blend g) c ks = without c ks
 unfoldable pub squared : (centre other : ℕ) → Float
 squared c w = let d = sub binary32 (float c) (float w) in mul binary32 d d
 
--- What a firing writes: `centre` is the centre's number, `terms` are the filters whose words are added, in their order, `ws` the cells' words in chain order.
+-- What a firing writes: `centre` is the centre's number, `terms` are the filters whose words are added, in their order, `ws`
+-- the cells' words in chain order.
 unfoldable pub difference : (centre : ℕ) (terms : List ℕ) → List ℕ → ℕ
 difference c ks ws = word (sumOf (map (λ w. squared (getD ws c 0) w) (wordsAt ks ws)))
 
@@ -47,7 +50,8 @@ unfoldable pub scaled : Float → (terms : List ℕ) → List ℕ → ℕ
 scaled f ks ws = word (mul binary32 (sumOf (map float (wordsAt ks ws))) f)
 
 unfoldable pub blend : Factors → (centre : ℕ) (terms : List ℕ) → List ℕ → ℕ
-blend g c ks ws = word (add binary32 (mul binary32 (g .a) (float (getD ws c 0))) (mul binary32 (g .b) (sumOf (map float (wordsAt ks ws)))))
+blend g c ks ws = word
+    (add binary32 (mul binary32 (g .a) (float (getD ws c 0))) (mul binary32 (g .b) (sumOf (map float (wordsAt ks ws)))))
 
 -- `writes`: the filters whose words raw writes.
 unfoldable pub written : Kernel → (centre : ℕ) (terms writes : List ℕ) → List ℕ → List ℕ

@@ -1,4 +1,5 @@
--- Document 02, request 5, on rows: what planning finds, and runs from a fresh state, lent all cells; two tables, computed. A cell's word is its position.
+-- Document 02, request 5, on rows: what planning finds, and runs from a fresh state, lent all cells; two tables, computed. A
+-- cell's word is its position.
 use Prim.Native.Nat.{ℕ, _*_, _%_}
 use mathlib.Core.Bool.{false, cond}
 use mathlib.Core.List.{List, [], _∷_, map}
@@ -9,21 +10,27 @@ use lib.ListN.{length, take, replicate}
 use Rattle.model.specs.Lists.{tabulate, upTo, sum, greatest, all, any, someBelow}
 use Rattle.model.specs.Vectors.{−1, same, above, plus, equal, before, isZero}
 use Rattle.model.specs.Geometry.{natural, firstEntry, otherEntries, leastFrom, least}
-use Rattle.model.specs.Grounds.{Row, cellsAbove, rowCells, cellCount, hasColumn, insideRows, inside, rowPlace, cellPlace, position, rowAt, columnAt, cellAt, isIteration}
+use Rattle.model.specs.Grounds.{Row, cellsAbove, rowCells, cellCount, hasColumn, insideRows, inside, rowPlace, cellPlace}
+use Rattle.model.specs.Grounds.{position, rowAt, columnAt, cellAt, isIteration}
 use Rattle.model.specs.Grounds.Ground.{skewed}
 use Rattle.model.specs.Courses.{count, vector, smallest, rowsDown, columnsOn, commonStart, commonEnd, commonRow, allIterations}
 use Rattle.model.specs.Boxes.{Part, indexCount, widths, equalRows, boxShape, boxCourse, course, crossed, readsOutside, badBox}
 use Rattle.model.specs.Boxes.Part.{whole, box}
 use Rattle.model.specs.Values.{Trimmed}
-use Rattle.model.specs.Iterations.{cellsOf, positionOf, courseOf, iterationsOf, iterationOf, readsOf, firstsFrom, firsts, distanceIn, distanceOf}
+use Rattle.model.specs.Iterations.{cellsOf, positionOf, courseOf, iterationsOf, iterationOf, readsOf, firstsFrom, firsts}
+use Rattle.model.specs.Iterations.{distanceIn, distanceOf}
 use Rattle.model.specs.Answers.{numberOf, verdictNumber, outcomeCase, outcomeCounts, answerCounts, answerNumber, firstOf}
-use Rattle.model.specs.Judging.{badRow, badRows, badCount, repeats, noIteration, needsCentre, lacksCentre, badFactor, tooLarge, twice, badOrder, windowChecks, kernelChecks, chainChecks, valueChecks, judged, badRowCount}
+use Rattle.model.specs.Judging.{badRow, badRows, badCount, repeats, noIteration, needsCentre, lacksCentre, badFactor}
+use Rattle.model.specs.Judging.{tooLarge, twice, badOrder, windowChecks, kernelChecks, chainChecks, valueChecks, judged}
+use Rattle.model.specs.Judging.{badRowCount}
 use Rattle.model.specs.Steps.{insert, falling, whichOf, authorsOrder, distances, sorted}
 use Rattle.model_run.specs.Kernels.{wordsAt, terms, written, width}
 use Rattle.model.specs.Windows.{centreOf}
 use Rattle.model_run.specs.Clock.{turn, limit, turns, ready, fires, next, moves}
 use Rattle.model_run.specs.Store.{firstPlace, placeIn, presented, stored}
-use Rattle.model_run.specs.Running.{layout, countersOf, withCounters, outcomeOf, words, clocked, look, call, events, shortStore, notPast, badCounter, badFifo, badFilters, badState, judgeRun, begun, filtersOf, termsOf, writesOf, writtenBy, widthOf, ended, runTrimmed, eventsTrimmed}
+use Rattle.model_run.specs.Running.{layout, countersOf, withCounters, outcomeOf, words, clocked, look, call, events}
+use Rattle.model_run.specs.Running.{shortStore, notPast, badCounter, badFifo, badFilters, badState, judgeRun, begun}
+use Rattle.model_run.specs.Running.{filtersOf, termsOf, writesOf, writtenBy, widthOf, ended, runTrimmed, eventsTrimmed}
 use Rattle.model_run.specs.Cases.{start, endOf, firingClocks}
 use Rattle.model.specs.declared.Kernel.the-variants as kernel
 
@@ -49,7 +56,8 @@ pub record Plan : Type 0 where
   pub number : ℕ
   pub capacities : List ℕ
 
--- Run: the number, 0 for none, the outcome's place in the list of five, the cells taken, the clocks made, the clocks that fire, and the words written.
+-- Run: the number, 0 for none, the outcome's place in the list of five, the cells taken, the clocks made, the clocks that
+-- fire, and the words written.
 pub record Result : Type 0 where
   pub number : ℕ
   pub outcome : ℕ
@@ -133,7 +141,13 @@ plans =
     ∷ record { on = tapered; part = boxOf 1 2 1 3; offsets = down; number = 15; capacities = [] }
     ∷ record { on = tapered; part = boxOf 0 2 1 2; offsets = down; number = 15; capacities = [] }
     -- rows without an iteration at either end or between do not count; 6 where none has one
-    ∷ record { on = of 0 3 ∷ of 5 1 ∷ of 0 3 ∷ of 0 3 ∷ of 9 1 ∷ []; part = whole; offsets = down; number = 0; capacities = 3 ∷ [] }
+    ∷ record {
+      on = of 0 3 ∷ of 5 1 ∷ of 0 3 ∷ of 0 3 ∷ of 9 1 ∷ [];
+      part = whole;
+      offsets = down;
+      number = 0;
+      capacities = 3 ∷ [];
+    }
     ∷ record { on = of 0 3 ∷ of 5 1 ∷ of 0 3 ∷ []; part = whole; offsets = down; number = 6; capacities = [] }
     -- 9 goes by the sum of the largest: 8 pairs of 2,047 fit, 9 do not, though first and last are never more than 10,239 apart
     ∷ record { on = zigzag 10; part = whole; offsets = column 9; number = 0; capacities = replicate 8 2047 }
@@ -151,36 +165,82 @@ plans =
 unfoldable pub runs : List Run
 runs =
     -- planned chains do fire late
-    record { on = tapered; part = whole; offsets = down; capacities = 2 ∷ []; result = record { number = 0; outcome = 0; cells = 4; clocks = 5; firing = 2 ∷ 4 ∷ []; words = 2 ∷ 0 ∷ 3 ∷ 2 ∷ [] } }
-    ∷ record { on = widened; part = whole; offsets = down; capacities = 2 ∷ []; result = record { number = 0; outcome = 0; cells = 4; clocks = 4; firing = 1 ∷ 3 ∷ []; words = 1 ∷ 0 ∷ 3 ∷ 1 ∷ [] } }
+    record {
+      on = tapered;
+      part = whole;
+      offsets = down;
+      capacities = 2 ∷ [];
+      result = record { number = 0; outcome = 0; cells = 4; clocks = 5; firing = 2 ∷ 4 ∷ []; words = 2 ∷ 0 ∷ 3 ∷ 2 ∷ [] };
+    }
+    ∷ record {
+      on = widened;
+      part = whole;
+      offsets = down;
+      capacities = 2 ∷ [];
+      result = record { number = 0; outcome = 0; cells = 4; clocks = 4; firing = 1 ∷ 3 ∷ []; words = 1 ∷ 0 ∷ 3 ∷ 1 ∷ [] };
+    }
     -- "a shorter one makes every firing before the first that needs more, then stalls"
-    ∷ record { on = widened; part = whole; offsets = down; capacities = 1 ∷ []; result = record { number = 0; outcome = 3; cells = 2; clocks = 2; firing = 1 ∷ []; words = 1 ∷ 0 ∷ [] } }
+    ∷ record {
+      on = widened;
+      part = whole;
+      offsets = down;
+      capacities = 1 ∷ [];
+      result = record { number = 0; outcome = 3; cells = 2; clocks = 2; firing = 1 ∷ []; words = 1 ∷ 0 ∷ [] };
+    }
     -- in rising order none
-    ∷ record { on = widened; part = whole; offsets = up; capacities = 2 ∷ []; result = record { number = 0; outcome = 3; cells = 0; clocks = 0; firing = []; words = [] } }
+    ∷ record {
+      on = widened;
+      part = whole;
+      offsets = up;
+      capacities = 2 ∷ [];
+      result = record { number = 0; outcome = 3; cells = 0; clocks = 0; firing = []; words = [] };
+    }
     -- a box on rows
-    ∷ record { on = tapered; part = boxOf 2 2 2 2; offsets = down; capacities = 1 ∷ []; result = record { number = 0; outcome = 0; cells = 4; clocks = 4; firing = 3 ∷ []; words = 3 ∷ 2 ∷ [] } }
+    ∷ record {
+      on = tapered;
+      part = boxOf 2 2 2 2;
+      offsets = down;
+      capacities = 1 ∷ [];
+      result = record { number = 0; outcome = 0; cells = 4; clocks = 4; firing = 3 ∷ []; words = 3 ∷ 2 ∷ [] };
+    }
     -- rows without an iteration between
-    ∷ record { on = of 0 3 ∷ of 5 1 ∷ of 0 3 ∷ of 0 3 ∷ of 9 1 ∷ []; part = whole; offsets = down; capacities = 3 ∷ []; result = record { number = 0; outcome = 0; cells = 10; clocks = 10; firing = 7 ∷ 8 ∷ 9 ∷ []; words = 7 ∷ 4 ∷ 8 ∷ 5 ∷ 9 ∷ 6 ∷ [] } }
+    ∷ record {
+      on = of 0 3 ∷ of 5 1 ∷ of 0 3 ∷ of 0 3 ∷ of 9 1 ∷ [];
+      part = whole;
+      offsets = down;
+      capacities = 3 ∷ [];
+      result = record
+          { number = 0; outcome = 0; cells = 10; clocks = 10; firing = 7 ∷ 8 ∷ 9 ∷ []; words = 7 ∷ 4 ∷ 8 ∷ 5 ∷ 9 ∷ 6 ∷ [] };
+    }
     ∷ []
 
 pub plan-table : map planned plans ≡ map (λ p. (p .number, p .capacities)) plans
 unfolding planned plans down up alone column zigzag
-    tabulate upTo sum greatest all any someBelow same above plus equal before isZero natural firstEntry otherEntries leastFrom least
+    tabulate upTo sum greatest all any someBelow same above plus equal before isZero natural firstEntry otherEntries leastFrom
+    least
     cellsAbove rowCells cellCount hasColumn insideRows inside rowPlace cellPlace position rowAt columnAt cellAt isIteration
-    count vector smallest rowsDown columnsOn commonStart commonEnd commonRow allIterations indexCount widths equalRows boxShape boxCourse course crossed readsOutside badBox
-    cellsOf positionOf courseOf iterationsOf iterationOf readsOf firstsFrom firsts distanceIn distanceOf numberOf verdictNumber firstOf
-    badRow badRowCount badRows badCount repeats noIteration needsCentre lacksCentre badFactor tooLarge twice badOrder windowChecks kernelChecks chainChecks valueChecks judged
+    count vector smallest rowsDown columnsOn commonStart commonEnd commonRow allIterations indexCount widths equalRows
+    boxShape boxCourse course crossed readsOutside badBox
+    cellsOf positionOf courseOf iterationsOf iterationOf readsOf firstsFrom firsts distanceIn distanceOf numberOf
+    verdictNumber firstOf
+    badRow badRowCount badRows badCount repeats noIteration needsCentre lacksCentre badFactor tooLarge twice badOrder
+    windowChecks kernelChecks chainChecks valueChecks judged
     insert falling whichOf authorsOrder distances sorted
 plan-table = refl
 
 pub run-table : map ran runs ≡ map (λ p. p .result) runs
 unfolding ran runs down up start endOf firingClocks
-    tabulate upTo sum greatest all any someBelow same above plus equal before isZero natural firstEntry otherEntries leastFrom least
+    tabulate upTo sum greatest all any someBelow same above plus equal before isZero natural firstEntry otherEntries leastFrom
+    least
     cellsAbove rowCells cellCount hasColumn insideRows inside rowPlace cellPlace position rowAt columnAt cellAt isIteration
-    count vector smallest rowsDown columnsOn commonStart commonEnd commonRow allIterations indexCount widths equalRows boxShape boxCourse course crossed readsOutside badBox
-    cellsOf positionOf courseOf iterationsOf iterationOf readsOf numberOf outcomeCase outcomeCounts answerCounts answerNumber firstOf
-    badRow badRowCount badRows badCount repeats noIteration needsCentre lacksCentre badFactor tooLarge twice badOrder windowChecks kernelChecks chainChecks valueChecks
+    count vector smallest rowsDown columnsOn commonStart commonEnd commonRow allIterations indexCount widths equalRows
+    boxShape boxCourse course crossed readsOutside badBox
+    cellsOf positionOf courseOf iterationsOf iterationOf readsOf numberOf outcomeCase outcomeCounts answerCounts answerNumber
+    firstOf
+    badRow badRowCount badRows badCount repeats noIteration needsCentre lacksCentre badFactor tooLarge twice badOrder
+    windowChecks kernelChecks chainChecks valueChecks
     wordsAt terms written width centreOf turn limit turns ready fires next moves firstPlace placeIn presented stored
-    layout countersOf withCounters outcomeOf words clocked look call events shortStore notPast badCounter badFifo badFilters badState judgeRun begun filtersOf termsOf writesOf writtenBy widthOf
+    layout countersOf withCounters outcomeOf words clocked look call events shortStore notPast badCounter badFifo badFilters
+    badState judgeRun begun filtersOf termsOf writesOf writtenBy widthOf
     ended runTrimmed eventsTrimmed
 run-table = refl

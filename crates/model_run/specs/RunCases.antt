@@ -15,12 +15,15 @@ use Rattle.model.specs.Boxes.{indexCount, widths, boxShape, boxCourse, course, 
 use Rattle.model.specs.Values.{sizesOf, offsetOf, offsetsOf, partOf, capacitiesOf, orderOf, trimmed, groundOf, dimsOf}
 use Rattle.model.specs.Iterations.{cellsOf, positionOf, courseOf, iterationsOf, iterationOf, readsOf, firsts, distanceIn}
 use Rattle.model.specs.Answers.{firstOf}
-use Rattle.model.specs.Judging.{badDims, badSizes, badGrid, badCount, repeats, noIteration, needsCentre, lacksCentre, badFactor, tooLarge, twice, badOrder, windowChecks, kernelChecks, chainChecks, valueChecks}
+use Rattle.model.specs.Judging.{badDims, badSizes, badGrid, badCount, repeats, noIteration, needsCentre, lacksCentre}
+use Rattle.model.specs.Judging.{badFactor, tooLarge, twice, badOrder, windowChecks, kernelChecks, chainChecks, valueChecks}
 use Rattle.model_run.specs.Kernels.{wordsAt, terms, written, width}
 use Rattle.model.specs.Windows.{centreOf}
 use Rattle.model_run.specs.Clock.{turn, limit, turns, ready, fires, next, moves}
 use Rattle.model_run.specs.Store.{firstPlace, placeIn, presented, stored}
-use Rattle.model_run.specs.Running.{layout, countersOf, withCounters, outcomeOf, words, clocked, look, call, shortStore, notPast, badCounter, badFifo, badFilters, badState, judgeRun, begun, filtersOf, termsOf, writesOf, writtenBy, widthOf, ended, runTrimmed, Run, runOf}
+use Rattle.model_run.specs.Running.{layout, countersOf, withCounters, outcomeOf, words, clocked, look, call, shortStore}
+use Rattle.model_run.specs.Running.{notPast, badCounter, badFifo, badFilters, badState, judgeRun, begun, filtersOf}
+use Rattle.model_run.specs.Running.{termsOf, writesOf, writtenBy, widthOf, ended, runTrimmed, Run, runOf}
 use Rattle.model.specs.declared.CellsPassed.{CellsPassed}
 use Rattle.model.specs.declared.Chain.{Chain}
 use Rattle.model.specs.declared.State.{State}
@@ -48,12 +51,15 @@ answered c = runOf (c .chain) [] (c .state) (c .store) (c .lent) (c .output) (c 
 unfoldable pub expected : Case → Run
 expected c = c .leaves
 
--- A raw chain in one dimension: its size, offsets and capacities. What stands past the counts would be turned back by 3 or 9 if it played a part, and its box and its order,
--- whose lines are absent, by 15 and 14.
+-- A raw chain in one dimension: its size, offsets and capacities. What stands past the counts would be turned back by 3 or 9
+-- if it played a part, and its box and its order, whose lines are absent, by 15 and 14.
 abbrev chain : ℕ → List ℤ → List ℕ → Chain
 chain size offsets capacities = record {
   grid = record { skewed = false; rows = 0; dims = 1; sizes = size ∷ 0 ∷ 0 ∷ 0 ∷ [] };
-  window = record { count = length offsets; offsets = flatMap (λ (x : ℤ). let offset : List ℤ = x ∷ x ∷ x ∷ x ∷ [] in offset) offsets };
+  window = record {
+    count = length offsets;
+    offsets = flatMap (λ (x : ℤ). let offset : List ℤ = x ∷ x ∷ x ∷ x ∷ [] in offset) offsets;
+  };
   bounds = record { stood = false; lowest = pos 9 ∷ []; highest = pos 8 ∷ [] };
   capacities = capacities ++ (99999 ∷ []);
   order = record { stood = false; filters = 99 ∷ 99 ∷ [] };
@@ -63,10 +69,14 @@ chain size offsets capacities = record {
 -- Firings made, and the input counters, with one past n that is above every cell count.
 abbrev state : ℕ → List ℕ → State
 state fired passed =
-    record { passed = map (λ (p : ℕ). let passed : CellsPassed = record { 0 = p } in passed) (passed ++ (77 ∷ [])); fired = record { 0 = fired } }
+    record {
+      passed = map (λ (p : ℕ). let passed : CellsPassed = record { 0 = p } in passed) (passed ++ (77 ∷ []));
+      fired = record { 0 = fired };
+    }
 
 -- A call that ends: how, with the cells taken, the firings and the clocks; and what it leaves.
-abbrev ends : Chain → State → (store lent output : List ℕ) (allowance : ℕ) → (Counts → Outcome) → (cells firings clocks : ℕ) → State → (store output : List ℕ) → Case
+abbrev ends : Chain → State → (store lent output : List ℕ) (allowance : ℕ) → (Counts → Outcome) → (cells firings clocks : ℕ)
+    → State → (store output : List ℕ) → Case
 ends c s store lent output allowance o cells firings clocks s′ store′ output′ = record {
   chain = c;
   state = s;
@@ -74,14 +84,20 @@ ends c s store lent output allowance o cells firings clocks s′ store′ output
   lent = lent;
   output = output;
   allowance = allowance;
-  leaves = record { answer = answer.Ended (o (record { cells = cells; firings = firings; clocks = clocks })); state = s′; store = store′; output = output′ };
+  leaves = record {
+    answer = answer.Ended (o (record { cells = cells; firings = firings; clocks = clocks }));
+    state = s′;
+    store = store′;
+    output = output′;
+  };
 }
 
 -- One that ends before its first clock: all is left as it was.
 abbrev atOnce : Chain → State → (store lent output : List ℕ) (allowance : ℕ) → (Counts → Outcome) → Case
 atOnce c s store lent output allowance o = ends c s store lent output allowance o 0 0 0 s store output
 
--- "After each refusal of either list every lent buffer and the state are as before": lent two cells, four output places and nine clocks.
+-- "After each refusal of either list every lent buffer and the state are as before": lent two cells, four output places and
+-- nine clocks.
 abbrev refuses : Chain → State → (store : List ℕ) → Refusal → Case
 refuses c s store r =
     let lent : List ℕ = 11 ∷ 12 ∷ [] in
@@ -111,14 +127,17 @@ triple = chain 6 (pos 3 ∷ pos 1 ∷ pos 0 ∷ []) (2 ∷ 1 ∷ [])
 -- Where words lie.
 unfoldable pub places : List Case
 places =
-    -- "a cell of position p goes to the place of its FIFO numbered p remainder the capacity, and a word stays until overwritten": after cells 0 to 4, places 0, 1 and 2 hold cells
-    -- 3, 4 and 2. "changes no later place": of the output, and here of the store.
-    ends (falls 3) (state 0 (0 ∷ 0 ∷ [])) (90 ∷ 91 ∷ 92 ∷ 93 ∷ []) (11 ∷ 12 ∷ 13 ∷ 14 ∷ 15 ∷ []) (70 ∷ 71 ∷ 72 ∷ 73 ∷ 74 ∷ 75 ∷ []) 10
+    -- "a cell of position p goes to the place of its FIFO numbered p remainder the capacity, and a word stays until
+    -- overwritten": after cells 0 to 4, places 0, 1 and 2 hold cells 3, 4 and 2. "changes no later place": of the output, and
+    -- here of the store.
+    ends (falls 3) (state 0 (0 ∷ 0 ∷ [])) (90 ∷ 91 ∷ 92 ∷ 93 ∷ []) (11 ∷ 12 ∷ 13 ∷ 14 ∷ 15 ∷ [])
+    (70 ∷ 71 ∷ 72 ∷ 73 ∷ 74 ∷ 75 ∷ []) 10
     outcome.Done 5 2 5 (state 2 (5 ∷ 2 ∷ [])) (14 ∷ 15 ∷ 13 ∷ 93 ∷ []) (14 ∷ 11 ∷ 15 ∷ 12 ∷ 74 ∷ 75 ∷ [])
     -- "FIFO 0's places come first in the store, then FIFO 1's": two clocks, then a whole run
     ∷ ends triple (state 0 (0 ∷ 0 ∷ 0 ∷ [])) (90 ∷ 91 ∷ 92 ∷ []) (11 ∷ 12 ∷ 13 ∷ []) [] 2
     outcome.Spent 2 0 2 (state 0 (2 ∷ 1 ∷ 0 ∷ [])) (11 ∷ 12 ∷ 11 ∷ []) []
-    ∷ ends triple (state 0 (0 ∷ 0 ∷ 0 ∷ [])) (90 ∷ 91 ∷ 92 ∷ []) (11 ∷ 12 ∷ 13 ∷ 14 ∷ 15 ∷ 16 ∷ []) (70 ∷ 71 ∷ 72 ∷ 73 ∷ 74 ∷ 75 ∷ 76 ∷ 77 ∷ 78 ∷ []) 18
+    ∷ ends triple (state 0 (0 ∷ 0 ∷ 0 ∷ [])) (90 ∷ 91 ∷ 92 ∷ []) (11 ∷ 12 ∷ 13 ∷ 14 ∷ 15 ∷ 16 ∷ [])
+    (70 ∷ 71 ∷ 72 ∷ 73 ∷ 74 ∷ 75 ∷ 76 ∷ 77 ∷ 78 ∷ []) 18
     outcome.Done 6 3 6 (state 3 (6 ∷ 4 ∷ 3 ∷ [])) (15 ∷ 16 ∷ 14 ∷ []) (14 ∷ 12 ∷ 11 ∷ 15 ∷ 13 ∷ 12 ∷ 16 ∷ 14 ∷ 13 ∷ [])
     ∷ []
 
@@ -128,13 +147,15 @@ looks =
     -- "the first lent cell is the one at filter 0's input counter"; cells past the grid's are not taken
     ends (falls 3) (state 1 (4 ∷ 1 ∷ [])) (14 ∷ 12 ∷ 13 ∷ []) (15 ∷ 16 ∷ 17 ∷ []) (70 ∷ 71 ∷ []) 9
     outcome.Done 1 1 1 (state 2 (5 ∷ 2 ∷ [])) (14 ∷ 15 ∷ 13 ∷ []) (15 ∷ 12 ∷ [])
-    -- "*Full*: the clock would fire and fewer output places are left than it writes": after a firing, at once, and not for a clock that does not fire
+    -- "*Full*: the clock would fire and fewer output places are left than it writes": after a firing, at once, and not for a
+    -- clock that does not fire
     ∷ ends (falls 3) (state 0 (3 ∷ 0 ∷ [])) (11 ∷ 12 ∷ 13 ∷ []) (14 ∷ 15 ∷ []) (70 ∷ 71 ∷ 72 ∷ []) 9
     outcome.Full 1 1 1 (state 1 (4 ∷ 1 ∷ [])) (14 ∷ 12 ∷ 13 ∷ []) (14 ∷ 11 ∷ 72 ∷ [])
     ∷ atOnce (falls 3) (state 0 (3 ∷ 0 ∷ [])) (11 ∷ 12 ∷ 13 ∷ []) (14 ∷ []) (70 ∷ []) 9 outcome.Full
     ∷ ends (falls 3) (state 0 (0 ∷ 0 ∷ [])) (90 ∷ 91 ∷ 92 ∷ []) (11 ∷ []) [] 9
     outcome.Starved 1 0 1 (state 0 (1 ∷ 0 ∷ [])) (11 ∷ 91 ∷ 92 ∷ []) []
-    -- "Before each clock these are looked at in this order": Done, where the allowance is 0; where no cell is lent; and where nothing would move
+    -- "Before each clock these are looked at in this order": Done, where the allowance is 0; where no cell is lent; and where
+    -- nothing would move
     ∷ atOnce (falls 3) (state 2 (5 ∷ 2 ∷ [])) (14 ∷ 15 ∷ 13 ∷ []) (16 ∷ []) [] 0 outcome.Done
     ∷ atOnce (falls 3) (state 2 (5 ∷ 2 ∷ [])) (14 ∷ 15 ∷ 13 ∷ []) [] [] 9 outcome.Done
     ∷ atOnce rises (state 2 (5 ∷ 5 ∷ [])) (tabulate 16 (λ k. k)) (16 ∷ []) [] 9 outcome.Done
@@ -145,7 +166,8 @@ looks =
     -- Starved, where nothing would move; and where there is no place for a firing
     ∷ atOnce rises (state 0 (0 ∷ 0 ∷ [])) (tabulate 16 (λ k. k)) [] [] 9 outcome.Starved
     ∷ atOnce (falls 3) (state 0 (3 ∷ 0 ∷ [])) (11 ∷ 12 ∷ 13 ∷ []) [] [] 9 outcome.Starved
-    -- Stalled; and with a capacity of 0, where no place is ever free. (A clock that would fire moves: Stalled and Full never apply at once.)
+    -- Stalled; and with a capacity of 0, where no place is ever free. (A clock that would fire moves: Stalled and Full never
+    -- apply at once.)
     ∷ atOnce rises (state 0 (0 ∷ 0 ∷ [])) (tabulate 16 (λ k. k)) (11 ∷ []) [] 9 outcome.Stalled
     ∷ atOnce (falls 0) (state 0 (0 ∷ 0 ∷ [])) [] (11 ∷ []) (70 ∷ 71 ∷ []) 9 outcome.Stalled
     ∷ []
@@ -153,7 +175,8 @@ looks =
 -- What turns a call back.
 unfoldable pub refusals : List Case
 refusals =
-    -- "A run looks at the chain first, then 10, then 11": equal offsets, a short store and a bad state; the last two; a short store alone
+    -- "A run looks at the chain first, then 10, then 11": equal offsets, a short store and a bad state; the last two; a short
+    -- store alone
     refuses (chain 5 (pos 3 ∷ pos 3 ∷ []) (3 ∷ [])) (state 9 (9 ∷ 9 ∷ [])) (90 ∷ 91 ∷ []) refusal.EqualOffsets
     ∷ refuses (falls 3) (state 9 (9 ∷ 9 ∷ [])) (90 ∷ 91 ∷ []) refusal.ShortStore
     ∷ refuses (falls 3) (state 0 (0 ∷ 0 ∷ [])) (90 ∷ 91 ∷ []) refusal.ShortStore
@@ -179,9 +202,14 @@ AsExpected cases = map answered cases ≡ map expected cases
 pub table : AsExpected places × AsExpected looks × AsExpected refusals
 unfolding answered expected places looks refusals flatMap
     tabulate upTo sum product greatest all any someBelow same above plus equal isZero
-    rectangular.cellCount cellCount place natural position cellPlace cellAt firstEntry otherEntries leastFrom least lows extent extents indices count vector allIterations rectangular.inside inside isIteration indexCount widths boxShape boxCourse course crossed readsOutside badBox cellsOf positionOf courseOf iterationsOf iterationOf readsOf firsts distanceIn
+    rectangular.cellCount cellCount place natural position cellPlace cellAt firstEntry otherEntries leastFrom least lows
+    extent extents indices count vector allIterations rectangular.inside inside isIteration indexCount widths boxShape
+    boxCourse course crossed readsOutside badBox cellsOf positionOf courseOf iterationsOf iterationOf readsOf firsts
+    distanceIn
     sizesOf groundOf dimsOf offsetOf offsetsOf partOf capacitiesOf orderOf trimmed firstOf
-    badDims badSizes badGrid badCount repeats noIteration needsCentre lacksCentre badFactor tooLarge twice badOrder windowChecks kernelChecks chainChecks valueChecks
+    badDims badSizes badGrid badCount repeats noIteration needsCentre lacksCentre badFactor tooLarge twice badOrder
+    windowChecks kernelChecks chainChecks valueChecks
     wordsAt terms written width centreOf turn limit turns ready fires next moves firstPlace placeIn presented stored
-    layout countersOf withCounters outcomeOf words clocked look call shortStore notPast badCounter badFifo badFilters badState judgeRun begun filtersOf termsOf writesOf writtenBy widthOf ended runTrimmed runOf
+    layout countersOf withCounters outcomeOf words clocked look call shortStore notPast badCounter badFifo badFilters badState
+    judgeRun begun filtersOf termsOf writesOf writtenBy widthOf ended runTrimmed runOf
 table = (refl, refl, refl)

@@ -45,7 +45,8 @@ countersOf n s = record { fired = s .fired .0; passed = tabulate n (λ k. getD (
 -- The state with other counters: "input counters past n play no part and are handed back as they came".
 unfoldable pub withCounters : State → Counters → State
 withCounters s c = record {
-  passed = map (λ (p : ℕ). let passed : CellsPassed = record { 0 = p } in passed) (c .passed) ++ drop (length (c .passed)) (s .passed);
+  passed = map (λ (p : ℕ). let passed : CellsPassed = record { 0 = p } in passed) (c .passed)
+      ++ drop (length (c .passed)) (s .passed);
   fired = record { 0 = c .fired };
 }
 
@@ -135,7 +136,8 @@ module _ (L : Layout) (write : List ℕ → List ℕ) (size : ℕ) (lent : List 
 unfoldable pub shortStore : Trimmed → (store : List ℕ) → Bool
 shortStore t store = ltb (length store) (sum (t .capacities))
 
--- 11: "an input counter past its next wanted cell, not past its last fired one, above the cell count". A counter is past cell p if it is above p.
+-- 11: "an input counter past its next wanted cell, not past its last fired one, above the cell count". A counter is past cell
+-- p if it is above p.
 unfoldable pub notPast : Layout → (fired k p : ℕ) → Bool
 notPast L zero k p = false
 notPast L (suc f) k p = leb p (L .wants f k)
@@ -160,7 +162,9 @@ badState L s = ltb (L .iterations) (s .fired) || badFilters L (s .fired) 0 (s .p
 -- "A run looks at the chain first, then 10, then 11."
 unfoldable pub judgeRun : Trimmed → State → (store : List ℕ) → Verdict
 judgeRun t s store =
-    firstOf (valueChecks t ++ (check (shortStore t store) refusal.ShortStore ∷ check (badState (layout t) (countersOf (t .count) s)) refusal.BadState ∷ []))
+    let store = check (shortStore t store) refusal.ShortStore in
+    let state = check (badState (layout t) (countersOf (t .count) s)) refusal.BadState in
+    firstOf (valueChecks t ++ (store ∷ state ∷ []))
 
 -- What a call leaves: its answer, the state, and the store and the output that it was lent.
 pub record Run : Type 0 where
@@ -171,7 +175,12 @@ pub record Run : Type 0 where
 
 -- Where a call begins.
 unfoldable pub begun : Trimmed → State → (store output : List ℕ) → Standing
-begun t s store output = record { counters = countersOf (t .count) s; store = store; output = output; done = record { cells = 0; firings = 0; clocks = 0 } }
+begun t s store output = record {
+  counters = countersOf (t .count) s;
+  store = store;
+  output = output;
+  done = record { cells = 0; firings = 0; clocks = 0 };
+}
 
 -- The filters in the author's order; "Without the line, terms go in chain order as before."
 unfoldable pub filtersOf : Trimmed → List ℕ

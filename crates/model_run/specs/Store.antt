@@ -1,4 +1,5 @@
--- The words behind the counters: what the filters are presented, and what a clock leaves in the store (document 01, "One clock" and "Running").
+-- The words behind the counters: what the filters are presented, and what a clock leaves in the store (document 01, "One
+-- clock" and "Running").
 use Prim.Native.Nat.{ℕ, suc, _+_, _%_}
 use mathlib.Core.Bool.{cond}
 use mathlib.Core.List.{List, [], _∷_}
@@ -15,14 +16,16 @@ module _ (capacity : ℕ → ℕ) where
   unfoldable pub placeIn : (k p : ℕ) → ℕ
   placeIn k p = firstPlace k + p % capacity k
 
-  -- The words that the filters from k on are presented, where they stand at the list: filter k the word x, each later one the head of the FIFO before it.
+  -- The words that the filters from k on are presented, where they stand at the list: filter k the word x, each later one the
+  -- head of the FIFO before it.
   unfoldable pub presented : (k x : ℕ) (store passed : List ℕ) → List ℕ
   presented k x store [] = []
   presented k x store (p ∷ []) = x ∷ []
   presented k x store (p ∷ q ∷ qs) = x ∷ presented (suc k) (getD store (placeIn k q) 0) store (q ∷ qs)
 
-  -- The store after a clock that takes the counters from `passed` to `passed′`: each filter but the last that moved has put the word that it was presented into the
-  -- FIFO behind it. All words presented are those of `old`, the store at the start of the clock.
+  -- The store after a clock that takes the counters from `passed` to `passed′`: each filter but the last that moved has put
+  -- the word that it was presented into the FIFO behind it. All words presented are those of `old`, the store at the start of
+  -- the clock.
   unfoldable pub stored : (k x : ℕ) (old passed passed′ store : List ℕ) → List ℕ
   stored k x old [] passed′ store = store
   stored k x old (p ∷ []) passed′ store = store

@@ -26,8 +26,8 @@ module _ (r : Request) (rows : List ℕ) (stream : ℕ → ℕ) where
   abbrev t : Trimmed
   t = trimmedRequest r rows
 
-  -- What it writes in iteration j: the words are those of the author's references 0, 1, 2, .., of which one is the centre, and terms are added in this order. "raw outputs
-  -- keep chain order": the references as their offsets fall.
+  -- What it writes in iteration j: the words are those of the author's references 0, 1, 2, .., of which one is the centre,
+  -- and terms are added in this order. "raw outputs keep chain order": the references as their offsets fall.
   unfoldable pub loopOf : ℕ → List ℕ
   loopOf j =
       let centre = centreOf (t .offsets) in

@@ -24,7 +24,8 @@ opened = record { verdict = verdict.Accepted; reading = start; frame = emptyFram
 abbrev pub closed : LineStep → Arriving
 closed s = record { verdict = s .verdict; reading = s .reading; frame = emptyFrame; begun = false }
 
--- One character more. After a refusal nothing is looked at. `rows`: the numbers on the sheet's first line, as far as they have arrived.
+-- One character more. After a refusal nothing is looked at. `rows`: the numbers on the sheet's first line, as far as they
+-- have arrived.
 unfoldable pub arrives : (chained : Bool) → (rows : List ℕ) → Arriving → ℕ → Arriving
 arrives chained rows a c =
     let line = closed (stepOf chained rows (a .reading) (shown (a .frame))) in
@@ -65,7 +66,8 @@ arrive chained a (c ∷ cs) =
 unfoldable pub finished : Arriving → LineStep
 finished a =
     let answered : Verdict → LineStep = λ v. record { verdict = v; reading = a .reading } in
-    byVerdict (a .verdict) (answered (cond (a .begun) (verdict.Refused refusal.Malformed) verdict.Accepted)) (λ x. answered (verdict.Refused x))
+    byVerdict (a .verdict) (answered (cond (a .begun) (verdict.Refused refusal.Malformed) verdict.Accepted))
+    (λ x. answered (verdict.Refused x))
 
 -- Up to the first LF and with it; all where there is none.
 unfoldable pub throughFeed : List ℕ → List ℕ
@@ -97,7 +99,8 @@ oneMore r = record { cells = r .cells; line = r .line; looked = suc (r .looked) 
 abbrev pub withCell : ℕ → CellsRead → CellsRead
 withCell w r = record { cells = w ∷ r .cells; line = r .line; looked = r .looked }
 
--- As many cells as there is room for, up to the first line that is turned back. Where no room is left, or a line was turned back, no character is looked at.
+-- As many cells as there is room for, up to the first line that is turned back. Where no room is left, or a line was turned
+-- back, no character is looked at.
 unfoldable pub readCells : (room : ℕ) → CellLine → List ℕ → CellsRead
 readCells zero l cs = none l
 readCells (suc room) l [] = none l

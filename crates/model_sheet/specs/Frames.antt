@@ -84,7 +84,8 @@ unfoldable pub feeds : Frame → List ℕ → Frame
 feeds f [] = f
 feeds f (d ∷ ds) = feeds (fed f d) ds
 
--- How many numbers of 2 bytes each are kept of the sheet's first line, behind its row count: a start and a length of each of 512 rows.
+-- How many numbers of 2 bytes each are kept of the sheet's first line, behind its row count: a start and a length of each of
+-- 512 rows.
 abbrev pub rowNumbers : ℕ
 rowNumbers = 1024
 

@@ -12,7 +12,8 @@ pub record Line : Type 0 where
   pub chars : List ℕ
   pub ended : Bool
 
--- "a line, without its LF, as a part of the lent sheet": from its start to before the first LF, or to the sheet's end where there is none.
+-- "a line, without its LF, as a part of the lent sheet": from its start to before the first LF, or to the sheet's end where
+-- there is none.
 unfoldable pub lineOf : List ℕ → List ℕ
 lineOf [] = []
 lineOf (b ∷ bs) = cond (eqb b lineFeed) [] (b ∷ lineOf bs)

@@ -98,7 +98,8 @@ cubeLessCorners =
 
 -- "The offsets come from a fixed list of windows, each in falling order."
 unfoldable pub windows : List Named
-windows = named 2 fivePointCross ∷ named 2 fourNeighbours ∷ named 2 square ∷ named 3 sevenPointCross ∷ named 3 cubeLessCorners ∷ []
+windows = named 2 fivePointCross ∷ named 2 fourNeighbours ∷ named 2 square ∷ named 3 sevenPointCross ∷ named 3 cubeLessCorners
+    ∷ []
 
 -- The bytes 01 to 05 are names; any other has a window without references.
 unfoldable pub isName : ℕ → Bool
@@ -134,7 +135,8 @@ unfoldable pub cube : (dims : ℕ) → List (List ℤ)
 cube zero = [] ∷ []
 cube (suc d) = let behind = cube d in flatMap (λ (e : ℤ). map (λ (p : List ℤ). e ∷ p) behind) (pos 1 ∷ pos 0 ∷ −1 ∷ [])
 
--- how many entries of a point are not 0: the centre has none, its neighbours along an axis have one, a corner of the cube has as many as there are dimensions;
+-- how many entries of a point are not 0: the centre has none, its neighbours along an axis have one, a corner of the cube has
+-- as many as there are dimensions;
 unfoldable pub steps : List ℤ → ℕ
 steps [] = 0
 steps (e ∷ es) = let behind = steps es in cond (same e (pos 0)) behind (suc behind)
@@ -174,12 +176,22 @@ pub record Row : Type 0 where
 unfoldable pub listed : Named → Row
 listed w =
     let entries = map entriesOf (w .triples) in
-    record { dims = w .dims; count = length (w .triples); entries = entries; falls = falling (map (λ (es : List ℤ). take (w .dims) es) entries) }
+    record {
+      dims = w .dims;
+      count = length (w .triples);
+      entries = entries;
+      falls = falling (map (λ (es : List ℤ). take (w .dims) es) entries);
+    }
 
 unfoldable pub meant : Meaning → Row
 meant m =
     let points = picked (m .rule) (cube (m .dims)) in
-    record { dims = m .dims; count = m .count; entries = map (λ (p : List ℤ). take 4 (p ++ replicate 4 (pos 0))) points; falls = points }
+    record {
+      dims = m .dims;
+      count = m .count;
+      entries = map (λ (p : List ℤ). take 4 (p ++ replicate 4 (pos 0))) points;
+      falls = points;
+    }
 
 pub table : map listed windows ≡ map meant meanings
 unfolding windows cube steps picked meanings listed meant flatMap same before insert falling

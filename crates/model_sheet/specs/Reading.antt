@@ -1,4 +1,5 @@
--- Reading a sheet line by line (document 01, "Lines of the sheet", "Turned back on account of the input"; document 02, requests 1, 2, 4 and 5).
+-- Reading a sheet line by line (document 01, "Lines of the sheet", "Turned back on account of the input"; document 02,
+-- requests 1, 2, 4 and 5).
 use Prim.Native.Nat.{ℕ, _+_, _*_}
 use mathlib.Core.Bool.{Bool, true, false, cond, not, _&&_}
 use mathlib.Core.List.{List, [], _∷_, _++_}
@@ -18,7 +19,8 @@ use Rattle.model.specs.declared.LineStep.{LineStep}
 use Rattle.model.specs.declared.ReadChain.{ReadChain}
 use Rattle.model.specs.declared.ReadRequest.{ReadRequest}
 use Rattle.model.specs.Lists.{tabulate, any}
-use Rattle.model.specs.Values.{rowsOf, dimsOf, withReference, blankChain, requestOf, setGrid, setWindow, setBounds, setCapacities, setOrder, setKernel}
+use Rattle.model.specs.Values.{rowsOf, dimsOf, withReference, blankChain, requestOf, setGrid, setWindow, setBounds}
+use Rattle.model.specs.Values.{setCapacities, setOrder, setKernel}
 use Rattle.model.specs.Answers.{Check, check, firstOf, byVerdict}
 use Rattle.model.specs.Judging.{badDims, badSizes, badRowCount, badRow, judgeChain}
 use Rattle.model.specs.Planning.{judgeRequest}
@@ -27,7 +29,8 @@ use Rattle.model_sheet.specs.Frames.{Seen, bytesOf, seenOf, rowNumbers}
 use Rattle.model_sheet.specs.Numbers.{byteAt, halfAt, halvesOf, wordAt, signed, signedWord}
 use Rattle.model_sheet.specs.NamedWindows.{badName, windowNamed}
 
--- The first byte, which says what kind of line it is; and the second: the dimension count of an `01` line, the kernel byte of an `04` line, the name of an `07` line.
+-- The first byte, which says what kind of line it is; and the second: the dimension count of an `01` line, the kernel byte of
+-- an `04` line, the name of an `07` line.
 abbrev pub kindOf : Seen → ℕ
 kindOf l = byteAt (l .first) 0
 
@@ -42,7 +45,8 @@ badKernel len second =
     (cond (eqb second 3) (not (eqb len 10))
     true))
 
--- 1: an unknown first byte or kernel byte, a missing dimension count or row count, or a length other than the one that the line itself sets.
+-- 1: an unknown first byte or kernel byte, a missing dimension count or row count, or a length other than the one that the
+-- line itself sets.
 unfoldable pub badForm : (len kind second : ℕ) → Bool
 badForm len kind second =
     cond (eqb kind 1) (ltb len 2)
@@ -60,8 +64,9 @@ badForm len kind second =
 unfoldable pub malformed : (sound : Bool) (len kind second : ℕ) → Bool
 malformed sound len kind second = cond sound (cond (eqb len 0) true (badForm len kind second)) true
 
--- What may come next, by what stood last: "A request sheet is one `01`, one or more `02`, one `04`."; "A line `09` may stand in place of `01`"; "A line `07` with one byte may stand for all `02` lines"; "a line
--- `08` just after the last `02` or the `07`".
+-- What may come next, by what stood last: "A request sheet is one `01`, one or more `02`, one `04`."; "A line `09` may stand
+-- in place of `01`"; "A line `07` with one byte may stand for all `02` lines"; "a line `08` just after the last `02` or the
+-- `07`".
 unfoldable pub nextInRequest : Last → List ℕ
 nextInRequest stood.Nothing = 1 ∷ 9 ∷ []
 nextInRequest stood.Grid = 2 ∷ 7 ∷ []
@@ -101,7 +106,8 @@ misplaced chainSheet last given count kind =
     (cond (among kind (nextInChain last)) (miscounted given count kind) true)
     (not (among kind (nextInRequest last)))
 
--- 1: a length other than the one that the dimension count or the row count sets, for an `02` or `08` line that of the grid read before; or, for an `06` line, the `02` lines read before.
+-- 1: a length other than the one that the dimension count or the row count sets, for an `02` or `08` line that of the grid
+-- read before; or, for an `06` line, the `02` lines read before.
 unfoldable pub badLength : (len kind second rowCount dims count : ℕ) → Bool
 badLength len kind second rowCount dims count =
     cond (eqb kind 1) (not (eqb len (2 + 4 * second)))
@@ -122,9 +128,10 @@ rowCountOf l = halfAt (l .first) 1
 unfoldable pub numbersOn : List ℕ → List ℕ
 numbersOn x = take rowNumbers (halvesOf (drop 3 x) ++ replicate rowNumbers 0)
 
--- "On one line 1 comes before 2, but a length that another line sets, as in `02`, is checked after 2; on an `01` line a fault of the frame or a missing count
--- is 1, then its order 2, then a bad count 3, then a wrong length 1, then sizes 3. 4 comes at the 33rd line, after 1 and 2." 13 is "looked at on its line, after
--- 1 and 2". On an `09` line "the order is that of `01`, with 16 for 3". `rows`: the numbers on the sheet's first line, behind its row count.
+-- "On one line 1 comes before 2, but a length that another line sets, as in `02`, is checked after 2; on an `01` line a fault
+-- of the frame or a missing count is 1, then its order 2, then a bad count 3, then a wrong length 1, then sizes 3. 4 comes at
+-- the 33rd line, after 1 and 2." 13 is "looked at on its line, after 1 and 2". On an `09` line "the order is that of `01`,
+-- with 16 for 3". `rows`: the numbers on the sheet's first line, behind its row count.
 unfoldable pub lineChecks : (chainSheet : Bool) → (rows : List ℕ) → Reading → Seen → List Check
 lineChecks chainSheet rows r l =
     let kind = kindOf l in
@@ -149,12 +156,20 @@ lineVerdict chainSheet rows r l = firstOf (lineChecks chainSheet rows r l)
 -- What a line with the bytes x adds. An `01` line: the grid.
 unfoldable pub withGrid : Reading → List ℕ → Reading
 withGrid r x =
-    record { last = stood.Grid; given = r .given; chain = setGrid (record { skewed = false; rows = 0; dims = byteAt x 1; sizes = sizesIn x }) (r .chain) }
+    record {
+      last = stood.Grid;
+      given = r .given;
+      chain = setGrid (record { skewed = false; rows = 0; dims = byteAt x 1; sizes = sizesIn x }) (r .chain);
+    }
 
 -- An `09` line: the rows, which stand beside the reading.
 unfoldable pub withRows : Reading → List ℕ → Reading
 withRows r x =
-    record { last = stood.Grid; given = r .given; chain = setGrid (record { skewed = true; rows = halfAt x 1; dims = 2; sizes = replicate 4 0 }) (r .chain) }
+    record {
+      last = stood.Grid;
+      given = r .given;
+      chain = setGrid (record { skewed = true; rows = halfAt x 1; dims = 2; sizes = replicate 4 0 }) (r .chain);
+    }
 
 -- The entries on an `02` line, 0 past its end.
 unfoldable pub entriesIn : List ℕ → List ℤ
@@ -163,7 +178,11 @@ entriesIn x = signed (halfAt x 1) ∷ signed (halfAt x 3) ∷ signed (halfAt x 5
 -- An `02` line: the next reference's offset.
 unfoldable pub withOffset : Reading → List ℕ → Reading
 withOffset r x =
-    record { last = stood.Offset; given = r .given; chain = setWindow (withReference (r .chain .window) (entriesIn x)) (r .chain) }
+    record {
+      last = stood.Offset;
+      given = r .given;
+      chain = setWindow (withReference (r .chain .window) (entriesIn x)) (r .chain);
+    }
 
 -- An `07` line: the window of that name.
 unfoldable pub withName : Reading → List ℕ → Reading
@@ -180,7 +199,11 @@ highestIn x = signedWord (wordAt x 5) ∷ signedWord (wordAt x 13) ∷ signedWor
 -- An `08` line: the box.
 unfoldable pub withBox : Reading → List ℕ → Reading
 withBox r x =
-    record { last = stood.Box; given = r .given; chain = setBounds (record { stood = true; lowest = lowestIn x; highest = highestIn x }) (r .chain) }
+    record {
+      last = stood.Box;
+      given = r .given;
+      chain = setBounds (record { stood = true; lowest = lowestIn x; highest = highestIn x }) (r .chain);
+    }
 
 -- An `03` line: the next FIFO's capacity.
 unfoldable pub withCapacity : Reading → List ℕ → Reading
@@ -195,7 +218,11 @@ filtersIn n x = tabulate 32 (λ t. cond (ltb t n) (byteAt x (1 + t)) 0)
 -- An `06` line: the author's order.
 unfoldable pub withOrder : Reading → List ℕ → Reading
 withOrder r x =
-    record { last = stood.Order; given = r .given; chain = setOrder (record { stood = true; filters = filtersIn (r .chain .window .count) x }) (r .chain) }
+    record {
+      last = stood.Order;
+      given = r .given;
+      chain = setOrder (record { stood = true; filters = filtersIn (r .chain .window .count) x }) (r .chain);
+    }
 
 unfoldable pub kernelIn : List ℕ → Kernel
 kernelIn x =
@@ -255,7 +282,8 @@ readLines chainSheet rows r (l ∷ ls) =
     let rest = readLines chainSheet rows (s .reading) ls in
     byVerdict (s .verdict) rest (λ x. s)
 
--- After the last line: 2 where one is "missing at the end"; then 5 to 9, 14 and 15, by judging the value that was read, of which 3, 16 and 4 hold no more.
+-- After the last line: 2 where one is "missing at the end"; then 5 to 9, 14 and 15, by judging the value that was read, of
+-- which 3, 16 and 4 hold no more.
 unfoldable pub endVerdict : LineStep → (judged : Verdict) → Verdict
 endVerdict s judged =
     let atEnd = cond (complete (s .reading)) judged (verdict.Refused refusal.Misplaced) in

@@ -14,24 +14,34 @@ use Rattle.model.specs.Lists.{tabulate, upTo, sum, product, greatest, all, any,
 use Rattle.model.specs.Vectors.{same, above, plus, equal, before, isZero}
 use Rattle.model.specs.Geometry.{place, natural, firstEntry, otherEntries, leastFrom, least, lows, extent, extents}
 use Rattle.model.specs.Geometry as rectangular
-use Rattle.model.specs.Grounds.{cellCount, inside, cellPlace, position, cellAt, isIteration, cellsAbove, rowCells, hasColumn, insideRows, rowPlace, rowAt, columnAt}
+use Rattle.model.specs.Grounds.{cellCount, inside, cellPlace, position, cellAt, isIteration, cellsAbove, rowCells, hasColumn}
+use Rattle.model.specs.Grounds.{insideRows, rowPlace, rowAt, columnAt}
 use Rattle.model.specs.Courses.{count, vector, allIterations, smallest, rowsDown, columnsOn, commonStart, commonEnd, commonRow}
 use Rattle.model.specs.Geometry.{indices}
 use Rattle.model.specs.Boxes.{indexCount, widths, boxShape, boxCourse, course, crossed, readsOutside, badBox, equalRows}
-use Rattle.model.specs.Values.{sizesOf, offsetOf, offsetsOf, partOf, capacitiesOf, orderOf, trimmed, blankChain, groundOf, dimsOf, rowsOf}
+use Rattle.model.specs.Values.{sizesOf, offsetOf, offsetsOf, partOf, capacitiesOf, orderOf, trimmed, blankChain, groundOf}
+use Rattle.model.specs.Values.{dimsOf, rowsOf}
 use Rattle.model.specs.Iterations.{positionOf, courseOf, iterationOf, readsOf, firsts, distanceIn, distanceOf, firstsFrom}
 use Rattle.model.specs.Answers.{numberOf, verdictNumber, firstOf, byVerdict}
-use Rattle.model.specs.Judging.{badDims, badSizes, badGrid, badCount, repeats, noIteration, needsCentre, lacksCentre, notFinite, badFactor, tooLarge, twice, badOrder, windowChecks, kernelChecks, chainChecks, valueChecks, judged, judgeChain, badRow, badRowCount, badRows}
+use Rattle.model.specs.Judging.{badDims, badSizes, badGrid, badCount, repeats, noIteration, needsCentre, lacksCentre}
+use Rattle.model.specs.Judging.{notFinite, badFactor, tooLarge, twice, badOrder, windowChecks, kernelChecks, chainChecks}
+use Rattle.model.specs.Judging.{valueChecks, judged, judgeChain, badRow, badRowCount, badRows}
 use Rattle.model.specs.Steps.{insert, falling, whichOf, authorsOrder, sorted, distances}
 use Rattle.model.specs.Planning.{trimmedRequest, judgeRequest}
 use Rattle.model_sheet.specs.Lines.{linesOf}
 use Rattle.model_sheet.specs.Frames.{isDigit, valueOf, digitOf, whole, bytesOf, digitsOf, framed, padded, seenOf}
-use Rattle.model_sheet.specs.Numbers.{halfAt, halvesOf, wordAt, halfBytes, wordBytes, signed, pattern, signedWord, wordPattern}
-use Rattle.model_sheet.specs.Reading.{badKernel, badForm, malformed, nextInRequest, nextInChain, miscounted, among, misplaced, badLength, sizesIn, lineChecks, lineVerdict, numbersOn, numbersIn, withRows}
+use Rattle.model_sheet.specs.Numbers.{halfAt, halvesOf, wordAt, halfBytes, wordBytes, signed, pattern, signedWord}
+use Rattle.model_sheet.specs.Numbers.{wordPattern}
+use Rattle.model_sheet.specs.Reading.{badKernel, badForm, malformed, nextInRequest, nextInChain, miscounted, among}
+use Rattle.model_sheet.specs.Reading.{misplaced, badLength, sizesIn, lineChecks, lineVerdict, numbersOn, numbersIn}
+use Rattle.model_sheet.specs.Reading.{withRows}
 use Rattle.model_sheet.specs.NamedWindows.{windows, isName, namedOf, badName, withReferences, windowNamed}
-use Rattle.model_sheet.specs.Reading.{withGrid, entriesIn, withOffset, withName, lowestIn, highestIn, withBox, withCapacity, filtersIn, withOrder, kernelIn, withKernel, taken, stepOf, closes, complete, readLines, endVerdict}
+use Rattle.model_sheet.specs.Reading.{withGrid, entriesIn, withOffset, withName, lowestIn, highestIn, withBox}
+use Rattle.model_sheet.specs.Reading.{withCapacity, filtersIn, withOrder, kernelIn, withKernel, taken, stepOf, closes}
+use Rattle.model_sheet.specs.Reading.{complete, readLines, endVerdict}
 use Rattle.model_sheet.specs.Reading.{readChain, readRequest, cellVerdict}
-use Rattle.model_sheet.specs.Writing.{groundLine, offsetLine, indexPair, boxLines, capacityLine, orderLines, kernelLine, chainLines, sheetOf, writeVerdict, writeOf}
+use Rattle.model_sheet.specs.Writing.{groundLine, offsetLine, indexPair, boxLines, capacityLine, orderLines, kernelLine}
+use Rattle.model_sheet.specs.Writing.{chainLines, sheetOf, writeVerdict, writeOf}
 
 -- A text's characters, as bytes.
 unfoldable pub bytesIn : String → List ℕ
@@ -102,7 +112,8 @@ requests =
     ∷ case "020\0\n" 1
     ∷ case "02 0\n" 1
     ∷ case "ï»¿010100000005\n" 1
-    -- an `09` line: accepted; a missing count, also out of order; its order; its count; its length; starts and lengths; the length of an `02` line behind it
+    -- an `09` line: accepted; a missing count, also out of order; its order; its count; its length; starts and lengths; the
+    -- length of an `02` line behind it
     ∷ case (tapered ++ "0200000000\n02FFFF0000\n0400\n") 0
     ∷ case "0900010FFF0400\n0200000000\n0400\n" 0
     ∷ case "09\n" 1
@@ -185,7 +196,8 @@ requests =
     ∷ case (plane ++ "070101\n") 1
     ∷ case "07\n" 1
     ∷ case (plane ++ "0701\n070101\n") 1
-    -- then its order, whatever the byte: first, behind an `02`, an `07` or the `04`; then the byte, before a line behind it and behind the line before it
+    -- then its order, whatever the byte: first, behind an `02`, an `07` or the `04`; then the byte, before a line behind it
+    -- and behind the line before it
     ∷ case "0700\n" 2
     ∷ case (plane ++ "0200000000\n0700\n") 2
     ∷ case (plane ++ "0701\n0700\n") 2
@@ -227,7 +239,8 @@ requests =
     ∷ case (five ++ "020000\n0800000000000000\n0400\n") 1
     ∷ case (five ++ "020000\n08000000000000000400\n0400\n") 1
     ∷ case (plane ++ "0701\n080000000100000001\n0400\n") 1
-    -- 15 at the end: one past the last iteration, one before the first, a lowest above its highest, the least and the greatest number
+    -- 15 at the end: one past the last iteration, one before the first, a lowest above its highest, the least and the
+    -- greatest number
     ∷ case (five ++ "020000\n080000000000000005\n0400\n") 15
     ∷ case (five ++ "020000\n08FFFFFFFF00000004\n0400\n") 15
     ∷ case (five ++ "020000\n080000000300000002\n0400\n") 15
@@ -243,7 +256,8 @@ requests =
 
 unfoldable pub chains : List Case
 chains =
-    -- document 01's; a single reference; two FIFOs; another order than the planned one; four dimensions; factors −0 and the least above 0
+    -- document 01's; a single reference; two FIFOs; another order than the planned one; four dimensions; factors −0 and the
+    -- least above 0
     case printed 0
     ∷ case (five ++ "020000\n0400\n") 0
     ∷ case (five ++ "020003\n020001\n020000\n0300000002\n0300000001\n0401\n") 0
@@ -349,7 +363,8 @@ sameBytes (x ∷ xs) (y ∷ ys) = eqb x y && sameBytes xs ys
 unfoldable pub requestRight : Case → Bool
 requestRight c = eqb (verdictNumber (readRequest (bytesIn (c .sheet)) .verdict)) (c .number)
 
--- The sheet is what is written to an output with two places more, which stay as they were; with a place too few it is 12, and all stay.
+-- The sheet is what is written to an output with two places more, which stay as they were; with a place too few it is 12, and
+-- all stay.
 unfoldable pub writesBack : Chain → (rows : List ℕ) → List ℕ → Bool
 writesBack c rows sheet =
     let room = length sheet in
@@ -367,10 +382,12 @@ unfoldable pub chainRight : Case → Bool
 chainRight c =
     let sheet = bytesIn (c .sheet) in
     let r = readChain sheet in
-    eqb (verdictNumber (r .verdict)) (c .number) && byVerdict (r .verdict) (writesBack (r .chain) (numbersIn sheet) sheet) (λ x. true)
+    eqb (verdictNumber (r .verdict)) (c .number)
+    && byVerdict (r .verdict) (writesBack (r .chain) (numbersIn sheet) sheet) (λ x. true)
 
 unfoldable pub cellRight : Case → Bool
-cellRight c = all (λ l. eqb (verdictNumber (cellVerdict (seenOf (l .ended) (l .chars)))) (c .number)) (linesOf (bytesIn (c .sheet)))
+cellRight c = all (λ l. eqb (verdictNumber (cellVerdict (seenOf (l .ended) (l .chars)))) (c .number))
+    (linesOf (bytesIn (c .sheet)))
 
 -- 3 comes before 12.
 unfoldable pub blankRight : Bool
@@ -379,14 +396,24 @@ blankRight =
     eqb (verdictNumber (w .answer .verdict)) 3 && (eqb (w .answer .bytes) 0 && sameBytes (w .output) (7 ∷ []))
 
 pub table : (all requestRight requests && (all chainRight chains && (all cellRight cells && blankRight))) ≡ true
-unfolding bytesIn times requests chains cells sameBytes requestRight writesBack chainRight cellRight blankRight flatMap ofBits toBits
+unfolding bytesIn times requests chains cells sameBytes requestRight writesBack chainRight cellRight blankRight flatMap ofBits
+    toBits
     tabulate upTo sum product greatest all any someBelow same above plus equal before isZero
-    cellsAbove rowCells hasColumn insideRows rowPlace rowAt columnAt smallest rowsDown columnsOn commonStart commonEnd commonRow equalRows firstsFrom rectangular.cellCount cellCount place natural position cellPlace cellAt firstEntry otherEntries leastFrom least lows extent extents indices count vector allIterations rectangular.inside inside isIteration indexCount widths boxShape boxCourse course crossed readsOutside badBox positionOf courseOf iterationOf readsOf firsts distanceIn distanceOf
+    cellsAbove rowCells hasColumn insideRows rowPlace rowAt columnAt smallest rowsDown columnsOn commonStart commonEnd
+    commonRow equalRows firstsFrom rectangular.cellCount cellCount place natural position cellPlace cellAt firstEntry
+    otherEntries leastFrom least lows extent extents indices count vector allIterations rectangular.inside inside
+    isIteration indexCount widths boxShape boxCourse course crossed readsOutside badBox positionOf courseOf iterationOf
+    readsOf firsts distanceIn distanceOf
     sizesOf rowsOf groundOf dimsOf offsetOf offsetsOf partOf capacitiesOf orderOf numberOf verdictNumber firstOf
-    badDims badSizes badGrid badRow badRowCount badRows badCount repeats noIteration needsCentre lacksCentre notFinite badFactor tooLarge twice badOrder windowChecks kernelChecks chainChecks valueChecks judged judgeChain
+    badDims badSizes badGrid badRow badRowCount badRows badCount repeats noIteration needsCentre lacksCentre notFinite
+    badFactor tooLarge twice badOrder windowChecks kernelChecks chainChecks valueChecks judged judgeChain
     insert falling whichOf authorsOrder sorted distances trimmedRequest judgeRequest trimmed
-    linesOf isDigit valueOf digitOf whole bytesOf digitsOf framed padded halfAt halvesOf wordAt halfBytes wordBytes signed pattern signedWord wordPattern
-    badKernel badForm malformed nextInRequest nextInChain miscounted among misplaced badLength sizesIn numbersOn numbersIn lineChecks lineVerdict
-    windows isName namedOf badName withReferences windowNamed withGrid withRows entriesIn withOffset withName lowestIn highestIn withBox withCapacity filtersIn withOrder kernelIn withKernel taken stepOf closes complete readLines endVerdict readChain readRequest cellVerdict
+    linesOf isDigit valueOf digitOf whole bytesOf digitsOf framed padded halfAt halvesOf wordAt halfBytes wordBytes signed
+    pattern signedWord wordPattern
+    badKernel badForm malformed nextInRequest nextInChain miscounted among misplaced badLength sizesIn numbersOn numbersIn
+    lineChecks lineVerdict
+    windows isName namedOf badName withReferences windowNamed withGrid withRows entriesIn withOffset withName lowestIn
+    highestIn withBox withCapacity filtersIn withOrder kernelIn withKernel taken stepOf closes complete readLines
+    endVerdict readChain readRequest cellVerdict
     groundLine offsetLine indexPair boxLines capacityLine orderLines kernelLine chainLines sheetOf writeVerdict writeOf
 table = refl

@@ -25,7 +25,8 @@ use Rattle.model.specs.Judging.{judgeChain}
 use Rattle.model_sheet.specs.Frames.{framed}
 use Rattle.model_sheet.specs.Numbers.{halfBytes, wordBytes, pattern, wordPattern}
 
--- "`01` dimension count (1 byte), then each size (4 bytes)"; "A line `09` may stand in place of `01`: a row count, .. then for each row a start .. and a length .., 2 bytes each number"
+-- "`01` dimension count (1 byte), then each size (4 bytes)"; "A line `09` may stand in place of `01`: a row count, .. then
+-- for each row a start .. and a length .., 2 bytes each number"
 unfoldable pub groundLine : (dims : ℕ) → Ground → List ℕ
 groundLine dims (rectangle sizes) = 1 ∷ dims ∷ flatMap wordBytes sizes
 groundLine dims (skewed rs) = 9 ∷ (halfBytes (length rs) ++ flatMap (λ r. halfBytes (r .start) ++ halfBytes (r .length)) rs)
@@ -37,7 +38,8 @@ gridLine g rows = groundLine (dimsOf g) (groundOf g rows)
 unfoldable pub offsetLine : List ℤ → List ℕ
 offsetLine o = 2 ∷ flatMap (λ e. halfBytes (pattern e)) o
 
--- "a line `08` just after the last `02` ..: for each dimension in turn the lowest, then the highest index of the iterations, 4 bytes each, signed"; none where it did not stand
+-- "a line `08` just after the last `02` ..: for each dimension in turn the lowest, then the highest index of the iterations,
+-- 4 bytes each, signed"; none where it did not stand
 unfoldable pub indexPair : Bounds → ℕ → List ℕ
 indexPair b d = wordBytes (wordPattern (getD (b .lowest) d (pos 0))) ++ wordBytes (wordPattern (getD (b .highest) d (pos 0)))
 
@@ -59,11 +61,15 @@ kernelLine kernel.Difference = 4 ∷ 1 ∷ []
 kernelLine (kernel.Scaled f) = 4 ∷ 2 ∷ wordBytes (toBits binary32 f)
 kernelLine (kernel.Blend g) = 4 ∷ 3 ∷ (wordBytes (toBits binary32 (g .a)) ++ wordBytes (toBits binary32 (g .b)))
 
--- The lines of a chain sheet, as their bytes. "A chain sheet has n−1 `03` lines before the `04`, FIFO 0 first; its `02` lines are filter 0 first".
+-- The lines of a chain sheet, as their bytes. "A chain sheet has n−1 `03` lines before the `04`, FIFO 0 first; its `02` lines
+-- are filter 0 first".
 unfoldable pub chainLines : Chain → (rows : List ℕ) → List (List ℕ)
 chainLines c rows =
     gridLine (c .grid) rows
-    ∷ (map offsetLine (offsetsOf (dimsOf (c .grid)) (c .window)) ++ (boxLines (dimsOf (c .grid)) (c .bounds) ++ (map capacityLine (capacitiesOf c) ++ (orderLines (c .window .count) (c .order) ++ (kernelLine (c .kernel) ∷ [])))))
+    ∷ (map offsetLine (offsetsOf (dimsOf (c .grid)) (c .window))
+    ++ (boxLines (dimsOf (c .grid)) (c .bounds)
+    ++ (map capacityLine (capacitiesOf c)
+    ++ (orderLines (c .window .count) (c .order) ++ (kernelLine (c .kernel) ∷ [])))))
 
 unfoldable pub sheetOf : Chain → (rows : List ℕ) → List ℕ
 sheetOf c rows = flatMap framed (chainLines c rows)
@@ -89,5 +95,8 @@ writeOf c rows output =
     let v = writeVerdict c rows (length output) in
     let sheet = sheetOf c rows in
     byVerdict v
-    (record { answer = record { verdict = verdict.Accepted; bytes = length sheet }; output = sheet ++ drop (length sheet) output })
+    (record {
+      answer = record { verdict = verdict.Accepted; bytes = length sheet };
+      output = sheet ++ drop (length sheet) output;
+    })
     (λ r. record { answer = record { verdict = verdict.Refused r; bytes = 0 }; output = output })

@@ -44,9 +44,11 @@ unfoldable pub fired : Kernel → (n centre : ℕ) → List ℕ → List ℕ
 fired kernel.Raw n c ws = ws
 fired kernel.Difference n c ws = set ws 0 (word (squares ws n c))
 fired (kernel.Scaled f) n c ws = set ws 0 (word (mul binary32 (values ws n n) f))
-fired (kernel.Blend g) n c ws = set ws 0 (word (add binary32 (mul binary32 (g .a) (float (wordIn ws c))) (mul binary32 (g .b) (values ws n c))))
+fired (kernel.Blend g) n c ws = set ws 0
+    (word (add binary32 (mul binary32 (g .a) (float (wordIn ws c))) (mul binary32 (g .b) (values ws n c))))
 
--- An index moved by an entry of an offset, which is written as the character `0`, `+` or `-`; outside of every grid where that cannot be.
+-- An index moved by an entry of an offset, which is written as the character `0`, `+` or `-`; outside of every grid where
+-- that cannot be.
 unfoldable pub movedBy : (i entry : ℕ) → ℕ
 movedBy i e =
     cond (eqb e 48) i
@@ -56,7 +58,8 @@ movedBy i e =
 
 -- Index b of row a, where rows have `size` entries.
 unfoldable pub indexIn : (a size b : ℕ) → ℕ
-indexIn a size b = cond (ltb a 1048576) (cond (ltb size 1048576) (cond (ltb b 1048576) (a * size + b) 1099511627776) 1099511627776) 1099511627776
+indexIn a size b = cond (ltb a 1048576)
+    (cond (ltb size 1048576) (cond (ltb b 1048576) (a * size + b) 1099511627776) 1099511627776) 1099511627776
 
 -- The cell at [z][y][x]; a word that no firing should show where there is none.
 abbrev pub noCell : ℕ
@@ -65,12 +68,15 @@ noCell = 0x0BAD0BAD
 unfoldable pub cellOf : Loops → (cells : List ℕ) (z y x : ℕ) → ℕ
 cellOf l cells z y x =
     let p = indexIn (indexIn z (l .rows) y) (l .columns) x in
-    cond (ltb z (l .planes)) (cond (ltb y (l .rows)) (cond (ltb x (l .columns)) (cond (ltb p (length cells)) (getD cells p 0) noCell) noCell) noCell) noCell
+    cond (ltb z (l .planes))
+    (cond (ltb y (l .rows)) (cond (ltb x (l .columns)) (cond (ltb p (length cells)) (getD cells p 0) noCell) noCell)
+    noCell) noCell
 
 -- What reference k reads in iteration [z][y][x]: its offset is written from character 4 * k on.
 unfoldable pub readBy : Loops → (window cells : List ℕ) (z y x k : ℕ) → ℕ
 readBy l window cells z y x k =
-    cellOf l cells (movedBy z (getD window (4 * k) 0)) (movedBy y (getD window (4 * k + 1) 0)) (movedBy x (getD window (4 * k + 2) 0))
+    cellOf l cells (movedBy z (getD window (4 * k) 0)) (movedBy y (getD window (4 * k + 1) 0))
+    (movedBy x (getD window (4 * k + 2) 0))
 
 -- The words with those of n references from k on, as many as the window has.
 unfoldable pub gathered : Loops → (window cells : List ℕ) (z y x k n : ℕ) → List ℕ → List ℕ
@@ -184,7 +190,8 @@ gridOf l =
     (record { skewed = false; rows = 0; dims = 2; sizes = sizeOf (l .rows) ∷ sizeOf (l .columns) ∷ 0 ∷ 0 ∷ [] })
     (record { skewed = false; rows = 0; dims = 3; sizes = sizeOf (l .planes) ∷ sizeOf (l .rows) ∷ sizeOf (l .columns) ∷ 0 ∷ [] })
 
--- An entry of an offset by its character, and the entries with those of reference k, where z is no entry of a grid of two dimensions.
+-- An entry of an offset by its character, and the entries with those of reference k, where z is no entry of a grid of two
+-- dimensions.
 unfoldable pub entryOf : ℕ → ℤ
 entryOf c = cond (eqb c 43) (pos 1) (cond (eqb c 45) (negsuc 0) (pos 0))
 
@@ -200,14 +207,16 @@ unfoldable pub listedFrom : (dims : ℕ) (window : List ℕ) (k at : ℕ) → Li
 listedFrom dims window zero at es = es
 listedFrom dims window (suc k) at es =
     listedFrom dims window k (at + 4)
-    (cond (ltb (at + 2) (length window)) (placed dims (at / 4) (getD window at 0) (getD window (at + 1) 0) (getD window (at + 2) 0) es) es)
+    (cond (ltb (at + 2) (length window))
+    (placed dims (at / 4) (getD window at 0) (getD window (at + 1) 0) (getD window (at + 2) 0) es) es)
 
 abbrev pub referencesIn : (window : List ℕ) → ℕ
 referencesIn window = length window / 4 + 1
 
 -- The window with its references as they are written.
 unfoldable pub listed : (dims : ℕ) (window : List ℕ) → Window
-listed dims window = record { count = referencesIn window % 256; offsets = listedFrom dims window (referencesIn window) 0 (replicate 128 (pos 0)) }
+listed dims window = record
+    { count = referencesIn window % 256; offsets = listedFrom dims window (referencesIn window) 0 (replicate 128 (pos 0)) }
 
 -- An index as a signed number, and the last before the end of a loop, which is -1 where that is 0.
 abbrev pub indexOf : ℕ → ℤ
@@ -238,4 +247,9 @@ requestOf l window k = record { grid = gridOf l; window = listed (l .dims) windo
 
 -- The same on a skewed grid of so many rows.
 abbrev pub onRows : Request → (rows : ℕ) → Request
-onRows r rows = record { grid = record { skewed = true; rows = rows; dims = 2; sizes = replicate 4 0 }; window = r .window; bounds = r .bounds; kernel = r .kernel }
+onRows r rows = record {
+  grid = record { skewed = true; rows = rows; dims = 2; sizes = replicate 4 0 };
+  window = r .window;
+  bounds = r .bounds;
+  kernel = r .kernel;
+}

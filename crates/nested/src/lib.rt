@@ -6,7 +6,8 @@ use crate::windows::Loops;
 use model::Kernel;
 ghost use mathlib.Core.Path.{_≡_};
 ghost use Rattle.model_run.specs.Kernels.{float, word as wordOf, width as widthOf};
-ghost use Rattle.nested.specs.Nested.{noTerms, added, wordIn, values, squares, fired, movedBy, indexIn, cellOf, gathered, agreed};
+ghost use Rattle.nested.specs.Nested.{noTerms, added, wordIn, values, squares, fired, movedBy, indexIn, cellOf};
+ghost use Rattle.nested.specs.Nested.{gathered, agreed};
 
 // The value of a word.
 fn value(w: u32) -> f32

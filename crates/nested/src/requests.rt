@@ -6,7 +6,8 @@ use model::Kernel;
 use model::Request;
 use model::Window;
 ghost use mathlib.Core.Path.{_≡_};
-ghost use Rattle.nested.specs.Nested.{sizeOf, gridOf, entryOf, placed, listed as listedIn, indexOf, lastBefore, alongDims, lowestOf, highestOf, boundsOf, requestOf, onRows};
+ghost use Rattle.nested.specs.Nested.{sizeOf, gridOf, entryOf, placed, listed as listedIn, indexOf, lastBefore};
+ghost use Rattle.nested.specs.Nested.{alongDims, lowestOf, highestOf, boundsOf, requestOf, onRows};
 
 fn size(x: usize) -> u32
     ensures { λ r. ⌜ r ≡ sizeOf x ⌝ }

@@ -4,8 +4,9 @@ ghost use mathlib.Core.Path.{_≡_};
 ghost use lib.ListN.{length};
 ghost use Rattle.nested.specs.Nested.{flatLoops, solidLoops, smallLoops, aroundLoops, boxLoops};
 
-// A grid as the nested loop sees it, one plane where it has two dimensions; the iterations that it goes over, each index from its first to before its end, and
-// whether they are a box's; and which reference of the window is the centre, or their number if none is.
+// A grid as the nested loop sees it, one plane where it has two dimensions; the iterations that it goes over, each index from
+// its first to before its end, and whether they are a box's; and which reference of the window is the centre, or their number
+// if none is.
 pub struct Loops {
     pub dims: u8,
     pub planes: usize,
@@ -129,7 +130,8 @@ pub fn over_box(
     }
 }
 
-// A window is written as text: its references in the author's order with a space between, each by its offset's entries for z, y and x as `+`, `0` or `-`.
+// A window is written as text: its references in the author's order with a space between, each by its offset's entries for z,
+// y and x as `+`, `0` or `-`.
 
 // How many references a window has.
 pub fn references(window: &[u8]) -> usize

@@ -4,14 +4,12 @@ use libc::STDOUT_FILENO;
 use model::Arriving;
 use model::BLOCK_PLACES;
 use model::PLAN_TEXT_PLACES;
+use model::ROW_NUMBERS;
 use model::Verdict;
 ghost use mathlib.Core.Path.{_≡_};
 ghost use lib.ListN.{replicate};
 ghost use Rattle.model_sheet.specs.Frames.{rowNumbers};
 ghost use Rattle.program_laws.specs.Loops.{TakenUnless, PlanDue};
-
-// A start and a length of each of 512 rows.
-const ROW_NUMBERS: usize = 1024;
 
 // The sheet as far as it was read; `failed` where a read failed.
 struct Received {
@@ -19,7 +17,8 @@ struct Received {
     arriving: Arriving,
 }
 
-// Reads block after block, to the end of the input or to the first line that is turned back; the numbers on the sheet's first line go to `rows`.
+// Reads block after block, to the end of the input or to the first line that is turned back; the numbers on the sheet's first
+// line go to `rows`.
 fn receive(block: &mut [u8], rows: &mut [u32]) -> Received
     requires { ⌜ now rows ≡ replicate rowNumbers 0 ⌝ }
     ensures { λ r. ⌜ TakenUnless (r .failed) (r .arriving) (now (rows .exit)) ⌝ }

@@ -1,4 +1,3 @@
-pub mod OrderLaws
 pub mod InsertLaws
 pub mod ArrangeLaws
 pub mod HeldLaws

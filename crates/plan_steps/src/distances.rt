@@ -1,4 +1,5 @@
-// Document 003, section 3.3.2: the reuse distances of all pairs of neighbours, which are the FIFOs' sizes. On a rectangle a pair's distance is the same in all iterations, so the first one's positions tell it.
+// Document 003, section 3.3.2: the reuse distances of all pairs of neighbours, which are the FIFOs' sizes. On a rectangle a
+// pair's distance is the same in all iterations, so the first one's positions tell it.
 ghost use Prim.Native.Nat.{ℕ, _+_, _-_, _≤_, _<_};
 ghost use Rattle.geometry.specs.Parts.{numberAt, Filled};
 
@@ -32,10 +33,15 @@ fn differences(at: &[u32; 32], n: usize) -> [u32; 31]
     r
 }
 
-// The distances of neighbours, where `at` has the position that each reference reads in one iteration, and `order` is the references' in which no position is below the next.
+// The distances of neighbours, where `at` has the position that each reference reads in one iteration, and `order` is the
+// references' in which no position is below the next.
 pub(crate) fn distances(at: &[u32; 32], order: &[usize; 32], n: usize) -> [u32; 31]
-    requires { ⌜ (0 < n) × (n ≤ 32) × ((k : ℕ) → k < n → numberAt (now order) k < n) × ((k : ℕ) → k + 1 < n → numberAt (now at) (numberAt (now order) (k + 1)) ≤ numberAt (now at) (numberAt (now order) k)) ⌝ }
-    ensures { λ r. ⌜ Filled 31 0 (λ k. numberAt (now (at .entry)) (numberAt (now (order .entry)) k) - numberAt (now (at .entry)) (numberAt (now (order .entry)) (k + 1))) (n - 1) r ⌝ }
+    requires { ⌜ (0 < n) × (n ≤ 32) × ((k : ℕ) → k < n → numberAt (now order) k < n)
+        × ((k : ℕ) → k + 1 < n
+        → numberAt (now at) (numberAt (now order) (k + 1)) ≤ numberAt (now at) (numberAt (now order) k)) ⌝ }
+    ensures { λ r. ⌜ Filled 31 0
+        (λ k. numberAt (now (at .entry)) (numberAt (now (order .entry)) k) - numberAt (now (at .entry))
+        (numberAt (now (order .entry)) (k + 1))) (n - 1) r ⌝ }
 {
     let sorted = in_order(at, order, n);
     differences(&sorted, n)

@@ -1,4 +1,5 @@
-// The three steps of planning, in the order of document 003, section 3.3: the offsets sorted (sorting.rt), the distances of neighbours (distances.rt), their sum (total.rt).
+// The three steps of planning, in the order of document 003, section 3.3: the offsets sorted (sorting.rt), the distances of
+// neighbours (distances.rt), their sum (total.rt).
 mod distances;
 mod sorting;
 pub mod total;
@@ -17,9 +18,11 @@ ghost use Rattle.model.specs.Steps.{refusedSteps, stepsOf};
 ghost use Rattle.model.specs.declared.Verdict.the-variants.{Accepted};
 ghost use Rattle.plan_steps.specs.Order.{FirstPositions};
 
-// The results of a rectangle, a window and a box that 3 to 6 and 15 let pass, where `at` has the position that each reference reads in the first iteration that is covered.
+// The results of a rectangle, a window and a box that 3 to 6 and 15 let pass, where `at` has the position that each reference
+// reads in the first iteration that is covered.
 fn taken(grid: Grid, window: Window, bounds: Bounds, at: &[u32; 32]) -> Steps
-    requires { ⌜ (grid .skewed ≡ false) × (judgeWindow grid [] window bounds ≡ Accepted) × FirstPositions grid window bounds (now at) ⌝ }
+    requires { ⌜ (grid .skewed ≡ false) × (judgeWindow grid [] window bounds ≡ Accepted)
+        × FirstPositions grid window bounds (now at) ⌝ }
     ensures { λ r. ⌜ r ≡ stepsOf grid [] window bounds ⌝ }
 {
     let dims = grid.dims;
@@ -109,7 +112,8 @@ fn on_rows(grid: Grid, rows: &[u32], window: Window, bounds: Bounds) -> Steps
     }
 }
 
-// The three results, of every grid, window and box that 3 (on rows 16) to 6 and 15 let pass, also of those that 7, 8 or 9 turns back with a kernel; else the first of these that refuses.
+// The three results, of every grid, window and box that 3 (on rows 16) to 6 and 15 let pass, also of those that 7, 8 or 9
+// turns back with a kernel; else the first of these that refuses.
 pub fn steps(grid: Grid, rows: &[u32], window: Window, bounds: Bounds) -> Steps
     ensures { λ r. ⌜ r ≡ stepsOf grid (now (rows .entry)) window bounds ⌝ }
 {

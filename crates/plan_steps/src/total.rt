@@ -25,10 +25,7 @@ fn sum_of(sizes: &[u32; 31], count: u8) -> u64
 pub fn total(sizes: &[u32; 31], count: u8) -> u64
     ensures { λ r. ⌜ r ≡ totalIn count (now (sizes .entry)) ⌝ }
 {
-    if count == 0 {
-        return 0;
-    }
-    if 32 < count {
+    if limits::bad_count(count) {
         return 0;
     }
     sum_of(sizes, count)

@@ -25,9 +25,9 @@ use Rattle.grid_laws.proofs.ChainLaws.{ground-dims}
 use Rattle.grid_laws.proofs.CheckLaws.{WindowPasses, few-dims, few-references}
 use Rattle.grid_laws.proofs.StepLaws.{steps-verdict, passed, judged-by-steps, request-passes, chain-by-steps}
 use Rattle.geometry.specs.Parts.{numberAt, Filled}
-use Rattle.geometry.specs.Windows.{hasCentre}
+use Rattle.windows.specs.Windows.{hasCentre}
 use Rattle.geometry.proofs.FillLaws.{filled-all}
-use Rattle.geometry.proofs.OffsetLaws.{has-centre-is}
+use Rattle.windows.proofs.OffsetLaws.{has-centre-is}
 use Rattle.planner.specs.Plans.{refusedPlan}
 
 -- The sizes with 0 past the last.

@@ -7,7 +7,8 @@ ghost use mathlib.Core.Path.{_≡_};
 ghost use Rattle.program_writer.specs.Texts.{laid, laidIfFits, Within};
 ghost use Rattle.program_answer.specs.Answer.{planAnswer};
 
-// The chain sheet of the request that arrived, planned with the rows beside it, or its refusal, where that fits; how many characters it has.
+// The chain sheet of the request that arrived, planned with the rows beside it, or its refusal, where that fits; how many
+// characters it has.
 pub fn plan_answer(a: Arriving, rows: &[u32], text: &mut [u8]) -> usize
     ensures { λ r. ⌜ laid r (now (text .exit)) ≡ laidIfFits (planAnswer a (now (rows .entry))) (now (text .entry)) ⌝ }
     ensures { λ r. ⌜ Within r (now (text .exit)) ⌝ }

@@ -15,7 +15,7 @@ use Rattle.model_run.specs.Kernels.{width}
 use Rattle.model_run.specs.Running.{Run, runOf}
 use Rattle.runner.specs.Runs.{ranOf}
 use Rattle.program_writer.specs.Texts.{laid, roomFor, firingsLaid}
-use Rattle.program_stages.specs.declared.Job.{Job}
+use Rattle.program_jobs.specs.declared.Job.{Job}
 use Rattle.program_driver.specs.RunSteps.{left, partRun, partLeft, KeptBehind, jobAfter, ranOn}
 use Rattle.program_driver.proofs.CellLaws.{lent-at-most}
 

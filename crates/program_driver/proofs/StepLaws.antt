@@ -6,15 +6,17 @@ use mathlib.Core.Path.{_≡_, sym, ap, _∙_}
 use Rattle.model.specs.declared.Refusal.{Refusal}
 use Rattle.model_sheet.specs.Frames.{framed}
 use Rattle.model_program.specs.Programs.{endLine, refusalText}
-use Rattle.program_intake.specs.declared.CellsTaken.{CellsTaken}
+use Rattle.program_cells.specs.declared.CellsTaken.{CellsTaken}
 use Rattle.program_intake.specs.declared.LineTaken.{LineTaken}
-use Rattle.program_intake.specs.Taken.{beside, tookLine, lineTaken, took, cellsTaken}
+use Rattle.program_intake.specs.Taken.{beside, tookLine, lineTaken}
+use Rattle.program_cells.specs.Cells.{took, cellsTaken}
 use Rattle.program_writer.specs.Texts.{laid, laidIfFits}
-use Rattle.program_stages.specs.declared.Job.{Job}
+use Rattle.program_jobs.specs.declared.Job.{Job}
 use Rattle.program_stages.specs.declared.Stage.{Stage}
 use Rattle.program_stages.specs.declared.Stage.the-variants as stage
 use Rattle.program_driver.specs.declared.Step.{Step}
-use Rattle.program_stages.specs.Stages.{staged, sheetStage, cellsStage}
+use Rattle.program_stages.specs.Stages.{sheetStage, cellsStage}
+use Rattle.program_jobs.specs.Jobs.{staged}
 use Rattle.program_driver.specs.RunSteps.{Left, left, sheetRead, LeavesRows, cellsRead, LeavesCells, ranOn, lastLine, advancedBy, advanced}
 
 pub sheet-step : (j : Job) (block : List ℕ) (at : ℕ) (before after : List ℕ) (t : LineTaken) (s : Stage) → tookLine t after ≡ lineTaken true (beside (j .arriving) before) block at

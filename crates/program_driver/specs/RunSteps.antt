@@ -14,12 +14,14 @@ use Rattle.model_run.specs.Kernels.{width}
 use Rattle.model_run.specs.Running.{Run, runOf}
 use Rattle.model_program.specs.Programs.{endLine, refusalText}
 use Rattle.runner.specs.Runs.{ranOf}
-use Rattle.program_intake.specs.Taken.{beside, lineTaken, cellsTaken}
+use Rattle.program_intake.specs.Taken.{beside, lineTaken}
+use Rattle.program_cells.specs.Cells.{cellsTaken}
 use Rattle.program_writer.specs.Texts.{laidIfFits, roomFor, firingsLaid}
-use Rattle.program_stages.specs.declared.Job.{Job}
+use Rattle.program_jobs.specs.declared.Job.{Job}
 use Rattle.program_stages.specs.declared.Stage.{Stage}
 use Rattle.program_stages.specs.declared.Stage.the-variants as stage
-use Rattle.program_stages.specs.Stages.{staged, sheetStage, cellsStage, answerStage}
+use Rattle.program_stages.specs.Stages.{sheetStage, cellsStage, answerStage}
+use Rattle.program_jobs.specs.Jobs.{staged}
 use Rattle.program_driver.specs.declared.Step.{Step}
 
 -- All that a step leaves: what it hands back, and what it was lent.
@@ -32,7 +34,8 @@ pub record Left : Type 0 where
   pub text : List ℕ
 
 abbrev pub left : Step → (rows store cells words text : List ℕ) → Left
-left step rows store cells words text = record { step = step; rows = rows; store = store; cells = cells; words = words; text = text }
+left step rows store cells words text = record
+    { step = step; rows = rows; store = store; cells = cells; words = words; text = text }
 
 -- A line of the sheet.
 unfoldable pub sheetRead : Job → (block : List ℕ) → (at : ℕ) → (rows store cells words text : List ℕ) → Left
@@ -56,7 +59,8 @@ sheetRead j block at rows store cells words text =
 
 -- A step that was lent no more than the block and the rows.
 abbrev pub LeavesRows : Step → Job → (block : List ℕ) → (at : ℕ) → (before after : List ℕ) → Type 0
-LeavesRows s j block at before after = (store cells words text : List ℕ) → left s after store cells words text ≡ sheetRead j block at before store cells words text
+LeavesRows s j block at before after = (store cells words text : List ℕ)
+    → left s after store cells words text ≡ sheetRead j block at before store cells words text
 
 -- `05` lines.
 unfoldable pub cellsRead : Job → (block : List ℕ) → (at : ℕ) → (rows store cells words text : List ℕ) → Left
@@ -80,11 +84,13 @@ cellsRead j block at rows store cells words text =
 
 -- A step that was lent no more than the block and the cells.
 abbrev pub LeavesCells : Step → Job → (block : List ℕ) → (at : ℕ) → (before after : List ℕ) → Type 0
-LeavesCells s j block at before after = (rows store words text : List ℕ) → left s rows store after words text ≡ cellsRead j block at rows store before words text
+LeavesCells s j block at before after = (rows store words text : List ℕ)
+    → left s rows store after words text ≡ cellsRead j block at rows store before words text
 
 -- The call: it is lent the cells from `from` to before `to`, and the first `places` words as its output.
 abbrev pub partRun : Chain → (rows : List ℕ) → State → (store cells words : List ℕ) → (from to places : ℕ) → Run
-partRun c rows s store cells words from to places = runOf c rows s store (drop from (take to cells)) (take places words) 4294967295
+partRun c rows s store cells words from to places = runOf c rows s store (drop from (take to cells)) (take places words)
+    4294967295
 
 -- What it leaves, where `store` and `words` are as it left them.
 abbrev pub partLeft : Ran → (store words : List ℕ) → (places : ℕ) → Run
@@ -117,7 +123,8 @@ ranOn j at rows store cells words text =
     let r = partRun chain rows (j .state) store cells words from to places in
     let output = r .output ++ drop places words in
     let t = firingsLaid size (j .state .fired .0) (answerCounts (r .answer) .firings) output text in
-    left (record { job = jobAfter j (r .answer) (r .state) from to; at = at; bytes = t .chars }) rows (r .store) cells output (t .output)
+    left (record { job = jobAfter j (r .answer) (r .state) from to; at = at; bytes = t .chars }) rows (r .store) cells output
+    (t .output)
 
 -- The last line.
 unfoldable pub lastLine : Job → (line : List ℕ) → (at : ℕ) → (rows store cells words text : List ℕ) → Left
@@ -130,9 +137,11 @@ unfoldable pub advancedBy : Stage → Job → (block : List ℕ) → (at : ℕ) 
 advancedBy stage.Sheet j block at rows store cells words text = sheetRead j block at rows store cells words text
 advancedBy stage.Cells j block at rows store cells words text = cellsRead j block at rows store cells words text
 advancedBy stage.Clocks j block at rows store cells words text = ranOn j at rows store cells words text
-advancedBy (stage.Ending way) j block at rows store cells words text = lastLine j (framed (endLine way (j .clocks))) at rows store cells words text
+advancedBy (stage.Ending way) j block at rows store cells words text = lastLine j (framed (endLine way (j .clocks))) at rows
+    store cells words text
 advancedBy (stage.Refusing x) j block at rows store cells words text = lastLine j (refusalText x) at rows store cells words text
-advancedBy stage.Over j block at rows store cells words text = left (record { job = j; at = at; bytes = 0 }) rows store cells words text
+advancedBy stage.Over j block at rows store cells words text = left (record { job = j; at = at; bytes = 0 }) rows store cells
+    words text
 
 unfoldable pub advanced : Job → (block : List ℕ) → (at : ℕ) → (rows store cells words text : List ℕ) → Left
 advanced j block at rows store cells words text = advancedBy (j .stage) j block at rows store cells words text

@@ -2,8 +2,9 @@
 use model::Chain;
 use model::Ran;
 use model::State;
-use program_stages::Job;
+use program_jobs::Job;
 use program_stages::Stage;
+use values::counts_of;
 use values::lesser;
 ghost use mathlib.Core.Path.{_≡_};
 ghost use Prim.Native.Nat.{_+_, _≤_};
@@ -11,9 +12,11 @@ ghost use lib.ListN.{length};
 ghost use Rattle.model.specs.Answers.{answerCounts};
 ghost use Rattle.model_run.specs.Kernels.{width};
 ghost use Rattle.program_writer.specs.Texts.{Within};
-ghost use Rattle.program_driver.specs.RunSteps.{left, LeavesRows, LeavesCells, partRun, partLeft, KeptBehind, jobAfter, ranOn, advanced};
+ghost use Rattle.program_driver.specs.RunSteps.{left, LeavesRows, LeavesCells, partRun, partLeft, KeptBehind, jobAfter};
+ghost use Rattle.program_driver.specs.RunSteps.{ranOn, advanced};
 
-// What a step leaves: the job, the place in the block behind what was looked at, and how many characters of text are to be written.
+// What a step leaves: the job, the place in the block behind what was looked at, and how many characters of text are to be
+// written.
 pub struct Step {
     pub job: Job,
     pub at: usize,
@@ -47,7 +50,7 @@ fn read_cells(j: Job, block: &[u8], at: usize, cells: &mut [u32]) -> Step
     ensures { λ r. ⌜ LeavesCells r j (now (block .entry)) at (now (cells .entry)) (now (cells .exit)) ⌝ }
 {
     let old = j.line;
-    let t = program_intake::take_cells(old, block, at, cells);
+    let t = program_cells::take_cells(old, block, at, cells);
     let line = t.line;
     let v = line.verdict;
     let arriving = j.arriving;
@@ -73,7 +76,7 @@ fn firing_size(chain: Chain) -> usize
 {
     let window = chain.window;
     let kernel = chain.kernel;
-    kernel::width(kernel, window.count as usize)
+    kernel_terms::width(kernel, window.count as usize)
 }
 
 // A run call over the cells from `from` to before `to`, with the first `places` words as its output.
@@ -89,7 +92,9 @@ fn run_part(
     places: usize,
 ) -> Ran
     requires { ⌜ (from ≤ to) × (to ≤ length (now cells)) × (places ≤ length (now words)) ⌝ }
-    ensures { λ r. ⌜ partLeft r (now (store .exit)) (now (words .exit)) places ≡ partRun chain (now (rows .entry)) state (now (store .entry)) (now (cells .entry)) (now (words .entry)) from to places ⌝ }
+    ensures { λ r. ⌜ partLeft r (now (store .exit)) (now (words .exit)) places
+        ≡ partRun chain (now (rows .entry)) state (now (store .entry)) (now (cells .entry)) (now (words .entry)) from to
+        places ⌝ }
     ensures { λ r. ⌜ KeptBehind places (now (words .entry)) (now (words .exit)) ⌝ }
 {
     runner::run(
@@ -112,7 +117,7 @@ fn ran_on(j: Job, ran: Ran, from: usize, to: usize) -> Job
     let state = ran.state;
     let arriving = j.arriving;
     let line = j.line;
-    let c = program_stages::counts_of(answer);
+    let c = counts_of(answer);
     Job {
         stage: program_stages::answer_stage(answer),
         arriving,
@@ -134,7 +139,10 @@ fn run_on(
     words: &mut [u32],
     text: &mut [u8],
 ) -> Step
-    ensures { λ r. ⌜ left r (now (rows .entry)) (now (store .exit)) (now (cells .entry)) (now (words .exit)) (now (text .exit)) ≡ ranOn j at (now (rows .entry)) (now (store .entry)) (now (cells .entry)) (now (words .entry)) (now (text .entry)) ⌝ }
+    ensures { λ r. ⌜ left r (now (rows .entry)) (now (store .exit)) (now (cells .entry)) (now (words .exit))
+        (now (text .exit))
+        ≡ ranOn j at (now (rows .entry)) (now (store .entry)) (now (cells .entry)) (now (words .entry)) (now (text .entry))
+        ⌝ }
 {
     let arriving = j.arriving;
     let reading = arriving.reading;
@@ -147,7 +155,7 @@ fn run_on(
     let ran = run_part(chain, rows, state, store, cells, from, to, words, places);
     let fired = state.fired;
     let answer = ran.answer;
-    let c = program_stages::counts_of(answer);
+    let c = counts_of(answer);
     let bytes = program_writer::put_firings(size, fired.0, c.firings, words, text);
     Step {
         job: ran_on(j, ran, from, to),
@@ -167,7 +175,9 @@ pub fn advance(
     words: &mut [u32],
     text: &mut [u8],
 ) -> Step
-    ensures { λ r. ⌜ left r (now (rows .exit)) (now (store .exit)) (now (cells .exit)) (now (words .exit)) (now (text .exit)) ≡ advanced j (now (block .entry)) at (now (rows .entry)) (now (store .entry)) (now (cells .entry)) (now (words .entry)) (now (text .entry)) ⌝ }
+    ensures { λ r. ⌜ left r (now (rows .exit)) (now (store .exit)) (now (cells .exit)) (now (words .exit)) (now (text .exit))
+        ≡ advanced j (now (block .entry)) at (now (rows .entry)) (now (store .entry)) (now (cells .entry))
+        (now (words .entry)) (now (text .entry)) ⌝ }
     ensures { λ r. ⌜ Within (r .bytes) (now (text .exit)) ⌝ }
 {
     let stage = j.stage;
@@ -178,7 +188,7 @@ pub fn advance(
         Stage::Ending(way) => {
             let bytes = program_writer::put_end(way, j.clocks, text);
             Step {
-                job: program_stages::staged(j, Stage::Over),
+                job: program_jobs::staged(j, Stage::Over),
                 at,
                 bytes,
             }
@@ -186,7 +196,7 @@ pub fn advance(
         Stage::Refusing(n) => {
             let bytes = program_writer::put_refusal(n, text);
             Step {
-                job: program_stages::staged(j, Stage::Over),
+                job: program_jobs::staged(j, Stage::Over),
                 at,
                 bytes,
             }

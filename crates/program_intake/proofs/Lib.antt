@@ -2,5 +2,3 @@ pub mod PieceLaws
 pub mod ArrivingLaws
 pub mod LineLaws
 pub mod FinishLaws
-pub mod CellLaws
-pub mod RoomLaws

@@ -1,25 +1,24 @@
 -- What is taken from a block, from place `at` on.
 use Prim.Native.Nat.{ℕ, _+_}
 use mathlib.Core.Bool.{Bool, cond, _||_}
-use mathlib.Core.List.{List, _++_}
+use mathlib.Core.List.{List}
 use lib.Dec.{ltb}
 use lib.ListN.{length, drop}
 use Rattle.model.specs.declared.Arriving.{Arriving}
-use Rattle.model.specs.declared.CellLine.{CellLine}
 use Rattle.model.specs.declared.Frame.{Frame}
 use Rattle.model.specs.declared.Last.{Last}
 use Rattle.model.specs.declared.Verdict.the-variants as verdict
 use Rattle.model_sheet.specs.Frames.{numbersFeeds}
-use Rattle.model_sheet.specs.Arriving.{stoodFirst, Arrived, arrive, throughFeed, readCells}
+use Rattle.model_sheet.specs.Arriving.{stoodFirst, Arrived, arrive, throughFeed}
 use Rattle.program_intake.specs.declared.LineTaken.{LineTaken}
-use Rattle.program_intake.specs.declared.CellsTaken.{CellsTaken}
 
 -- An open line, `chars` characters longer: whether it has one, and what has arrived with it, where they make its frame `frame`.
 abbrev pub started : Bool → (chars : ℕ) → Bool
 started begun chars = begun || ltb 0 chars
 
 abbrev pub longer : Arriving → Frame → (chars : ℕ) → Arriving
-longer a frame chars = record { verdict = verdict.Accepted; reading = a .reading; frame = frame; begun = started (a .begun) chars }
+longer a frame chars = record
+    { verdict = verdict.Accepted; reading = a .reading; frame = frame; begun = started (a .begun) chars }
 
 -- The rows' numbers with a piece of the open line: those of the sheet's first line alone.
 unfoldable pub numbersTaken : Last → (rows : List ℕ) → Frame → (piece : List ℕ) → List ℕ
@@ -43,17 +42,3 @@ lineTaken chained a block at =
     let piece = throughFeed (drop at block) in
     let t = arrive chained a piece in
     tookLine (record { arriving = t .sheet; at = at + length piece }) (t .rows)
-
--- All that taking cells leaves: its answer, and the places that it was lent.
-pub record Took : Type 0 where
-  pub answer : CellsTaken
-  pub cells : List ℕ
-
-abbrev pub took : CellsTaken → List ℕ → Took
-took answer cells = record { answer = answer; cells = cells }
-
--- The cells from the first place on; later places stay as they were.
-unfoldable pub cellsTaken : CellLine → (block : List ℕ) → (at : ℕ) → (cells : List ℕ) → Took
-cellsTaken l block at cells =
-    let r = readCells (length cells) l (drop at block) in
-    took (record { line = r .line; at = at + r .looked; count = length (r .cells) }) (r .cells ++ drop (length (r .cells)) cells)

@@ -1,29 +1,20 @@
-// Reading as characters arrive, block by block and in fixed memory: a sheet line by line, and the cells behind a chain sheet.
+// A sheet as its characters arrive, block by block and in fixed memory.
 use model::Arriving;
-use model::CellLine;
 use model::Frame;
 use model::Last;
 use model::LineStep;
 use model::Refusal;
 use model::Verdict;
 ghost use mathlib.Core.Path.{_≡_};
-ghost use Rattle.model.specs.declared.Verdict.the-variants.{Accepted};
-ghost use Rattle.model_sheet.specs.Arriving.{opened, closed, stoodFirst, arrive, finished, newLine};
+ghost use Rattle.model_sheet.specs.Arriving.{opened, closed, stoodFirst, arrive, finished};
 ghost use Rattle.model_sheet.specs.Frames.{shown};
 ghost use Rattle.model_sheet.specs.Reading.{stepOf};
-ghost use Rattle.program_intake.specs.Taken.{started, longer, numbersTaken, beside, tookLine, lineTaken, took, cellsTaken};
+ghost use Rattle.program_intake.specs.Taken.{started, longer, numbersTaken, beside, tookLine, lineTaken};
 
 // A line taken from a block, or as much of it as the block has, and the place behind it.
 pub struct LineTaken {
     pub arriving: Arriving,
     pub at: usize,
-}
-
-// Cells taken from a block, `count` of them; the line behind them, open or turned back; the place behind what was looked at.
-pub struct CellsTaken {
-    pub line: CellLine,
-    pub at: usize,
-    pub count: usize,
 }
 
 // Before a sheet's first character.
@@ -39,7 +30,7 @@ pub fn open() -> Arriving
 }
 
 // Whether an open line has a character, once some were added.
-fn has_begun(begun: bool, chars: usize) -> bool
+pub fn has_begun(begun: bool, chars: usize) -> bool
     ensures { λ r. ⌜ r ≡ started begun chars ⌝ }
 {
     if begun {
@@ -182,89 +173,5 @@ pub fn finish(a: Arriving) -> LineStep
                 reading,
             }
         }
-    }
-}
-
-// Before the first character of a line where cells are read.
-pub fn new_line() -> CellLine
-    ensures { λ r. ⌜ r ≡ newLine ⌝ }
-{
-    CellLine {
-        verdict: Verdict::Accepted,
-        frame: sheet_frames::empty_frame(),
-        begun: false,
-    }
-}
-
-// The cells of the block's lines from `at` on, the first of which may be open already: as many as have places, up to the first line that is turned back.
-pub fn take_cells(l: CellLine, block: &[u8], at: usize, cells: &mut [u32]) -> CellsTaken
-    ensures { λ r. ⌜ took r (now (cells .exit)) ≡ cellsTaken l (now (block .entry)) at (now (cells .entry)) ⌝ }
-{
-    let v = l.verdict;
-    match v {
-        Verdict::Refused(_) => CellsTaken {
-            line: l,
-            at,
-            count: 0,
-        },
-        Verdict::Accepted => cells_from(l, block, at, cells),
-    }
-}
-
-// The same behind no line that was turned back.
-fn cells_from(l: CellLine, block: &[u8], at: usize, cells: &mut [u32]) -> CellsTaken
-    requires { ⌜ l .verdict ≡ Accepted ⌝ }
-    ensures { λ r. ⌜ took r (now (cells .exit)) ≡ cellsTaken l (now (block .entry)) at (now (cells .entry)) ⌝ }
-{
-    let mut frame = l.frame;
-    let mut begun = l.begun;
-    let mut p = at;
-    let mut count: usize = 0;
-    while count < cells.len() {
-        let piece = sheet_frames::line(block, p);
-        let chars = piece.len();
-        let end = p + chars;
-        let open = sheet_frames::more(frame, piece);
-        if block.len() <= end {
-            return CellsTaken {
-                line: CellLine {
-                    verdict: Verdict::Accepted,
-                    frame: open,
-                    begun: has_begun(begun, chars),
-                },
-                at: end,
-                count,
-            };
-        }
-        p = end + 1;
-        let w = sheet_verdicts::cell_verdict(open);
-        match w {
-            Verdict::Refused(n) => {
-                return CellsTaken {
-                    line: CellLine {
-                        verdict: Verdict::Refused(n),
-                        frame: sheet_frames::empty_frame(),
-                        begun: false,
-                    },
-                    at: p,
-                    count,
-                };
-            }
-            Verdict::Accepted => {}
-        }
-        let x = open.first;
-        cells[count] = sheet_fields::word_in(x);
-        count += 1;
-        frame = sheet_frames::empty_frame();
-        begun = false;
-    }
-    CellsTaken {
-        line: CellLine {
-            verdict: Verdict::Accepted,
-            frame,
-            begun,
-        },
-        at: p,
-        count,
     }
 }

@@ -28,10 +28,11 @@ use Rattle.model_program.specs.Programs.{Split, endLine, refusalText, firingsTe
 use Rattle.run_laws.proofs.Accepts.{accepted-chain}
 use Rattle.run_laws.proofs.Between.{fresh-reached}
 use Rattle.sheet_trips.proofs.AsItArrives.{infront, some}
-use Rattle.program_stages.specs.declared.Job.{Job}
+use Rattle.program_jobs.specs.declared.Job.{Job}
 use Rattle.program_stages.specs.declared.Stage.{Stage}
 use Rattle.program_stages.specs.declared.Stage.the-variants as stage
-use Rattle.program_stages.specs.Stages.{fresh, sheetStage, cellsStage}
+use Rattle.program_stages.specs.Stages.{sheetStage, cellsStage}
+use Rattle.program_jobs.specs.Jobs.{fresh}
 use Rattle.program_laws.proofs.Sheets.{splitOf, text-with, Midway, Read, further, back, whole, chain-back, chain-runs}
 use Rattle.program_laws.proofs.CellLines.{Gives, is-open, is-back}
 use Rattle.program_laws.proofs.Going.{Gone, still, goesOn, endingAt, starved-stops}

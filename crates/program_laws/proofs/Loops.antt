@@ -20,10 +20,11 @@ use Rattle.model_sheet.specs.Frames.{rowNumbers}
 use Rattle.model_sheet.specs.Writing.{longestSheet}
 use Rattle.model_program.specs.Programs.{storePlaces, cellPlaces, wordPlaces, runTextPlaces}
 use Rattle.sheet_laws.proofs.Cases.{never}
-use Rattle.program_stages.specs.declared.Job.{Job}
+use Rattle.program_jobs.specs.declared.Job.{Job}
 use Rattle.program_stages.specs.declared.Stage.{Stage}
 use Rattle.program_stages.specs.declared.Stage.the-variants as stage
-use Rattle.program_stages.specs.Stages.{begun, staged, closedBy, closed, afterRead, wantsBy, wantsInput, over}
+use Rattle.program_stages.specs.Stages.{wantsBy, over}
+use Rattle.program_jobs.specs.Jobs.{begun, staged, closedBy, closed, afterRead, wantsInput}
 use Rattle.program_writer.specs.Texts.{Laid, laid, laidIfFits}
 use Rattle.program_answer.specs.Answer.{planAnswer}
 use Rattle.program_driver.specs.RunSteps.{Left, lastLine, advancedBy, advanced}

@@ -20,7 +20,7 @@ use Rattle.run_laws.specs.Accepted.{Accepted}
 use Rattle.run_laws.proofs.Accepts.{accepted-chain}
 use Rattle.run_laws.proofs.CallEnds.{outcome-counts}
 use Rattle.program_writer.specs.Texts.{roomFor, firingsLaid}
-use Rattle.program_stages.specs.declared.Job.{Job}
+use Rattle.program_jobs.specs.declared.Job.{Job}
 use Rattle.program_stages.specs.declared.Stage.{Stage}
 use Rattle.program_stages.specs.declared.Stage.the-variants as stage
 use Rattle.program_stages.specs.Stages.{outcomeStage, answerStage}

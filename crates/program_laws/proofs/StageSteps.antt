@@ -17,8 +17,9 @@ use Rattle.model_run.specs.Running.{Ending}
 use Rattle.model_sheet.specs.Reading.{complete}
 use Rattle.model_sheet.specs.Arriving.{arrive, throughFeed, CellsRead, readCells}
 use Rattle.model_program.specs.Programs.{runText, mostWords, longestFiring}
-use Rattle.program_intake.specs.Taken.{lineTaken, cellsTaken}
-use Rattle.program_stages.specs.declared.Job.{Job}
+use Rattle.program_intake.specs.Taken.{lineTaken}
+use Rattle.program_cells.specs.Cells.{cellsTaken}
+use Rattle.program_jobs.specs.declared.Job.{Job}
 use Rattle.program_stages.specs.declared.Stage.{Stage}
 use Rattle.program_stages.specs.declared.Stage.the-variants as stage
 use Rattle.program_stages.specs.Stages.{sheetStage, cellsStage}

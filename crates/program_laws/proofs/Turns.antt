@@ -16,10 +16,11 @@ use Rattle.model_sheet.specs.Frames.{framed}
 use Rattle.model_run.specs.Running.{Starved}
 use Rattle.model_program.specs.Programs.{endLine, refusalText, endText, runText}
 use Rattle.sheet_laws.proofs.Cases.{by-bool, by-lt, never}
-use Rattle.program_stages.specs.declared.Job.{Job}
+use Rattle.program_jobs.specs.declared.Job.{Job}
 use Rattle.program_stages.specs.declared.Stage.{Stage}
 use Rattle.program_stages.specs.declared.Stage.the-variants as stage
-use Rattle.program_stages.specs.Stages.{staged, closedBy, closed, wantsBy, wantsInput, over}
+use Rattle.program_stages.specs.Stages.{wantsBy, over}
+use Rattle.program_jobs.specs.Jobs.{staged, closedBy, closed, wantsInput}
 use Rattle.program_driver.specs.RunSteps.{Left, advancedBy, advanced}
 use Rattle.program_laws.specs.Whole.{FirstPart, Loop, withBlock, received, supplied, stepped, turn, turns, Lent, NonEmpty, startOf}
 use Rattle.program_laws.proofs.Sheets.{opened-midway, sheet-cut}

@@ -20,12 +20,13 @@ use Rattle.model_sheet.specs.Arriving.{CellsRead}
 use Rattle.model_sheet.specs.Frames.{framed}
 use Rattle.model_program.specs.Programs.{endLine, refusalText, runText}
 use Rattle.sheet_laws.proofs.Cases.{never}
-use Rattle.program_stages.specs.declared.Job.{Job}
+use Rattle.program_jobs.specs.declared.Job.{Job}
 use Rattle.program_stages.specs.declared.Stage.{Stage}
 use Rattle.program_stages.specs.declared.Stage.the-variants as stage
-use Rattle.program_stages.specs.Stages.{staged, cellsStage, outcomeStage, answerStage, closedBy, wantsBy, wantsInput, over}
+use Rattle.program_stages.specs.Stages.{cellsStage, outcomeStage, answerStage, wantsBy, over}
+use Rattle.program_jobs.specs.Jobs.{staged, closedBy, wantsInput}
 use Rattle.program_driver.specs.declared.Step.{Step}
-use Rattle.program_intake.specs.Taken.{cellsTaken}
+use Rattle.program_cells.specs.Cells.{cellsTaken}
 use Rattle.program_driver.specs.RunSteps.{cellsRead, ranOn, lastLine, advancedBy, advanced}
 use Rattle.program_laws.specs.Whole.{Loop, received, supplied, stepped, turn, turns, Lent, NonEmpty, startOf, Waits, no-cell, no-feed, no-line, Told, WritesFirst, StarvedAt, ReadsStarved, settled, StopsReading}
 use Rattle.program_laws.specs.Loops.{readDue, loopOf}

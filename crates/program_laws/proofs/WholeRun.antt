@@ -30,7 +30,7 @@ use Rattle.run_laws.proofs.Looks.{Looked, is-done, is-spent, is-starved, is-sta
 use Rattle.run_laws.proofs.Traces.{Traced, traced-ran}
 use Rattle.run_laws.proofs.Between.{Setting, Reached, fresh-reached, now, beginning, ending, clocks, counted-call, lent-length}
 use Rattle.run_laws.proofs.CallEnds.{why}
-use Rattle.program_stages.specs.Stages.{fresh}
+use Rattle.program_jobs.specs.Jobs.{fresh}
 use Rattle.program_laws.proofs.Going.{Gone, goesOn, endingAt, gone-same, done-stops, starved-stops, stalled-stops}
 use Rattle.program_laws.proofs.Texts.{words-only}
 use Rattle.program_laws.proofs.Calls.{end-gone, end-taken, end-fired, end-words, end-length}

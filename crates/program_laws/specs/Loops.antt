@@ -1,4 +1,5 @@
--- The loops of the programs, as their code goes through them. No contract can name what a read gave, so they speak of some answer and of some blocks.
+-- The loops of the programs, as their code goes through them. No contract can name what a read gave, so they speak of some
+-- answer and of some blocks.
 use Prim.Native.Nat.{ℕ, suc, _≤_}
 use mathlib.Core.Bool.{Bool, true, false, _&&_}
 use mathlib.Core.List.{List, [], _++_, flatten}
@@ -9,8 +10,9 @@ use lib.ListN.{length}
 use Rattle.model.specs.declared.Arriving.{Arriving}
 use Rattle.model_sheet.specs.Arriving.{Arrived, opening}
 use Rattle.model_program.specs.Programs.{planText}
-use Rattle.program_stages.specs.declared.Job.{Job}
-use Rattle.program_stages.specs.Stages.{afterRead, wantsInput, over}
+use Rattle.program_jobs.specs.declared.Job.{Job}
+use Rattle.program_stages.specs.Stages.{over}
+use Rattle.program_jobs.specs.Jobs.{afterRead, wantsInput}
 use Rattle.program_laws.specs.Whole.{Loop, turns, Lent, NonEmpty, startOf, planTaken}
 
 -- How many characters a read gave, by its answer.
@@ -46,7 +48,8 @@ abbrev pub Supplied : Job → (at len : ℕ) → (before : List ℕ) → (job : 
 Supplied j at len before job at′ len′ after = SuppliedBy (readDue j at len) j at len before job at′ len′ after
 
 -- The loop of `run` with these variables, where `written` was written and further reads give `blocks`.
-abbrev pub loopOf : Job → (block : List ℕ) → (at : ℕ) → (rows store cells words text written : List ℕ) → (blocks : List (List ℕ)) → Loop
+abbrev pub loopOf : Job → (block : List ℕ) → (at : ℕ) → (rows store cells words text written : List ℕ)
+    → (blocks : List (List ℕ)) → Loop
 loopOf j block at rows store cells words text written blocks = record {
   job = j;
   block = block;
@@ -63,13 +66,15 @@ loopOf j block at rows store cells words text written blocks = record {
 -- Before a turn of `run`: some blocks were read, and turns lead here whatever further reads give; or the program is over.
 pub data InLoop (j : Job) (block : List ℕ) (at : ℕ) (rows store cells words text : List ℕ) : Type 0 where
   going : (lent : Lent) (past : List (List ℕ)) → NonEmpty past → (n : ℕ) (written : List ℕ)
-      → ((further : List (List ℕ)) → turns n (startOf (past ++ further) lent) ≡ loopOf j block at rows store cells words text written further)
+      → ((further : List (List ℕ))
+      → turns n (startOf (past ++ further) lent) ≡ loopOf j block at rows store cells words text written further)
       → InLoop j block at rows store cells words text
   ended : over (j .stage) ≡ true → InLoop j block at rows store cells words text
 
 -- A text that is due where a turn leaves this job: what the turn writes of the blocks read, or nothing where the read failed.
 pub data RunDue (j : Job) : List ℕ → Type 0 where
-  turn-text : {text : List ℕ} (blocks : List (List ℕ)) → NonEmpty blocks → (lent : Lent) (n : ℕ) → turns (suc n) (startOf blocks lent) .job ≡ j
+  turn-text : {text : List ℕ} (blocks : List (List ℕ)) → NonEmpty blocks → (lent : Lent) (n : ℕ)
+      → turns (suc n) (startOf blocks lent) .job ≡ j
       → turns (suc n) (startOf blocks lent) .written ≡ turns n (startOf blocks lent) .written ++ text → RunDue j text
   read-failed : over (j .stage) ≡ true → RunDue j []
 

@@ -17,17 +17,20 @@ use Rattle.model_run.specs.Running.{Starved}
 use Rattle.model_sheet.specs.Arriving.{Arrived, opening, arrive}
 use Rattle.model.specs.Judging.{mostPlaces}
 use Rattle.model_sheet.specs.Writing.{longestSheet}
-use Rattle.model_program.specs.Programs.{sheetAndBehind, cellsIn, wholeRun, endLine, refusalText, planText, runText, mostWords, longestFiring, planTextPlaces, storePlaces, cellPlaces, wordPlaces, runTextPlaces}
+use Rattle.model_program.specs.Programs.{sheetAndBehind, cellsIn, wholeRun, endLine, refusalText, planText, runText}
+use Rattle.model_program.specs.Programs.{mostWords, longestFiring, planTextPlaces, storePlaces, cellPlaces, wordPlaces}
+use Rattle.model_program.specs.Programs.{runTextPlaces}
 use Rattle.program_writer.specs.Texts.{laidIfFits}
-use Rattle.program_stages.specs.declared.Job.{Job}
+use Rattle.program_jobs.specs.declared.Job.{Job}
 use Rattle.program_stages.specs.declared.Stage.{Stage}
 use Rattle.program_stages.specs.declared.Stage.the-variants as stage
-use Rattle.program_stages.specs.Stages.{begun, closed, afterRead, wantsInput, over}
+use Rattle.program_stages.specs.Stages.{over}
+use Rattle.program_jobs.specs.Jobs.{begun, closed, afterRead, wantsInput}
 use Rattle.program_answer.specs.Answer.{planAnswer}
 use Rattle.program_driver.specs.RunSteps.{advanced}
 
--- The loop of `run` before a turn: the block at hand, of which the characters before `at` were looked at; the blocks that further reads give; what was lent; and all
--- that was written so far.
+-- The loop of `run` before a turn: the block at hand, of which the characters before `at` were looked at; the blocks that
+-- further reads give; what was lent; and all that was written so far.
 pub record Loop : Type 0 where
   pub job : Job
   pub block : List ℕ
@@ -134,7 +137,8 @@ Writes = (blocks : List (List ℕ)) → NonEmpty blocks → (lent : Lent) (n : �
 
 -- And it ends.
 abbrev pub Ends : Type 0
-Ends = (blocks : List (List ℕ)) → NonEmpty blocks → (lent : Lent) → Over (turns (mostTurns (flatten blocks)) (startOf blocks lent))
+Ends = (blocks : List (List ℕ)) → NonEmpty blocks → (lent : Lent)
+    → Over (turns (mostTurns (flatten blocks)) (startOf blocks lent))
 
 -- At all times what it has written is the first part of that.
 pub record FirstPart (part whole : List ℕ) : Type 0 where
@@ -142,7 +146,8 @@ pub record FirstPart (part whole : List ℕ) : Type 0 where
   pub joined : part ++ rest ≡ whole
 
 abbrev pub NothingElse : Type 0
-NothingElse = (blocks : List (List ℕ)) → NonEmpty blocks → (lent : Lent) (n : ℕ) → FirstPart (turns n (startOf blocks lent) .written) (runText (flatten blocks))
+NothingElse = (blocks : List (List ℕ)) → NonEmpty blocks → (lent : Lent) (n : ℕ)
+    → FirstPart (turns n (startOf blocks lent) .written) (runText (flatten blocks))
 
 -- A turn that waits for a read.
 abbrev pub Waits : Loop → Type 0
@@ -166,7 +171,8 @@ WritesFirst = (past further : List (List ℕ)) → NonEmpty (past ++ further) �
     → turns n (startOf (past ++ further) lent) .blocks ≡ further → Waits (turns n (startOf (past ++ further) lent))
     → Told (flatten past) (turns n (startOf (past ++ further) lent))
 
--- "It reads a `05` line only when starved, and stops reading at done or stalled": where it waits behind the `04`, the run over the cells read so far is starved.
+-- "It reads a `05` line only when starved, and stops reading at done or stalled": where it waits behind the `04`, the run
+-- over the cells read so far is starved.
 abbrev pub StarvedAt : (input : List ℕ) → Type 0
 StarvedAt input =
     let rows = numbersIn input in
@@ -175,7 +181,8 @@ StarvedAt input =
 
 abbrev pub ReadsStarved : Type 0
 ReadsStarved = (past further : List (List ℕ)) → NonEmpty (past ++ further) → (lent : Lent) (n : ℕ)
-    → turns n (startOf (past ++ further) lent) .blocks ≡ further → Waits (turns n (startOf (past ++ further) lent)) → StarvedAt (flatten past)
+    → turns n (startOf (past ++ further) lent) .blocks ≡ further → Waits (turns n (startOf (past ++ further) lent))
+    → StarvedAt (flatten past)
 
 -- Nothing that is still to be read can change the text: the last line is due, or behind the sheet a line was turned back.
 abbrev pub settled : Stage → Verdict → Bool
@@ -193,7 +200,8 @@ StopsReading = (l : Loop) (n : ℕ) → settled (l .job .stage) (l .job .line .v
 -- After a read that failed the step writes nothing, no last line either, and the program is over.
 abbrev pub ReadFails : Type 0
 ReadFails = (j : Job) (n : ℕ) (block : List ℕ) (at : ℕ) (rows store cells words text : List ℕ)
-    → let s = advanced (afterRead (negsuc n) j) block at rows store cells words text .step in (over (s .job .stage) ≡ true) × (s .bytes ≡ 0)
+    → let s = advanced (afterRead (negsuc n) j) block at rows store cells words text .step in (over (s .job .stage) ≡ true)
+    × (s .bytes ≡ 0)
 
 -- `plan` takes block after block, up to the first that is turned back.
 unfoldable pub planTaken : Arrived → List (List ℕ) → Arrived

@@ -1,26 +1,17 @@
--- Each way through the choice of a job's next stage.
-use Prim.Native.Nat.{ℕ, zero, suc, _≤_, _<_}
-use mathlib.Core.Bool.{true, false, false≢true}
+-- Each way through the choice of the next stage.
+use Prim.Native.Nat.{ℕ, _≤_, _<_}
+use mathlib.Core.Bool.{true, false}
 use mathlib.Core.List.{List}
-use mathlib.Core.Path.{_≡_, refl, sym, _∙_, ap}
-use native.Mathlib.Omega.{arith}
-use lib.IntN.{ℤ, pos, negsuc}
-use lib.Signed.{ltZ}
-use mir.Syntax.{w64}
-use mir.Val.{toZ, ofZ, SFits}
-use mir.Facts.{toZ-ofZ}
-use borrow.Author.Tests.{lt-ltb, le-ltb, ltb-true}
+use mathlib.Core.Path.{_≡_}
+use borrow.Author.Tests.{lt-ltb, le-ltb}
 use Rattle.model.specs.declared.Arriving.{Arriving}
 use Rattle.model.specs.declared.Refusal.{Refusal}
-use Rattle.model.specs.declared.Refusal.the-variants as refusal
 use Rattle.model.specs.declared.Verdict.{Verdict}
 use Rattle.model.specs.declared.Verdict.the-variants as verdict
-use Rattle.model.specs.Answers.{starvedByte}
 use Rattle.model.specs.Judging.{judgeChain}
 use Rattle.model_sheet.specs.Reading.{complete}
-use Rattle.program_stages.specs.declared.Job.{Job}
 use Rattle.program_stages.specs.declared.Stage.the-variants as stage
-use Rattle.program_stages.specs.Stages.{staged, sheetStage, cellsStage, closedBy, closed, afterRead, wantsBy, wantsInput}
+use Rattle.program_stages.specs.Stages.{sheetStage, cellsStage}
 
 -- After a line of the sheet.
 module _ (a : Arriving) (rows : List ℕ) where
@@ -53,71 +44,3 @@ turned-back count v x h e = rw (le-ltb _ _ h, e)
 pub no-cells : (count : ℕ) (v : Verdict) → count ≤ 0 → v ≡ verdict.Accepted → stage.Cells ≡ cellsStage count v
 unfolding cellsStage
 no-cells count v h e = rw (le-ltb _ _ h, e)
-
--- At the end of the input.
-pub open-line : (j : Job) → j .stage ≡ stage.Sheet → j .arriving .begun ≡ true → staged j (stage.Refusing refusal.Malformed) ≡ closed j
-unfolding closed closedBy
-open-line j s b = rw (s, b)
-
-pub missing-line : (j : Job) → j .stage ≡ stage.Sheet → j .arriving .begun ≡ false → staged j (stage.Refusing refusal.Misplaced) ≡ closed j
-unfolding closed closedBy
-missing-line j s b = rw (s, b)
-
-pub open-cell : (j : Job) → j .stage ≡ stage.Cells → j .line .begun ≡ true → staged j (stage.Refusing refusal.Malformed) ≡ closed j
-unfolding closed closedBy
-open-cell j s b = rw (s, b)
-
-pub starved : (j : Job) → j .stage ≡ stage.Cells → j .line .begun ≡ false → staged j (stage.Ending starvedByte) ≡ closed j
-unfolding closed closedBy
-starved j s b = rw (s, b)
-
-pub closed-clocks : (j : Job) → j .stage ≡ stage.Clocks → j ≡ closed j
-unfolding closed closedBy
-closed-clocks j s = rw s
-
-pub closed-ending : (j : Job) (way : ℕ) → j .stage ≡ stage.Ending way → j ≡ closed j
-unfolding closed closedBy
-closed-ending j way s = rw s
-
-pub closed-refusing : (j : Job) (x : Refusal) → j .stage ≡ stage.Refusing x → j ≡ closed j
-unfolding closed closedBy
-closed-refusing j x s = rw s
-
-pub closed-over : (j : Job) → j .stage ≡ stage.Over → j ≡ closed j
-unfolding closed closedBy
-closed-over j s = rw s
-
--- Where the input is wanted.
-pub wants-line : (j : Job) → j .stage ≡ stage.Cells → j .line .verdict ≡ verdict.Accepted → true ≡ wantsInput j
-unfolding wantsInput wantsBy
-wants-line j s v = rw (s, v)
-
-pub wants-none : (j : Job) (x : Refusal) → j .stage ≡ stage.Cells → j .line .verdict ≡ verdict.Refused x → false ≡ wantsInput j
-unfolding wantsInput wantsBy
-wants-none j x s v = rw (s, v)
-
--- After a read. A test on its answer speaks of what is read back from the answer's bits.
-module _ (got : ℤ) (j : Job) (fits : SFits w64 got) where
-  back : toZ w64 (ofZ w64 got) ≡ got
-  back = toZ-ofZ {w = w64} {z = got} fits
-
-  pub read-failed : ltZ (toZ w64 (ofZ w64 got)) (pos 0) ≡ true → staged j stage.Over ≡ afterRead got j
-  unfolding afterRead
-  read-failed e = go got (ap (λ (z : ℤ). ltZ z (pos 0)) (sym back) ∙ e)
-    where
-      go : (z : ℤ) → ltZ z (pos 0) ≡ true → staged j stage.Over ≡ afterRead z j
-      go (pos n) e = absurd (let z : n < 0 = ltb-true n 0 e in omega arith)
-      go (negsuc n) e = refl
-
-  pub read-ended : ofZ w64 got ≡ 0 → closed j ≡ afterRead got j
-  unfolding afterRead
-  read-ended e = ap (λ (z : ℤ). afterRead z j) (ap (toZ w64) (sym e) ∙ back)
-
-  pub read-given : ltZ (toZ w64 (ofZ w64 got)) (pos 0) ≡ false → (ofZ w64 got ≡ 0 → ⊥) → j ≡ afterRead got j
-  unfolding afterRead
-  read-given e n = go got (ap (λ (z : ℤ). ltZ z (pos 0)) (sym back) ∙ e) n
-    where
-      go : (z : ℤ) → ltZ z (pos 0) ≡ false → (ofZ w64 z ≡ 0 → ⊥) → j ≡ afterRead z j
-      go (pos zero) e n = absurd (n refl)
-      go (pos (suc k)) e n = refl
-      go (negsuc k) e n = absurd (false≢true (sym e))

@@ -1,20 +1,13 @@
 // What the program `run` does next.
 use model::Answer;
 use model::Arriving;
-use model::CellLine;
-use model::CellsPassed;
-use model::Counts;
 use model::DONE_BYTE;
-use model::FiringsMade;
 use model::Outcome;
 use model::Refusal;
 use model::STALLED_BYTE;
-use model::STARVED_BYTE;
-use model::State;
 use model::Verdict;
 ghost use mathlib.Core.Path.{_≡_};
-ghost use Rattle.model.specs.Answers.{answerCounts};
-ghost use Rattle.program_stages.specs.Stages.{begun, staged, sheetStage, cellsStage, answerStage, closed, afterRead, wantsInput, over};
+ghost use Rattle.program_stages.specs.Stages.{sheetStage, cellsStage, answerStage, wantsBy, over};
 
 // What a run of the program `run` does next.
 pub enum Stage {
@@ -30,54 +23,6 @@ pub enum Stage {
     Refusing(Refusal),
     // Nothing.
     Over,
-}
-
-// Where a run of the program stands: the sheet as it arrives; the run's state and clocks; the line that is open where cells are read; and of the cells at hand
-// those from `from` to before `count` that the run has not taken.
-pub struct Job {
-    pub stage: Stage,
-    pub arriving: Arriving,
-    pub state: State,
-    pub clocks: u32,
-    pub line: CellLine,
-    pub from: usize,
-    pub count: usize,
-}
-
-// Before the first character.
-pub fn begin() -> Job
-    ensures { λ r. ⌜ r ≡ begun ⌝ }
-{
-    Job {
-        stage: Stage::Sheet,
-        arriving: program_intake::open(),
-        state: State {
-            passed: [CellsPassed(0); 32],
-            fired: FiringsMade(0),
-        },
-        clocks: 0,
-        line: program_intake::new_line(),
-        from: 0,
-        count: 0,
-    }
-}
-
-// The job with another stage.
-pub fn staged(j: Job, stage: Stage) -> Job
-    ensures { λ r. ⌜ r ≡ staged j stage ⌝ }
-{
-    let arriving = j.arriving;
-    let state = j.state;
-    let line = j.line;
-    Job {
-        stage,
-        arriving,
-        state,
-        clocks: j.clocks,
-        line,
-        from: j.from,
-        count: j.count,
-    }
 }
 
 // Where the sheet has been read to: turned back, still open, or at its `04`, where the chain is judged, with the rows beside it.
@@ -131,81 +76,16 @@ pub fn answer_stage(a: Answer) -> Stage
     }
 }
 
-// What the call did.
-pub fn counts_of(a: Answer) -> Counts
-    ensures { λ r. ⌜ r ≡ answerCounts a ⌝ }
+// Nothing is left to do without more input, where `v` is the verdict of the line of cells that was read last.
+pub fn wants_input(stage: Stage, v: Verdict) -> bool
+    ensures { λ r. ⌜ r ≡ wantsBy stage v ⌝ }
 {
-    match a {
-        Answer::Refused(_) => Counts {
-            cells: 0,
-            firings: 0,
-            clocks: 0,
-        },
-        Answer::Ended(o) => match o {
-            Outcome::Done(c) => c,
-            Outcome::Stalled(c) => c,
-            Outcome::Starved(c) => c,
-            Outcome::Full(c) => c,
-            Outcome::Spent(c) => c,
-        },
-    }
-}
-
-// At the end of the input: a line that is open is turned back; so is a sheet that lacks lines; a run that wants cells is starved.
-pub fn close_input(j: Job) -> Job
-    ensures { λ r. ⌜ r ≡ closed j ⌝ }
-{
-    let stage = j.stage;
-    match stage {
-        Stage::Sheet => {
-            let a = j.arriving;
-            if a.begun {
-                return staged(j, Stage::Refusing(Refusal::Malformed));
-            }
-            staged(j, Stage::Refusing(Refusal::Misplaced))
-        }
-        Stage::Cells => {
-            let l = j.line;
-            if l.begun {
-                return staged(j, Stage::Refusing(Refusal::Malformed));
-            }
-            staged(j, Stage::Ending(STARVED_BYTE))
-        }
-        Stage::Clocks => j,
-        Stage::Ending(_) => j,
-        Stage::Refusing(_) => j,
-        Stage::Over => j,
-    }
-}
-
-// After a read that answered `got`: nothing is the end of the input; where it failed the program is over, without a last line.
-pub fn after_read(j: Job, got: isize) -> Job
-    ensures { λ r. ⌜ r ≡ afterRead got j ⌝ }
-{
-    if got < 0 {
-        return staged(j, Stage::Over);
-    }
-    if got == 0 {
-        return close_input(j);
-    }
-    j
-}
-
-// Nothing is left to do without more input.
-pub fn wants_input(j: Job) -> bool
-    ensures { λ r. ⌜ r ≡ wantsInput j ⌝ }
-{
-    let stage = j.stage;
     match stage {
         Stage::Sheet => true,
-        Stage::Cells => {
-            let l = j.line;
-            let v = l.verdict;
-            match v {
-                Verdict::Accepted => true,
-                Verdict::Refused(_) => false,
-            }
-        }
+        Stage::Cells => match v {
+            Verdict::Accepted => true,
+            Verdict::Refused(_) => false,
+        },
         Stage::Clocks => false,
         Stage::Ending(_) => false,
         Stage::Refusing(_) => false,
@@ -214,10 +94,9 @@ pub fn wants_input(j: Job) -> bool
 }
 
 // Nothing is left to do.
-pub fn is_over(j: Job) -> bool
-    ensures { λ r. ⌜ r ≡ over (j .stage) ⌝ }
+pub fn is_over(stage: Stage) -> bool
+    ensures { λ r. ⌜ r ≡ over stage ⌝ }
 {
-    let stage = j.stage;
     match stage {
         Stage::Over => true,
         Stage::Sheet => false,

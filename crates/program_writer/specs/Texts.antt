@@ -38,7 +38,8 @@ fitting size index n words room =
 
 -- Their lines.
 unfoldable pub firingsLaid : (size index n : ℕ) → (words output : List ℕ) → Laid
-firingsLaid size index n words output = laidOver (firingsText size index (fitting size index n (length words) (length output)) words) output
+firingsLaid size index n words output = laidOver
+    (firingsText size index (fitting size index n (length words) (length output)) words) output
 
 -- The first n characters of a text are there: what lending them as a part of it asks.
 abbrev pub Within : ℕ → (text : List ℕ) → Type 0

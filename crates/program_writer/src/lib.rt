@@ -37,7 +37,9 @@ fn put_word(out: &mut [u8], at: usize, w: u32)
 // The digits of `size` words, from word `from` on; the place behind them.
 fn put_words(out: &mut [u8], at: usize, words: &[u32], from: usize, size: usize) -> usize
     requires { ⌜ (at + 8 * size ≤ length (now out)) × (from + size ≤ length (now words)) ⌝ }
-    ensures { λ r. ⌜ (r ≡ at + 8 * size) × (now (out .exit) ≡ sets (now (out .entry)) at (digitsOf (flatMap wordBytes (take size (drop from (now (words .entry))))))) ⌝ }
+    ensures { λ r. ⌜ (r ≡ at + 8 * size)
+        × (now (out .exit)
+        ≡ sets (now (out .entry)) at (digitsOf (flatMap wordBytes (take size (drop from (now (words .entry))))))) ⌝ }
 {
     let mut i: usize = 0;
     let mut p = at;
@@ -59,7 +61,9 @@ fn put_firing(
     size: usize,
 ) -> usize
     requires { ⌜ (at + (8 * size + 11) ≤ length (now out)) × (from + size ≤ length (now words)) ⌝ }
-    ensures { λ r. ⌜ (r ≡ at + (8 * size + 11)) × (now (out .exit) ≡ sets (now (out .entry)) at (framed (firingLine index (take size (drop from (now (words .entry))))))) ⌝ }
+    ensures { λ r. ⌜ (r ≡ at + (8 * size + 11))
+        × (now (out .exit)
+        ≡ sets (now (out .entry)) at (framed (firingLine index (take size (drop from (now (words .entry))))))) ⌝ }
 {
     put_byte(out, at, 0x10);
     put_word(out, at + 2, index);
@@ -68,7 +72,8 @@ fn put_firing(
     p + 1
 }
 
-// How many words of firings have lines that fit into so many characters; none where a firing has more words than there are references.
+// How many words of firings have lines that fit into so many characters; none where a firing has more words than there are
+// references.
 pub fn room_for(size: usize, room: usize) -> usize
     ensures { λ r. ⌜ r ≡ roomFor size room ⌝ }
 {

@@ -23,7 +23,7 @@ use Rattle.model.specs.Iterations.{firsts, positionOf, courseOf, iterationsOf, 
 use Rattle.model.specs.declared.Bounds.{Bounds}
 use Rattle.model.specs.declared.Window.{Window}
 use Rattle.grid_laws.proofs.ListLaws.{length-tabulate, getD-tabulate, tabulate-same}
-use Rattle.grid_laws.proofs.ChainLaws.{offsets-count}
+use Rattle.grid_laws.proofs.ChainLaws.{offsets-count, rows-count}
 use Rattle.grid_laws.proofs.CheckLaws.{WindowPasses, window-passes, some-references, few-references}
 use Rattle.grid_laws.proofs.RowLaws.{Holds, row-there, above-all}
 use Rattle.grid_laws.proofs.Iterations.{few-cells, below-cells}
@@ -35,7 +35,6 @@ use Rattle.rows.specs.Surveys.{rowSurveyOf, Surveyed}
 use Rattle.rows.specs.declared.RowSurvey.{RowSurvey}
 use Rattle.rows.proofs.SurveyLaws.{survey-verdict}
 use Rattle.rows.specs.declared.RowCourse.{RowCourse}
-use Rattle.rows.proofs.LentLaws.{rows-count}
 use Rattle.rows.proofs.WindowLaws.{two-sized}
 use Rattle.rows.proofs.CommonLaws.{down-is, on-is, ends-below, few-rows}
 use Rattle.row_courses.specs.CourseTables.{aboveCount, lengthsAbove, entryOf, readAt, LiesIn, distanceAt, AllNear, distanceCount}

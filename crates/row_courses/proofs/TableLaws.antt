@@ -15,7 +15,7 @@ use Rattle.geometry.specs.Parts.{numberAt, Filled}
 use Rattle.geometry.proofs.FillLaws.{filled-none, filled-more}
 use Rattle.rows.specs.Courses.{lengthIn, looked, columnIn, rowLength}
 use Rattle.rows.specs.declared.RowCourse.{RowCourse}
-use Rattle.rows.proofs.LentLaws.{rows-count}
+use Rattle.grid_laws.proofs.ChainLaws.{rows-count}
 use Rattle.rows.proofs.CommonLaws.{few-rows, length-boxed, length-whole}
 use Rattle.row_courses.specs.CourseTables.{aboveCount, lengthsAbove, entryOf, readAt, RowOf}
 

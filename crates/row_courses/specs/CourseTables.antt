@@ -26,7 +26,8 @@ lengthsAbove f (suc v) = lengthsAbove f v + f v
 unfoldable pub entryOf : List ℕ → ℕ → ℕ
 entryOf above i = cond (ltb i 513) (numberAt above i) 0
 
--- The position that reference k reads in the first iteration of the course's row v, where this table says how many cells lie above each row.
+-- The position that reference k reads in the first iteration of the course's row v, where this table says how many cells lie
+-- above each row.
 unfoldable pub readAt : List Row → (above : List ℕ) → RowCourse → (v k : ℕ) → ℕ
 readAt rs above c v k =
     let i = numberAt (c .down) k + (c .top + v) in

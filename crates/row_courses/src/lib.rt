@@ -1,6 +1,7 @@
-// A run on rows, row by row (document 02, request 5): the tables of what lies above each row, the row of an iteration, what is read there, and the reuse distances. What a public function
-// answers on any value is fixed in specs/Tables.antt.
+// A run on rows, row by row (document 02, request 5): the tables of what lies above each row, the row of an iteration, what
+// is read there, and the reuse distances. What a public function answers on any value is fixed in specs/Tables.antt.
 use model::Bounds;
+use model::MOST_ROWS;
 use model::Verdict;
 use model::Window;
 use rows::RowCourse;
@@ -15,14 +16,16 @@ ghost use Rattle.model.specs.Iterations.{distanceOf};
 ghost use Rattle.model.specs.Judging.{mostCells};
 ghost use Rattle.geometry.specs.Parts.{numberAt, Filled};
 ghost use Rattle.rows.specs.Courses.{looked, rowLength};
-ghost use Rattle.row_courses.specs.CourseTables.{aboveCount, lengthsAbove, entryOf, readAt, RowOf, distanceAt, Near, AllNear, distanceCount};
+ghost use Rattle.row_courses.specs.CourseTables.{aboveCount, lengthsAbove, entryOf, readAt, RowOf, distanceAt, Near};
+ghost use Rattle.row_courses.specs.CourseTables.{AllNear, distanceCount};
 
 // How many cells lie above each row, and in all of them.
 pub fn cells_above(count: u32, rows: &[u32], to: &mut [u32; 513])
-    ensures { λ _. ⌜ Filled 513 0 (cellsAbove (rowsOf count (now (rows .entry)))) (aboveCount count (now (rows .entry))) (now (to .exit)) ⌝ }
+    ensures { λ _. ⌜ Filled 513 0 (cellsAbove (rowsOf count (now (rows .entry)))) (aboveCount count (now (rows .entry)))
+        (now (to .exit)) ⌝ }
 {
     *to = [0u32; 513];
-    if rows::bad_rows(count, rows) {
+    if limits::bad_rows(count, rows) {
         return;
     }
     let mut cells: u32 = 0;
@@ -37,10 +40,11 @@ pub fn cells_above(count: u32, rows: &[u32], to: &mut [u32; 513])
 
 // How many iterations lie above each row of the course, and in all of them.
 pub fn iterations_above(count: u32, rows: &[u32], course: RowCourse, to: &mut [u32; 513])
-    ensures { λ _. ⌜ Filled 513 0 (lengthsAbove (rowLength (rowsOf count (now (rows .entry))) course)) (min (course .height) 512 + 1) (now (to .exit)) ⌝ }
+    ensures { λ _. ⌜ Filled 513 0 (lengthsAbove (rowLength (rowsOf count (now (rows .entry))) course))
+        (min (course .height) 512 + 1) (now (to .exit)) ⌝ }
 {
     *to = [0u32; 513];
-    let n = lesser(wide_usize(course.height), 512) as u32;
+    let n = lesser(wide_usize(course.height), MOST_ROWS as usize) as u32;
     let mut iterations: u32 = 0;
     let mut v: u32 = 0;
     while v < n {
@@ -56,7 +60,7 @@ pub fn row_of(above: &[u32; 513], height: u32, j: u32) -> u32
     ensures { λ r. ⌜ RowOf (now (above .entry)) height j r ⌝ }
 {
     let mut from: usize = 0;
-    let mut to = lesser(wide_usize(height), 512);
+    let mut to = lesser(wide_usize(height), MOST_ROWS as usize);
     while from + 1 < to {
         let middle = from + (to - from) / 2;
         if above[middle] <= j {
@@ -99,7 +103,9 @@ fn read_at(
     column: usize,
 ) -> usize
     requires { ⌜ (u < 8589934592) × (column ≤ 8192) ⌝ }
-    ensures { λ r. ⌜ r ≡ entryOf (now (above .entry)) (down + u) + ((on + column) - row (rowsOf count (now (rows .entry))) (down + u) .start) ⌝ }
+    ensures { λ r. ⌜ r
+        ≡ entryOf (now (above .entry)) (down + u) + ((on + column) - row (rowsOf count (now (rows .entry))) (down + u) .start)
+        ⌝ }
 {
     let cells = entry(above, wide_usize(down) + u);
     let start = rows::start_of(count, rows, down, u);
@@ -115,7 +121,8 @@ pub fn reads(
     v: u32,
     to: &mut [usize; 32],
 )
-    ensures { λ _. ⌜ Filled 32 0 (readAt (rowsOf count (now (rows .entry))) (now (above .entry)) course v) (looked course) (now (to .exit)) ⌝ }
+    ensures { λ _. ⌜ Filled 32 0 (readAt (rowsOf count (now (rows .entry))) (now (above .entry)) course v) (looked course)
+        (now (to .exit)) ⌝ }
 {
     *to = [0usize; 32];
     let n = lesser(course.references as usize, 32);
@@ -151,7 +158,9 @@ fn distance(x: usize, y: usize) -> u32
 // The greater of each number and the distance of two neighbours, of n positions.
 fn farther(at: &[usize; 32], r: &[u32; 31], n: usize) -> [u32; 31]
     requires { ⌜ (n ≤ 32) × ((k : ℕ) → k < n → numberAt (now at) k ≤ mostCells) ⌝ }
-    ensures { λ x. ⌜ Filled 31 0 (λ k. max (numberAt (now (at .entry)) k - numberAt (now (at .entry)) (k + 1)) (numberAt (now (r .entry)) k)) (n - 1) x ⌝ }
+    ensures { λ x. ⌜ Filled 31 0
+        (λ k. max (numberAt (now (at .entry)) k - numberAt (now (at .entry)) (k + 1)) (numberAt (now (r .entry)) k)) (n - 1) x
+        ⌝ }
 {
     let mut to = [0u32; 31];
     let mut k: usize = 0;
@@ -173,8 +182,11 @@ fn widened(
     v: u32,
     r: &[u32; 31],
 ) -> [u32; 31]
-    requires { ⌜ Near (rowsOf count (now rows)) (now above) course v × Filled 31 0 (numberAt (now r)) (looked course - 1) (now r) ⌝ }
-    ensures { λ x. ⌜ Filled 31 0 (λ k. max (distanceAt (rowsOf count (now (rows .entry))) (now (above .entry)) course k v) (numberAt (now (r .entry)) k)) (looked course - 1) x ⌝ }
+    requires { ⌜ Near (rowsOf count (now rows)) (now above) course v
+        × Filled 31 0 (numberAt (now r)) (looked course - 1) (now r) ⌝ }
+    ensures { λ x. ⌜ Filled 31 0
+        (λ k. max (distanceAt (rowsOf count (now (rows .entry))) (now (above .entry)) course k v)
+        (numberAt (now (r .entry)) k)) (looked course - 1) x ⌝ }
 {
     if rows::row_length(count, rows, course, v) == 0 {
         return *r;
@@ -188,7 +200,10 @@ fn widened(
 // The largest distances over the first iterations of the course's rows that have any.
 fn distances_in(count: u32, rows: &[u32], above: &[u32; 513], course: RowCourse) -> [u32; 31]
     requires { ⌜ AllNear (rowsOf count (now rows)) (now above) course ⌝ }
-    ensures { λ x. ⌜ Filled 31 0 (λ k. greatest (tabulate (course .height) (distanceAt (rowsOf count (now (rows .entry))) (now (above .entry)) course k))) (looked course - 1) x ⌝ }
+    ensures { λ x. ⌜ Filled 31 0
+        (λ k. greatest
+        (tabulate (course .height) (distanceAt (rowsOf count (now (rows .entry))) (now (above .entry)) course k)))
+        (looked course - 1) x ⌝ }
 {
     let mut r = [0u32; 31];
     let mut v = course.height;
@@ -208,7 +223,8 @@ fn none() -> [u32; 31]
 
 // The reuse distances of neighbours, the largest over the iterations that a run covers; none where the survey refuses.
 pub fn distances(count: u32, rows: &[u32], window: Window, bounds: Bounds) -> [u32; 31]
-    ensures { λ r. ⌜ Filled 31 0 (distanceOf (onRows count (now (rows .entry)) window bounds)) (distanceCount count (now (rows .entry)) window bounds) r ⌝ }
+    ensures { λ r. ⌜ Filled 31 0 (distanceOf (onRows count (now (rows .entry)) window bounds))
+        (distanceCount count (now (rows .entry)) window bounds) r ⌝ }
 {
     let survey = rows::survey(count, rows, window, bounds);
     let verdict = survey.verdict;

@@ -1,10 +1,9 @@
--- Laws of going over numbered things from the last to the first, and from the first to the last.
+-- Laws of going over numbered things from the last to the first.
 use Prim.Native.Nat.{ℕ, _+_, _-_, _≤_, _<_, min, max}
-use mathlib.Core.Bool.{Bool, true, false}
 use mathlib.Core.List.{_∷_}
 use mathlib.Core.Path.{_≡_, _∙_, ap}
 use native.Mathlib.Omega.{arith}
-use Rattle.model.specs.Lists.{tabulate, sum, greatest, any}
+use Rattle.model.specs.Lists.{tabulate, sum, greatest}
 use Rattle.model.specs.Courses.{smallest}
 use Rattle.geometry.specs.Parts.{part}
 use Rattle.geometry.proofs.PartLaws.{part-none, part-more, part-all}
@@ -12,18 +11,6 @@ use Rattle.geometry.proofs.PartLaws.{part-none, part-more, part-all}
 module _ {A : Type 0} (f : ℕ → A) where
   pub part-back : (k n : ℕ) → 0 < k → k ≤ n → part f (k - 1) n ≡ f (k - 1) ∷ part f k n
   part-back k n some h = part-more f (k - 1) n (omega arith) ∙ ap (λ (i : ℕ). f (k - 1) ∷ part f i n) (omega arith)
-
-  pub any-on : (p : A → Bool) (k n : ℕ) → k < n → p (f k) ≡ false → any p (part f (k + 1) n) ≡ any p (part f k n)
-  unfolding any
-  any-on p k n h e = rw (part-more f k n h, e)
-
-  pub any-here : (p : A → Bool) (k n : ℕ) → k < n → p (f k) ≡ true → true ≡ any p (part f k n)
-  unfolding any
-  any-here p k n h e = rw (part-more f k n h, e)
-
-  pub any-end : (p : A → Bool) (k n : ℕ) → n ≤ k → false ≡ any p (part f k n)
-  unfolding any
-  any-end p k n h = rw (part-none f k n h)
 
 module _ (f : ℕ → ℕ) where
   -- The greatest.

@@ -20,7 +20,7 @@ use Rattle.grid_laws.proofs.Tests.{neither}
 use Rattle.grid_laws.proofs.ListLaws.{getD-tabulate, tabulate-back, greatest-above, tabulate-same}
 use Rattle.grid_laws.proofs.RowIterations.{smallest-below}
 use Rattle.geometry.specs.Parts.{numberAt}
-use Rattle.rows.specs.Lent.{rowOf}
+use Rattle.limits.specs.Lent.{rowOf}
 use Rattle.rows.specs.Courses.{downs, ons, startIn, endIn, lengthIn, looked, columnIn, rowLength}
 use Rattle.rows.specs.declared.RowCourse.{RowCourse}
 use Rattle.rows.proofs.LentLaws.{row-lent}

@@ -11,8 +11,8 @@ use Rattle.model.specs.Vectors.{above}
 use Rattle.model.specs.Boxes.{indexCount}
 use Rattle.grid_laws.proofs.IntegerLaws.{leZ-trans, above-chain}
 use Rattle.grid_laws.proofs.BoxLaws.{index-count}
-use Rattle.shape.specs.Boxing.{indexIn}
-use Rattle.shape.proofs.BoxingLaws.{index-inside, inside-index}
+use Rattle.windows.specs.Lows.{indexIn}
+use Rattle.windows.proofs.IndexLaws.{index-inside, inside-index}
 use Rattle.rows.specs.Boxing.{noSpan, spanIn, spanBetween}
 use Rattle.rows.proofs.PlacedLaws.{leZ-by-above}
 

@@ -25,19 +25,18 @@ use Rattle.model.specs.declared.Bounds.{Bounds}
 use Rattle.model.specs.declared.Refusal.the-variants as refusal
 use Rattle.model.specs.declared.Verdict.the-variants as verdict
 use Rattle.model.specs.declared.Window.{Window}
-use Rattle.grid_laws.proofs.ChainLaws.{offsets-count}
+use Rattle.grid_laws.proofs.ChainLaws.{offsets-count, rows-count}
 use Rattle.grid_laws.proofs.CheckLaws.{some-references, few-references}
 use Rattle.model.specs.declared.Verdict.{Verdict}
 use Rattle.geometry.specs.Parts.{numberAt}
-use Rattle.geometry.specs.Windows.{repeatsIn, centreIn}
-use Rattle.geometry.proofs.OffsetLaws.{is-held}
+use Rattle.windows.specs.Windows.{repeatsIn, centreIn}
+use Rattle.windows.proofs.OffsetLaws.{is-held}
 use Rattle.rows.specs.Courses.{downs, ons, lengthIn, wholeCourse, boxOn, courseFor}
 use Rattle.rows.specs.Boxing.{placedIn, placedBy, BoxFits}
 use Rattle.rows.specs.Surveys.{unsurveyedOf, rowSurveyOf, Known, Surveyed}
 use Rattle.rows.specs.declared.RowCourse.{RowCourse}
 use Rattle.rows.specs.declared.RowSurvey.{RowSurvey}
 use Rattle.rows.specs.declared.boxed.Placed.{Placed}
-use Rattle.rows.proofs.LentLaws.{rows-count}
 use Rattle.rows.proofs.CommonLaws.{few-rows, all-count, lent-cells, cells-sum}
 use Rattle.rows.proofs.WindowLaws.{two-sized}
 use Rattle.rows.proofs.PlacedLaws.{Fits, fits-box, box-fits}

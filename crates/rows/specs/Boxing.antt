@@ -6,7 +6,7 @@ use lib.Dec.{ltb, leb}
 use lib.IntN.{ℤ, pos}
 use lib.ListN.{getD}
 use Rattle.model.specs.Grounds.{Row}
-use Rattle.shape.specs.Boxing.{indexIn}
+use Rattle.windows.specs.Lows.{indexIn}
 use Rattle.rows.specs.Courses.{startIn, endIn}
 use Rattle.rows.specs.declared.boxed.Span.{Span}
 use Rattle.rows.specs.declared.boxed.Placed.{Placed}
@@ -20,7 +20,8 @@ spanIn first last extent = cond (ltb last extent && leb first last) (record { fi
 
 -- Each row of iterations from `from` up to before `to` has the columns from left to right.
 abbrev pub Spans : List Row → (down on : List ℕ) (n from to left right : ℕ) → Type 0
-Spans rs down on n from to left right = (u : ℕ) → from ≤ u → u < to → (startIn rs down on n u ≤ left) × (right < endIn rs down on n u)
+Spans rs down on n from to left right = (u : ℕ) → from ≤ u → u < to
+    → (startIn rs down on n u ≤ left) × (right < endIn rs down on n u)
 
 -- In one dimension, by a box's lowest and highest index.
 abbrev pub spanBetween : (l h low : ℤ) (extent : ℕ) → Span
@@ -34,7 +35,8 @@ placedBy count l k h i lowRow lowColumn =
 
 abbrev pub placedIn : (count : ℕ) (lowest highest : List ℤ) (lowRow lowColumn : ℤ) → Placed
 placedIn count lowest highest lowRow lowColumn =
-    placedBy count (getD lowest 0 (pos 0)) (getD lowest 1 (pos 0)) (getD highest 0 (pos 0)) (getD highest 1 (pos 0)) lowRow lowColumn
+    placedBy count (getD lowest 0 (pos 0)) (getD lowest 1 (pos 0)) (getD highest 0 (pos 0)) (getD highest 1 (pos 0)) lowRow
+    lowColumn
 
 -- The box lies among the iterations.
 pub record BoxFits (rs : List Row) (down on : List ℕ) (n : ℕ) (p : Placed) : Type 0 where

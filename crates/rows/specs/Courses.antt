@@ -22,7 +22,8 @@ downs offsets = tabulate 32 (λ k. cond (ltb k (length offsets)) (rowsDown offse
 abbrev pub ons : List (List ℤ) → List ℕ
 ons offsets = tabulate 32 (λ k. cond (ltb k (length offsets)) (columnsOn offsets (getD offsets k [])) 0)
 
--- Row u of all iterations, of n references that lie so far down and on: its first column, and the first behind it. (The model's commonStart and commonEnd.)
+-- Row u of all iterations, of n references that lie so far down and on: its first column, and the first behind it. (The
+-- model's commonStart and commonEnd.)
 unfoldable pub startIn : List Row → (down on : List ℕ) (n u : ℕ) → ℕ
 startIn rs down on n u = greatest (tabulate n (λ k. row rs (numberAt down k + u) .start - numberAt on k))
 
@@ -35,7 +36,16 @@ lengthIn rs down on n u = min (endIn rs down on n u - startIn rs down on n u) 10
 
 -- The course of all iterations, and of a box's.
 unfoldable pub wholeCourse : (count : ℕ) → List (List ℤ) → RowCourse
-wholeCourse count offsets = record { top = 0; height = count; boxed = false; left = 0; width = 0; references = length offsets; down = downs offsets; on = ons offsets }
+wholeCourse count offsets = record {
+  top = 0;
+  height = count;
+  boxed = false;
+  left = 0;
+  width = 0;
+  references = length offsets;
+  down = downs offsets;
+  on = ons offsets;
+}
 
 unfoldable pub boxOn : List (List ℤ) → (lowest highest : List ℤ) → RowCourse
 boxOn offsets l h = record {
@@ -53,7 +63,8 @@ abbrev pub courseFor : (count : ℕ) → List (List ℤ) → Part → RowCourse
 courseFor count offsets whole = wholeCourse count offsets
 courseFor count offsets (box l h) = boxOn offsets l h
 
--- Of any numbers: how many references are looked at, the first column of the course's row v, and how many iterations that row has.
+-- Of any numbers: how many references are looked at, the first column of the course's row v, and how many iterations that row
+-- has.
 abbrev pub looked : RowCourse → ℕ
 looked c = min (c .references) 32
 

@@ -1,4 +1,3 @@
-pub mod Lent
 pub mod Courses
 pub mod Boxing
 pub mod Surveys

@@ -21,12 +21,14 @@ use Rattle.rows.specs.declared.RowCourse.{RowCourse}
 use Rattle.rows.specs.declared.RowSurvey.{RowSurvey}
 
 abbrev pub noCourse : RowCourse
-noCourse = record { top = 0; height = 0; boxed = false; left = 0; width = 0; references = 0; down = replicate 32 0; on = replicate 32 0 }
+noCourse = record
+    { top = 0; height = 0; boxed = false; left = 0; width = 0; references = 0; down = replicate 32 0; on = replicate 32 0 }
 
 abbrev pub unsurveyedOf : Refusal → RowSurvey
 unsurveyedOf x = record { verdict = verdict.Refused x; centre = 0; cells = 0; iterations = 0; course = noCourse }
 
--- The first of 16, 4, 5, 6 and 15 that turns rows, window and bounds back; else the centre, the cells, the iterations that a run covers, and their course.
+-- The first of 16, 4, 5, 6 and 15 that turns rows, window and bounds back; else the centre, the cells, the iterations that a
+-- run covers, and their course.
 unfoldable pub rowSurveyOf : (count : ℕ) → List ℕ → Window → Bounds → RowSurvey
 rowSurveyOf count rows w b =
     byVerdict (judgeRows count rows w b)

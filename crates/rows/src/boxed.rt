@@ -1,32 +1,21 @@
-// A smaller box among the iterations of a window on rows (document 02, request 4): in each of the two dimensions where it begins and how many indices it has, and 15 by the box's rows.
+// A smaller box among the iterations of a window on rows (document 02, request 4): in each of the two dimensions where it
+// begins and how many indices it has, and 15 by the box's rows.
 use super::common;
 use model::Bounds;
 use values::wide_usize;
+use windows::lows::index_in;
 ghost use mathlib.Core.Path.{_≡_};
 ghost use mathlib.Core.Bool.{true, false};
 ghost use Prim.Native.Nat.{_+_, _-_, _*_, _≤_, _<_};
 ghost use Rattle.model.specs.Values.{rowsOf};
-ghost use Rattle.shape.specs.Boxing.{indexIn};
+ghost use Rattle.windows.specs.Lows.{indexIn};
 ghost use Rattle.rows.specs.Boxing.{spanIn, Spans, placedIn, BoxFits};
 
-// In one dimension: the first index, counted from the first iteration, and how many there are; none where not all of them lie among those below the extent.
+// In one dimension: the first index, counted from the first iteration, and how many there are; none where not all of them lie
+// among those below the extent.
 pub(crate) struct Span {
     pub(crate) first: u32,
     pub(crate) size: u32,
-}
-
-// An index counted from the first iteration; the extent where it lies before that or past the last. Index and low add up to more than 32 bits.
-fn index_in(index: i32, low: i16, extent: u32) -> u32
-    ensures { λ r. ⌜ r ≡ indexIn index low extent ⌝ }
-{
-    let x = index as i64 + low as i64;
-    if x < 0 {
-        return extent;
-    }
-    if extent as i64 <= x {
-        return extent;
-    }
-    x as u32
 }
 
 fn span_of(first: u32, last: u32, extent: u32) -> Span
@@ -67,8 +56,10 @@ fn rows_hold(
     right: usize,
 ) -> bool
     requires { ⌜ n ≤ 32 ⌝ }
-    ensures { λ r. ⌜ (r ≡ true → Spans (rowsOf count (now (rows .entry))) (now (down .entry)) (now (on .entry)) n from to left right)
-        × (r ≡ false → Spans (rowsOf count (now (rows .entry))) (now (down .entry)) (now (on .entry)) n from to left right → ⊥) ⌝ }
+    ensures { λ r. ⌜ (r ≡ true
+        → Spans (rowsOf count (now (rows .entry))) (now (down .entry)) (now (on .entry)) n from to left right)
+        × (r ≡ false → Spans (rowsOf count (now (rows .entry))) (now (down .entry)) (now (on .entry)) n from to left right
+        → ⊥) ⌝ }
 {
     let mut u = from;
     while u < to {
@@ -84,7 +75,8 @@ fn rows_hold(
     true
 }
 
-// A box: its first row and how many it has, its first column and how many it has; none where they do not all lie among the indices of iterations.
+// A box: its first row and how many it has, its first column and how many it has; none where they do not all lie among the
+// indices of iterations.
 pub(crate) struct Placed {
     pub(crate) top: u32,
     pub(crate) height: u32,

@@ -1,22 +1,12 @@
 // Rows of cells, and rows of iterations: the columns that keep each reference inside the row that it reads.
 use values::lesser;
+use values::number_at;
 use values::wide_usize;
 ghost use mathlib.Core.Path.{_≡_};
 ghost use Prim.Native.Nat.{_+_, _-_, _*_, _≤_, _<_, min, max};
 ghost use Rattle.model.specs.Grounds.{Row, row, end as endOf};
 ghost use Rattle.model.specs.Values.{rowsOf};
-ghost use Rattle.geometry.specs.Parts.{numberAt};
 ghost use Rattle.rows.specs.Courses.{startIn, endIn, lengthIn};
-
-// Number i; 0 where there are too few.
-pub(crate) fn number(numbers: &[u32], i: usize) -> u32
-    ensures { λ r. ⌜ r ≡ numberAt (now (numbers .entry)) i ⌝ }
-{
-    if i < numbers.len() {
-        return numbers[i];
-    }
-    0
-}
 
 // A length of at most 1,024.
 pub(crate) fn capped(x: usize) -> u32
@@ -59,7 +49,7 @@ pub(crate) fn start_of(count: u32, rows: &[u32], down: u32, u: usize) -> usize
     if n <= i {
         return 0;
     }
-    wide_usize(number(rows, 2 * i))
+    wide_usize(number_at(rows, 2 * i))
 }
 
 // Columns: the first, and the first behind the last.
@@ -70,7 +60,8 @@ pub(crate) struct Columns {
 
 // The row of cells that lies so far below row u; none past the last row.
 fn row_below(count: u32, rows: &[u32], down: u32, u: usize) -> Columns
-    ensures { λ r. ⌜ (r .start ≡ row (rowsOf count (now (rows .entry))) (down + u) .start) × (r .end ≡ endOf (row (rowsOf count (now (rows .entry))) (down + u))) ⌝ }
+    ensures { λ r. ⌜ (r .start ≡ row (rowsOf count (now (rows .entry))) (down + u) .start)
+        × (r .end ≡ endOf (row (rowsOf count (now (rows .entry))) (down + u))) ⌝ }
 {
     let n = wide_usize(count);
     if n <= u {
@@ -80,15 +71,16 @@ fn row_below(count: u32, rows: &[u32], down: u32, u: usize) -> Columns
     if n <= i {
         return Columns { start: 0, end: 0 };
     }
-    let start = wide_usize(number(rows, 2 * i));
-    let length = wide_usize(number(rows, 2 * i + 1));
+    let start = wide_usize(number_at(rows, 2 * i));
+    let length = wide_usize(number_at(rows, 2 * i + 1));
     let end = start + length;
     Columns { start, end }
 }
 
 // The columns of row u of all iterations that keep a reference inside its row.
 fn columns_of(count: u32, rows: &[u32], down: u32, on: u32, u: usize) -> Columns
-    ensures { λ r. ⌜ (r .start ≡ row (rowsOf count (now (rows .entry))) (down + u) .start - on) × (r .end ≡ endOf (row (rowsOf count (now (rows .entry))) (down + u)) - on) ⌝ }
+    ensures { λ r. ⌜ (r .start ≡ row (rowsOf count (now (rows .entry))) (down + u) .start - on)
+        × (r .end ≡ endOf (row (rowsOf count (now (rows .entry))) (down + u)) - on) ⌝ }
 {
     let cells = row_below(count, rows, down, u);
     let left = wide_usize(on);

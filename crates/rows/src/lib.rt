@@ -1,22 +1,24 @@
-// Rows of cells that are lent beside a value (document 02, request 5): row i's start is number 2 i, its length number 2 i + 1. What a public function answers on any value is fixed in
-// specs/.
+// Rows of cells that are lent beside a value (document 02, request 5): row i's start is number 2 i, its length number 2 i +
+// 1. What a public function answers on any value is fixed in specs/.
 mod boxed;
 mod common;
-mod lows;
 
 use model::Bounds;
 use model::Refusal;
 use model::Verdict;
 use model::Window;
 use values::lesser;
+use values::number_at;
 use values::wide_usize;
+use windows::lows::heights_in;
+use windows::lows::low_in;
 ghost use mathlib.Core.Path.{_≡_};
 ghost use mathlib.Core.Bool.{true, false};
 ghost use Prim.Native.Nat.{_+_, _*_, _≤_, _<_, min};
 ghost use Rattle.model.specs.Grounds.{row};
 ghost use Rattle.model.specs.Lists.{tabulate, sum};
 ghost use Rattle.model.specs.Values.{rowsOf, offsetsOf};
-ghost use Rattle.model.specs.Judging.{badRow, badRows, badCount, repeats as repeatsOf};
+ghost use Rattle.model.specs.Judging.{badRows, badCount, repeats as repeatsOf};
 ghost use Rattle.geometry.specs.Parts.{numberAt};
 ghost use Rattle.rows.specs.Courses.{wholeCourse, columnIn, rowLength as rowLengthIn, lengthIn};
 ghost use Rattle.rows.specs.Surveys.{noCourse, unsurveyedOf, rowSurveyOf, Known};
@@ -36,49 +38,14 @@ pub struct RowCourse {
     pub on: [u32; 32],
 }
 
-// What judging and running ask of a window on rows: the first of 16, 4, 5, 6 and 15 that turns them back, else the centre, the cells, and the iterations that a run covers.
+// What judging and running ask of a window on rows: the first of 16, 4, 5, 6 and 15 that turns them back, else the centre,
+// the cells, and the iterations that a run covers.
 pub struct RowSurvey {
     pub verdict: Verdict,
     pub centre: u8,
     pub cells: u32,
     pub iterations: u32,
     pub course: RowCourse,
-}
-
-// 16, of one row.
-fn bad_row(start: u32, length: u32) -> bool
-    ensures { λ r. ⌜ r ≡ badRow (record { start = start; length = length }) ⌝ }
-{
-    if 4095 < start {
-        return true;
-    }
-    if length == 0 {
-        return true;
-    }
-    1024 < length
-}
-
-// 16: a row count, start or length outside its range.
-pub fn bad_rows(count: u32, rows: &[u32]) -> bool
-    ensures { λ r. ⌜ r ≡ badRows (rowsOf count (now (rows .entry))) ⌝ }
-{
-    if count == 0 {
-        return true;
-    }
-    if 512 < count {
-        return true;
-    }
-    let n = wide_usize(count);
-    let mut i: usize = 0;
-    while i < n {
-        let start = common::number(rows, 2 * i);
-        let length = common::number(rows, 2 * i + 1);
-        if bad_row(start, length) {
-            return true;
-        }
-        i += 1;
-    }
-    false
 }
 
 // How many cells the rows have, of which none has more than 1,024.
@@ -91,7 +58,7 @@ fn cells_in(count: u32, rows: &[u32]) -> u32
     let mut i = n;
     while 0 < i {
         i -= 1;
-        let length = common::number(rows, 2 * i + 1);
+        let length = number_at(rows, 2 * i + 1);
         cells = common::capped(wide_usize(length)) + cells;
     }
     cells
@@ -100,7 +67,8 @@ fn cells_in(count: u32, rows: &[u32]) -> u32
 // How many iterations there are in the rows from 0.
 fn iterations_in(count: u32, rows: &[u32], down: &[u32; 32], on: &[u32; 32], n: usize) -> u32
     requires { ⌜ (count ≤ 512) × (n ≤ 32) ⌝ }
-    ensures { λ r. ⌜ r ≡ sum (tabulate count (lengthIn (rowsOf count (now (rows .entry))) (now (down .entry)) (now (on .entry)) n)) ⌝ }
+    ensures { λ r. ⌜ r
+        ≡ sum (tabulate count (lengthIn (rowsOf count (now (rows .entry))) (now (down .entry)) (now (on .entry)) n)) ⌝ }
 {
     let mut iterations: u32 = 0;
     let mut u = wide_usize(count);
@@ -147,10 +115,10 @@ fn whole_course(count: u32, window: Window) -> RowCourse
     let references = window.count;
     let n = references as usize;
     let offsets = window.offsets;
-    let low_row = lows::low_in(&offsets, n, 0);
-    let down = lows::above_low(&offsets, n, 0, low_row);
-    let low_column = lows::low_in(&offsets, n, 1);
-    let on = lows::above_low(&offsets, n, 1, low_column);
+    let low_row = low_in(&offsets, n, 0);
+    let down = heights_in(&offsets, n, 0, low_row);
+    let low_column = low_in(&offsets, n, 1);
+    let on = heights_in(&offsets, n, 1, low_column);
     RowCourse {
         top: 0,
         height: count,
@@ -177,8 +145,8 @@ fn survey_box(
     let references = window.count;
     let n = references as usize;
     let offsets = window.offsets;
-    let low_row = lows::low_in(&offsets, n, 0);
-    let low_column = lows::low_in(&offsets, n, 1);
+    let low_row = low_in(&offsets, n, 0);
+    let low_column = low_in(&offsets, n, 1);
     let at = boxed::placed_at(count, bounds, low_row, low_column);
     let course = known.course;
     let down = course.down;
@@ -207,7 +175,8 @@ fn survey_box(
 
 // 6 and 15, the centre, the cells and the course, of rows and a window that 16, 4 and 5 let pass.
 fn survey_in(count: u32, rows: &[u32], window: Window, bounds: Bounds) -> RowSurvey
-    requires { ⌜ (badRows (rowsOf count (now rows)) ≡ false) × (badCount (window .count) ≡ false) × (repeatsOf (offsetsOf 2 window) ≡ false) ⌝ }
+    requires { ⌜ (badRows (rowsOf count (now rows)) ≡ false) × (badCount (window .count) ≡ false)
+        × (repeatsOf (offsetsOf 2 window) ≡ false) ⌝ }
     ensures { λ r. ⌜ r ≡ rowSurveyOf count (now (rows .entry)) window bounds ⌝ }
 {
     let course = whole_course(count, window);
@@ -218,7 +187,7 @@ fn survey_in(count: u32, rows: &[u32], window: Window, bounds: Bounds) -> RowSur
         return unsurveyed(Refusal::NoIteration);
     }
     let cells = cells_in(count, rows);
-    let centre = geometry::centre(2, window);
+    let centre = windows::centre(2, window);
     let whole = RowSurvey {
         verdict: Verdict::Accepted,
         centre,
@@ -236,13 +205,13 @@ fn survey_in(count: u32, rows: &[u32], window: Window, bounds: Bounds) -> RowSur
 pub fn survey(count: u32, rows: &[u32], window: Window, bounds: Bounds) -> RowSurvey
     ensures { λ r. ⌜ r ≡ rowSurveyOf count (now (rows .entry)) window bounds ⌝ }
 {
-    if bad_rows(count, rows) {
+    if limits::bad_rows(count, rows) {
         return unsurveyed(Refusal::BadRows);
     }
-    if geometry::bad_count(window) {
+    if limits::bad_count(window.count) {
         return unsurveyed(Refusal::BadCount);
     }
-    if geometry::repeats(2, window) {
+    if windows::repeats(2, window) {
         return unsurveyed(Refusal::EqualOffsets);
     }
     survey_in(count, rows, window, bounds)
@@ -291,5 +260,5 @@ pub fn length_of(count: u32, rows: &[u32], i: u32) -> u32
     if count <= i {
         return 0;
     }
-    common::number(rows, 2 * wide_usize(i) + 1)
+    number_at(rows, 2 * wide_usize(i) + 1)
 }

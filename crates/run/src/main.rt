@@ -1,19 +1,18 @@
-// Runs the chain sheet on standard input over the cells behind it: writes a `10` line for each firing, then `11`, or `1F` and the number of the refusal.
+// Runs the chain sheet on standard input over the cells behind it: writes a `10` line for each firing, then `11`, or `1F` and
+// the number of the refusal.
 use libc::STDIN_FILENO;
 use libc::STDOUT_FILENO;
 use model::BLOCK_PLACES;
 use model::CELL_PLACES;
+use model::ROW_NUMBERS;
 use model::RUN_TEXT_PLACES;
 use model::STORE_PLACES;
 use model::WORD_PLACES;
-use program_stages::Job;
+use program_jobs::Job;
 ghost use Prim.Native.Nat.{_≤_};
 ghost use lib.ListN.{length};
 ghost use Rattle.program_writer.specs.Texts.{Within};
 ghost use Rattle.program_laws.specs.Loops.{Supplied, RunDue};
-
-// A start and a length of each of 512 rows.
-const ROW_NUMBERS: usize = 1024;
 
 // The job, and of the block at hand the first `len` bytes, from `at` on.
 struct Ready {
@@ -31,13 +30,16 @@ fn supply(job: Job, at: usize, len: usize, block: &mut [u8]) -> Ready
     if at != len {
         return Ready { job, at, len };
     }
-    if !program_stages::wants_input(job) {
+    let stage = job.stage;
+    let line = job.line;
+    let v = line.verdict;
+    if !program_stages::wants_input(stage, v) {
         return Ready { job, at, len };
     }
     let got = libc::read(STDIN_FILENO, block);
     let n = io::count(got, block);
     Ready {
-        job: program_stages::after_read(job, got),
+        job: program_jobs::after_read(job, got),
         at: 0,
         len: n,
     }
@@ -57,14 +59,15 @@ fn main() {
     let mut cells = [0u32; CELL_PLACES];
     let mut words = [0u32; WORD_PLACES];
     let mut text = [0u8; RUN_TEXT_PLACES];
-    let mut job = program_stages::begin();
+    let mut job = program_jobs::begin();
     let mut at: usize = 0;
     let mut len: usize = 0;
     // A loop has to end, and nothing says that the input does: no run has so many turns.
     let mut turns = u64::MAX;
     while 0 < turns {
         turns -= 1;
-        if program_stages::is_over(job) {
+        let stage = job.stage;
+        if program_stages::is_over(stage) {
             return;
         }
         let s = supply(job, at, len, &mut block);

@@ -40,7 +40,8 @@ stopOf stop.Starved rest spent starved stalled = starved
 stopOf stop.Stalled rest spent starved stalled = stalled
 
 -- All that the clocks leave, where they are L's.
-pub record FillsTo (how : Stop) (taken clocks : ℕ) (L : Layout) (n fired : ℕ) (at caps bases passed passed′ puts′ gets′ store store′ lent : List ℕ) (allowance : ℕ) : Type 0 where
+pub record FillsTo (how : Stop) (taken clocks : ℕ) (L : Layout) (n fired : ℕ)
+    (at caps bases passed passed′ puts′ gets′ store store′ lent : List ℕ) (allowance : ℕ) : Type 0 where
   pub lines : how ≡ stop.Aligned → Lined n at passed′
   pub puts-there : length puts′ ≡ 32
   pub gets-there : length gets′ ≡ 32
@@ -59,7 +60,8 @@ pub record FillsTo (how : Stop) (taken clocks : ℕ) (L : Layout) (n fired : ℕ
       ≡ call L write size lent allowance (stand fired (take n passed) store out 0 0 0)
 
 -- What the caller hands in: the tables and the counters of layout L, with firings left.
-pub record Handed (L : Layout) (walk : ℕ → ℕ) (n cells iterations fired : ℕ) (at wants caps bases tops passed store : List ℕ) : Type 0 where
+pub record Handed (L : Layout) (walk : ℕ → ℕ) (n cells iterations fired : ℕ)
+    (at wants caps bases tops passed store : List ℕ) : Type 0 where
   pub tables : Tables L walk n cells iterations at caps bases
   pub stands : Stands L n fired caps bases passed store
   pub more : fired < iterations
@@ -80,10 +82,13 @@ pub record Counted (n size : ℕ) (at wants ps : List ℕ) : Type 0 where
   pub some : 0 < n
   pub few : n ≤ 32
   pub most : size ≤ 1048576
-  pub each : (k : ℕ) → k < n → GoodCounter (source size ps k) size (getD wants 0 0 - getD at 0 0) (getD at k 0) (getD wants k 0) (getD ps k 0)
+  pub each : (k : ℕ) → k < n
+      → GoodCounter (source size ps k) size (getD wants 0 0 - getD at 0 0) (getD at k 0) (getD wants k 0) (getD ps k 0)
 
 abbrev pub Housed : (n room : ℕ) (caps bases tops ps : List ℕ) → Type 0
-Housed n room caps bases tops ps = (k : ℕ) → k + 1 < n → GoodRing (firstPlace (of caps) k) room (getD caps k 0) (getD bases k 0) (getD tops k 0) (getD ps k 0) (getD ps (k + 1) 0)
+Housed n room caps bases tops ps = (k : ℕ) → k + 1 < n
+    → GoodRing (firstPlace (of caps) k) room (getD caps k 0) (getD bases k 0) (getD tops k 0) (getD ps k 0)
+    (getD ps (k + 1) 0)
 
 pub record Sound (n size room : ℕ) (at wants caps bases tops ps : List ℕ) : Type 0 where
   pub counted : Counted n size at wants ps

@@ -1,4 +1,6 @@
 // The clocks of a call before its filters are aligned (document 01, "One clock" and "Running"): none of them fires.
+use model::MOST_CELLS;
+use model::MOST_PLACES;
 ghost use mathlib.Core.List.{List};
 ghost use mathlib.Core.Path.{_≡_};
 ghost use mathlib.Core.Bool.{true, false};
@@ -6,9 +8,11 @@ ghost use Prim.Native.Nat.{ℕ, suc, _+_, _-_, _*_, _%_, _<_, _≤_};
 ghost use lib.ListN.{length, getD};
 ghost use Rattle.model_run.specs.Clock.{Layout, turn as turnOf};
 ghost use Rattle.loop_laws.specs.Passes.{of, step, FullFifos};
-ghost use Rattle.loop_laws.specs.Sweeps.{source, Lined, Ringed, wordAt, getsOn, PutOn, Turns, roomFor, roomAt, roomGoes, Goes, Again, Movers, Keeps, InPlace, Going, Gone};
+ghost use Rattle.loop_laws.specs.Sweeps.{source, Lined, Ringed, wordAt, getsOn, PutOn, Turns, roomFor, roomAt, roomGoes};
+ghost use Rattle.loop_laws.specs.Sweeps.{Goes, Again, Movers, Keeps, InPlace, Going, Gone};
 ghost use Rattle.loop_laws.specs.LoopTables.{Fills};
-ghost use Rattle.run_fill.specs.Fills.{Placing, Fillable, FillsTo, GoodCounter, GoodRing, Counted, Housed, Sound, Handed, Left};
+ghost use Rattle.run_fill.specs.Fills.{Placing, Fillable, FillsTo, GoodCounter, GoodRing, Counted, Housed, Sound};
+ghost use Rattle.run_fill.specs.Fills.{Handed, Left};
 
 // The place after u in a ring from base up to below top.
 fn next_place(u: usize, base: usize, top: usize) -> usize
@@ -62,7 +66,8 @@ fn room_for(n: usize, k: usize, cap: usize, p: usize, q: usize) -> usize
     p + 1
 }
 
-// Which filters move in a clock without firing, looked at from the last to the first: `goes` has 1 for those that do, and 0 for the others. Tells how many they are.
+// Which filters move in a clock without firing, looked at from the last to the first: `goes` has 1 for those that do, and 0
+// for the others. Tells how many they are.
 fn movers(
     n: usize,
     wants: &[usize; 32],
@@ -74,7 +79,8 @@ fn movers(
     requires { ⌜ (n ≤ 32) × (length (now goes) ≡ 32) ⌝ }
     requires { ⌜ ((k : ℕ) → k < n → getD (now ps) k 0 ≤ 1048576) ⌝ }
     requires { ⌜ ((k : ℕ) → suc k < n → getD (now caps) k 0 ≤ 16384) ⌝ }
-    ensures { λ r. ⌜ (length (now (goes .exit)) ≡ 32) × Goes n size (of (now (wants .entry))) (of (now (caps .entry))) (of (now (goes .exit))) (of (now (ps .entry)))
+    ensures { λ r. ⌜ (length (now (goes .exit)) ≡ 32)
+        × Goes n size (of (now (wants .entry))) (of (now (caps .entry))) (of (now (goes .exit))) (of (now (ps .entry)))
         × Movers n (now (goes .exit)) r ⌝ }
 {
     let mut count = 0;
@@ -106,7 +112,8 @@ fn bounded(t: usize, g: usize, d: usize) -> usize
     t
 }
 
-// For how many clocks, at most `most`, a filter at p keeps to what it does: it goes g cells on in a clock. It wants cell w; its source is at s and goes sg on, the first position without a place is b before the clock and goes bg on.
+// For how many clocks, at most `most`, a filter at p keeps to what it does: it goes g cells on in a clock. It wants cell w;
+// its source is at s and goes sg on, the first position without a place is b before the clock and goes bg on.
 fn keeps(
     g: usize,
     p: usize,
@@ -118,7 +125,8 @@ fn keeps(
     most: usize,
 ) -> usize
     requires { ⌜ (p ≤ w) × (p ≤ s) × (p ≤ b) ⌝ }
-    ensures { λ r. ⌜ (sg ≤ 1 → bg ≤ 1 → p + g ≡ turnOf s w (b + bg) p → 0 < most → (0 < r) × (r ≤ most) × Keeps g p w s sg b bg r) ⌝ }
+    ensures { λ r. ⌜ (sg ≤ 1 → bg ≤ 1 → p + g ≡ turnOf s w (b + bg) p → 0 < most
+        → (0 < r) × (r ≤ most) × Keeps g p w s sg b bg r) ⌝ }
 {
     if g == 0 {
         if p == w {
@@ -142,7 +150,8 @@ fn room_at(ps: &[usize; 32], caps: &[usize; 32], n: usize, k: usize) -> usize
     requires { ⌜ (k < n) × (n ≤ 32) ⌝ }
     requires { ⌜ ((i : ℕ) → i < n → getD (now ps) i 0 ≤ 1048576) ⌝ }
     requires { ⌜ ((i : ℕ) → suc i < n → getD (now caps) i 0 ≤ 16384) ⌝ }
-    ensures { λ r. ⌜ r ≡ roomAt n k (getD (now (caps .entry)) k 0) (getD (now (ps .entry)) k 0) (getD (now (ps .entry)) (suc k) 0) ⌝ }
+    ensures { λ r. ⌜ r
+        ≡ roomAt n k (getD (now (caps .entry)) k 0) (getD (now (ps .entry)) k 0) (getD (now (ps .entry)) (suc k) 0) ⌝ }
 {
     if k + 1 < n {
         return ps[k + 1] + caps[k];
@@ -174,8 +183,11 @@ fn span(
     requires { ⌜ (n ≤ 32) × InPlace n size (of (now wants)) (of (now caps)) (of (now ps)) ⌝ }
     requires { ⌜ ((k : ℕ) → k < n → getD (now ps) k 0 ≤ 1048576) ⌝ }
     requires { ⌜ ((k : ℕ) → suc k < n → getD (now caps) k 0 ≤ 16384) ⌝ }
-    ensures { λ r. ⌜ (Goes n size (of (now (wants .entry))) (of (now (caps .entry))) (of (now (goes .entry))) (of (now (ps .entry))) → 0 < most
-        → (0 < r) × (r ≤ most) × Again n size (of (now (wants .entry))) (of (now (caps .entry))) (of (now (goes .entry))) (of (now (ps .entry))) r) ⌝ }
+    ensures { λ r. ⌜ (Goes n size (of (now (wants .entry))) (of (now (caps .entry))) (of (now (goes .entry)))
+        (of (now (ps .entry))) → 0 < most
+        → (0 < r) × (r ≤ most)
+        × Again n size (of (now (wants .entry))) (of (now (caps .entry))) (of (now (goes .entry))) (of (now (ps .entry))) r)
+        ⌝ }
 {
     let mut t = most;
     let mut s = size;
@@ -206,7 +218,8 @@ fn word_for(
     store: &[u32],
 ) -> u32
     requires { ⌜ (k < 32) × (length (now gets) ≡ 32) × ((k ≡ 0 → ⊥) → getD (now gets) (k - 1) 0 < length (now store)) ⌝ }
-    ensures { λ r. ⌜ (r ≡ wordAt k word (now (gets .entry)) (now (store .entry))) × (now (gets .exit) ≡ getsOn k (now (bases .entry)) (now (tops .entry)) (now (gets .entry))) ⌝ }
+    ensures { λ r. ⌜ (r ≡ wordAt k word (now (gets .entry)) (now (store .entry)))
+        × (now (gets .exit) ≡ getsOn k (now (bases .entry)) (now (tops .entry)) (now (gets .entry))) ⌝ }
 {
     if k == 0 {
         return word;
@@ -228,7 +241,8 @@ fn put_on(
     store: &mut [u32],
 )
     requires { ⌜ (k < n) × (n ≤ 32) × (length (now puts) ≡ 32) × (k + 1 < n → getD (now puts) k 0 < length (now store)) ⌝ }
-    ensures { λ _. ⌜ PutOn n k word (now (bases .entry)) (now (tops .entry)) (now (puts .entry)) (now (puts .exit)) (now (store .entry)) (now (store .exit)) ⌝ }
+    ensures { λ _. ⌜ PutOn n k word (now (bases .entry)) (now (tops .entry)) (now (puts .entry)) (now (puts .exit))
+        (now (store .entry)) (now (store .exit)) ⌝ }
 {
     if n <= k + 1 {
         return;
@@ -251,9 +265,12 @@ fn go(
     store: &mut [u32],
 )
     requires { ⌜ Going n (now goes) (now bases) (now tops) (now ps) (now puts) (now gets) (now store) ⌝ }
-    ensures { λ _. ⌜ ((c : ℕ → ℕ) (cells : ℕ) (wants caps : List ℕ) → Turns c n (now (bases .entry)) (now (tops .entry)) caps (now (ps .entry)) (now (puts .entry)) (now (gets .entry)) (now (store .entry))
+    ensures { λ _. ⌜ ((c : ℕ → ℕ) (cells : ℕ) (wants caps : List ℕ)
+        → Turns c n (now (bases .entry)) (now (tops .entry)) caps (now (ps .entry)) (now (puts .entry)) (now (gets .entry))
+        (now (store .entry))
         → Goes n cells (of wants) (of caps) (of (now (goes .entry))) (of (now (ps .entry)))
-        → Gone c n cells word wants (now (bases .entry)) caps (now (goes .entry)) (now (ps .entry)) (now (ps .exit)) (now (puts .exit)) (now (gets .exit)) (now (store .entry)) (now (store .exit))) ⌝ }
+        → Gone c n cells word wants (now (bases .entry)) caps (now (goes .entry)) (now (ps .entry)) (now (ps .exit))
+        (now (puts .exit)) (now (gets .exit)) (now (store .entry)) (now (store .exit))) ⌝ }
 {
     let mut k = n;
     while 0 < k {
@@ -275,7 +292,8 @@ fn lined(n: usize, at: &[usize; 32], ps: &[usize; 32]) -> bool
     requires { ⌜ n ≤ 32 ⌝ }
     requires { ⌜ ((k : ℕ) → k < n → getD (now ps) k 0 ≤ 1048576) ⌝ }
     requires { ⌜ ((k : ℕ) → k < n → getD (now at) k 0 ≤ 1048576) ⌝ }
-    ensures { λ r. ⌜ ((r ≡ true → Lined n (now (at .entry)) (now (ps .entry))) × (r ≡ false → Lined n (now (at .entry)) (now (ps .entry)) → ⊥)) ⌝ }
+    ensures { λ r. ⌜ ((r ≡ true → Lined n (now (at .entry)) (now (ps .entry)))
+        × (r ≡ false → Lined n (now (at .entry)) (now (ps .entry)) → ⊥)) ⌝ }
 {
     let mut k = 0;
     while k + 1 < n {
@@ -318,7 +336,8 @@ fn reach(first: usize, cells: usize, allowance: usize) -> usize
     values::lesser(cells, allowance)
 }
 
-// The clocks of a call until its filters are found aligned. None of them fires: in each a filter moves that is not where it is wanted.
+// The clocks of a call until its filters are found aligned. None of them fires: in each a filter moves that is not where it
+// is wanted.
 fn until_aligned(
     n: usize,
     at: &[usize; 32],
@@ -334,10 +353,14 @@ fn until_aligned(
     cells: &[u32],
     allowance: usize,
 ) -> Stopped
-    requires { ⌜ Fillable n size (now at) (now wants) (now caps) (now bases) (now tops) (now passed) (now puts) (now gets) (now store) ⌝ }
+    requires { ⌜ Fillable n size (now at) (now wants) (now caps) (now bases) (now tops) (now passed) (now puts) (now gets)
+        (now store) ⌝ }
     ensures { λ r. ⌜ ((L : Layout) (walk : ℕ → ℕ) (iterations fired : ℕ)
-        → Fills L walk n size iterations fired (now (at .entry)) (now (wants .entry)) (now (caps .entry)) (now (bases .entry)) (now (tops .entry)) (now (passed .entry)) (now (puts .entry)) (now (gets .entry)) (now (store .entry))
-        → FillsTo (r .how) (r .taken) (r .clocks) L n fired (now (at .entry)) (now (caps .entry)) (now (bases .entry)) (now (passed .entry)) (now (passed .exit)) (now (puts .exit)) (now (gets .exit)) (now (store .entry)) (now (store .exit)) (now (cells .entry)) allowance) ⌝ }
+        → Fills L walk n size iterations fired (now (at .entry)) (now (wants .entry)) (now (caps .entry)) (now (bases .entry))
+        (now (tops .entry)) (now (passed .entry)) (now (puts .entry)) (now (gets .entry)) (now (store .entry))
+        → FillsTo (r .how) (r .taken) (r .clocks) L n fired (now (at .entry)) (now (caps .entry)) (now (bases .entry))
+        (now (passed .entry)) (now (passed .exit)) (now (puts .exit)) (now (gets .exit)) (now (store .entry))
+        (now (store .exit)) (now (cells .entry)) allowance) ⌝ }
 {
     let mut taken = 0;
     let mut clocks = 0;
@@ -428,7 +451,8 @@ fn places(
     gets: &mut [usize; 32],
 )
     requires { ⌜ Placing n (now bases) (now tops) (now caps) (now ps) (now puts) (now gets) ⌝ }
-    ensures { λ _. ⌜ (length (now (puts .exit)) ≡ 32) × (length (now (gets .exit)) ≡ 32) × Ringed n (now (bases .entry)) (now (caps .entry)) (now (ps .entry)) (now (puts .exit)) (now (gets .exit)) ⌝ }
+    ensures { λ _. ⌜ (length (now (puts .exit)) ≡ 32) × (length (now (gets .exit)) ≡ 32)
+        × Ringed n (now (bases .entry)) (now (caps .entry)) (now (ps .entry)) (now (puts .exit)) (now (gets .exit)) ⌝ }
 {
     let mut k = 0;
     while k + 1 < n {
@@ -468,7 +492,8 @@ fn full_fifos(n: usize, caps: &[usize; 32], passed: &[usize; 32]) -> bool
 
 // ---- what is handed in
 
-// Whether a filter at p is out of place: it is to want cell x, a cell of the stream, which lies w behind cell a; and it is past neither that nor its source.
+// Whether a filter at p is out of place: it is to want cell x, a cell of the stream, which lies w behind cell a; and it is
+// past neither that nor its source.
 fn bad_counter(source: usize, size: usize, w: usize, a: usize, x: usize, p: usize) -> bool
     ensures { λ r. ⌜ (r ≡ false → GoodCounter source size w a x p) × (r ≡ true → GoodCounter source size w a x p → ⊥) ⌝ }
 {
@@ -487,11 +512,12 @@ fn bad_counter(source: usize, size: usize, w: usize, a: usize, x: usize, p: usiz
     source < p
 }
 
-// Whether a FIFO of c places is out of place: it is to begin at `from` and to end at `top`, within `room` places; and the filters p and q beside it have no more than c cells between them.
+// Whether a FIFO of c places is out of place: it is to begin at `from` and to end at `top`, within `room` places; and the
+// filters p and q beside it have no more than c cells between them.
 fn bad_ring(from: usize, room: usize, c: usize, base: usize, top: usize, p: usize, q: usize) -> bool
     ensures { λ r. ⌜ (r ≡ false → GoodRing from room c base top p q) × (r ≡ true → GoodRing from room c base top p q → ⊥) ⌝ }
 {
-    if 16384 < c {
+    if MOST_PLACES < c {
         return true;
     }
     if base != from {
@@ -520,7 +546,8 @@ fn bad_counters(
     size: usize,
     ps: &[usize; 32],
 ) -> bool
-    ensures { λ r. ⌜ (r ≡ false → Counted n size (now (at .entry)) (now (wants .entry)) (now (ps .entry))) × (r ≡ true → Counted n size (now (at .entry)) (now (wants .entry)) (now (ps .entry)) → ⊥) ⌝ }
+    ensures { λ r. ⌜ (r ≡ false → Counted n size (now (at .entry)) (now (wants .entry)) (now (ps .entry)))
+        × (r ≡ true → Counted n size (now (at .entry)) (now (wants .entry)) (now (ps .entry)) → ⊥) ⌝ }
 {
     if n == 0 {
         return true;
@@ -528,7 +555,7 @@ fn bad_counters(
     if 32 < n {
         return true;
     }
-    if 1048576 < size {
+    if MOST_CELLS < size {
         return true;
     }
     let a = at[0];
@@ -560,7 +587,9 @@ fn bad_rings(
     room: usize,
 ) -> bool
     requires { ⌜ n ≤ 32 ⌝ }
-    ensures { λ r. ⌜ (r ≡ false → Housed n room (now (caps .entry)) (now (bases .entry)) (now (tops .entry)) (now (ps .entry))) × (r ≡ true → Housed n room (now (caps .entry)) (now (bases .entry)) (now (tops .entry)) (now (ps .entry)) → ⊥) ⌝ }
+    ensures { λ r. ⌜ (r ≡ false
+        → Housed n room (now (caps .entry)) (now (bases .entry)) (now (tops .entry)) (now (ps .entry)))
+        × (r ≡ true → Housed n room (now (caps .entry)) (now (bases .entry)) (now (tops .entry)) (now (ps .entry)) → ⊥) ⌝ }
 {
     let mut from = 0;
     let mut k = 0;
@@ -575,7 +604,8 @@ fn bad_rings(
     false
 }
 
-// What the clocks leave: how they stopped, the cells that they took, how many they were, the counters, and whether each FIFO is full.
+// What the clocks leave: how they stopped, the cells that they took, how many they were, the counters, and whether each FIFO
+// is full.
 pub struct Filled {
     pub how: Stop,
     pub taken: usize,
@@ -584,7 +614,8 @@ pub struct Filled {
     pub full: bool,
 }
 
-// The clocks of a call until its filters are found aligned. Tables that are out of place make no clock, and nothing changes but the places.
+// The clocks of a call until its filters are found aligned. Tables that are out of place make no clock, and nothing changes
+// but the places.
 pub fn fill(
     n: usize,
     at: &[usize; 32],
@@ -601,9 +632,13 @@ pub fn fill(
     allowance: usize,
 ) -> Filled
     ensures { λ r. ⌜ ((L : Layout) (walk : ℕ → ℕ) (iterations fired : ℕ)
-        → Handed L walk n size iterations fired (now (at .entry)) (now (wants .entry)) (now (caps .entry)) (now (bases .entry)) (now (tops .entry)) counters (now (store .entry))
-        → FillsTo (r .how) (r .taken) (r .clocks) L n fired (now (at .entry)) (now (caps .entry)) (now (bases .entry)) counters (r .passed) (now (puts .exit)) (now (gets .exit)) (now (store .entry)) (now (store .exit)) (now (cells .entry)) allowance)
-        × ((Sound n size (length (now (store .entry))) (now (at .entry)) (now (wants .entry)) (now (caps .entry)) (now (bases .entry)) (now (tops .entry)) counters → ⊥)
+        → Handed L walk n size iterations fired (now (at .entry)) (now (wants .entry)) (now (caps .entry))
+        (now (bases .entry)) (now (tops .entry)) counters (now (store .entry))
+        → FillsTo (r .how) (r .taken) (r .clocks) L n fired (now (at .entry)) (now (caps .entry)) (now (bases .entry))
+        counters (r .passed) (now (puts .exit)) (now (gets .exit)) (now (store .entry)) (now (store .exit))
+        (now (cells .entry)) allowance)
+        × ((Sound n size (length (now (store .entry))) (now (at .entry)) (now (wants .entry)) (now (caps .entry))
+        (now (bases .entry)) (now (tops .entry)) counters → ⊥)
         → Left r counters (now (store .entry)) (now (store .exit)))
         × (r .full ≡ true → FullFifos n (now (caps .entry)) (r .passed)) ⌝ }
 {

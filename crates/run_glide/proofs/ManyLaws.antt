@@ -13,7 +13,7 @@ use Rattle.model_run.specs.Kernels.{wordsAt, written, width}
 use Rattle.model.specs.declared.Kernel.{Kernel}
 use Rattle.model.specs.declared.Kernel.the-variants as kernels
 use Rattle.grid_laws.proofs.ListLaws.{length-tabulate}
-use Rattle.kernel.proofs.SumLaws.{words-count}
+use Rattle.kernel_words.proofs.SumLaws.{words-count}
 use Rattle.loop_laws.specs.Passes.{step, flow, stepped, Lent, lentOf, passing, InStore}
 use Rattle.loop_laws.proofs.FlowLaws.{length-flow}
 use Rattle.loop_laws.proofs.PassLaws.{step-back, step-up, length-stepped}

@@ -54,21 +54,27 @@ pub record Rung (n room : ℕ) (bases tops us gs store : List ℕ) : Type 0 wher
   pub room-is : length store ≡ room
 
 -- So many firings one after the other: of the cells from place `from` on, each `size` places behind the one before.
-unfoldable pub firesOf : (kernel : Kernel) (centre : ℕ) (ts : List ℕ) (n size : ℕ) (bases tops cells : List ℕ) (from o : ℕ) → ℕ → Lent → Lent
+unfoldable pub firesOf : (kernel : Kernel) (centre : ℕ) (ts : List ℕ) (n size : ℕ) (bases tops cells : List ℕ) (from o : ℕ)
+    → ℕ → Lent → Lent
 firesOf kernel centre ts n size bases tops cells from o zero l = l
 firesOf kernel centre ts n size bases tops cells from o (suc i) l =
-    firedOf kernel centre ts n (o + i * size) bases tops (getD cells (from + i) 0) (firesOf kernel centre ts n size bases tops cells from o i l)
+    firedOf kernel centre ts n (o + i * size) bases tops (getD cells (from + i) 0)
+    (firesOf kernel centre ts n size bases tops cells from o i l)
 
 -- So many passes: the words are written as they are.
 abbrev pub passesOf : (n size : ℕ) (bases tops cells : List ℕ) (from o : ℕ) → ℕ → Lent → Lent
 passesOf n size bases tops cells from o i l = firesOf kernels.Raw 0 [] n size bases tops cells from o i l
 
 -- The call that a loop makes the clocks of, from its beginning.
-abbrev pub calls : (L : Layout) (write : List ℕ → List ℕ) (size n fired : ℕ) (passed store lent out : List ℕ) (allowance : ℕ) → Ended
-calls L write size n fired passed store lent out allowance = call L write size lent allowance (stand fired (take n passed) store out 0 0 0)
+abbrev pub calls : (L : Layout) (write : List ℕ → List ℕ) (size n fired : ℕ) (passed store lent out : List ℕ) (allowance : ℕ)
+    → Ended
+calls L write size n fired passed store lent out allowance = call L write size lent allowance
+    (stand fired (take n passed) store out 0 0 0)
 
 -- What the caller hands in: tables, counters and ring places of layout L, rows, and what a firing writes.
-pub record Glides (L : Layout) (write : List ℕ → List ℕ) (kernel : Kernel) (ts : List ℕ) (n row iterations cells centre size fired dims : ℕ) (at wants caps bases tops spans strides passed puts gets store : List ℕ)
+pub record Glides (L : Layout) (write : List ℕ → List ℕ) (kernel : Kernel) (ts : List ℕ)
+    (n row iterations cells centre size fired dims : ℕ)
+    (at wants caps bases tops spans strides passed puts gets store : List ℕ)
     : Type 0 where
   pub tables : Tables L (walked spans strides dims 0) n cells iterations at caps bases
   pub stands : Stands L n fired caps bases passed store
@@ -95,8 +101,10 @@ wayOf way.Starved = Starved
 wayOf way.Full = Full
 
 -- The call ends as they do.
-pub record GlidesTo (r : Slid) (L : Layout) (write : List ℕ → List ℕ) (size n iterations cells fired : ℕ) (passed store store′ out out′ lent : List ℕ) (allowance : ℕ) : Type 0 where
-  pub ends : endedAt (wayOf (r .how)) (stand (fired + r .firings) (ahead (r .clocks) (take n passed)) store′ out′ (r .clocks) (r .clocks) (r .firings))
+pub record GlidesTo (r : Slid) (L : Layout) (write : List ℕ → List ℕ) (size n iterations cells fired : ℕ)
+    (passed store store′ out out′ lent : List ℕ) (allowance : ℕ) : Type 0 where
+  pub ends : endedAt (wayOf (r .how))
+      (stand (fired + r .firings) (ahead (r .clocks) (take n passed)) store′ out′ (r .clocks) (r .clocks) (r .firings))
       ≡ calls L write size n fired passed store lent out allowance
   pub had : r .clocks ≤ length lent
   pub allowed : r .clocks ≤ allowance

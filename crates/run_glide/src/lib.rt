@@ -1,5 +1,6 @@
 // The clocks of a call whose filters are aligned: every filter moves in each (document 01, "One clock" and "Running").
 use model::Kernel;
+use model::MOST_CELLS;
 use model::Order;
 ghost use mathlib.Core.List.{List};
 ghost use mathlib.Core.Path.{_≡_};
@@ -8,10 +9,11 @@ ghost use Prim.Native.Nat.{ℕ, _+_, _-_, _*_, _%_, _<_, _≤_};
 ghost use lib.ListN.{length};
 ghost use Rattle.model_run.specs.Kernels.{width as widthFor, terms as termsOf};
 ghost use Rattle.model_run.specs.Clock.{Layout};
-ghost use Rattle.kernel.specs.FilterTables.{filtersFor};
+ghost use Rattle.kernel_terms.specs.FilterTables.{filtersFor};
 ghost use Rattle.loop_laws.specs.Passes.{step, lentOf, passOf, heads, FullFifos, InStore};
 ghost use Rattle.loop_laws.specs.LoopTables.{walked};
-ghost use Rattle.run_glide.specs.Glides.{Walks, Blank, Rung, passesOf, firesOf, Starts, Glides, GlidesTo, GoodPlaces, InRings, InRows, Sound, Left};
+ghost use Rattle.run_glide.specs.Glides.{Walks, Blank, Rung, passesOf, firesOf, Starts, Glides, GlidesTo, GoodPlaces};
+ghost use Rattle.run_glide.specs.Glides.{InRings, InRows, Sound, Left};
 
 // ---- a clock in which every filter moves
 
@@ -39,7 +41,8 @@ fn exchange(
     requires { ⌜ (0 < n) × (n ≤ 32) × (n ≤ length (now words)) ⌝ }
     requires { ⌜ InStore (n - 1) (now puts) (now puts) (now store) ⌝ }
     ensures { λ _. ⌜ lentOf (now (puts .exit)) (now (puts .exit)) (now (store .exit)) (now (words .exit))
-        ≡ passOf (n - 1) (now (bases .entry)) (now (tops .entry)) word (lentOf (now (puts .entry)) (now (puts .entry)) (now (store .entry)) (now (words .entry))) ⌝ }
+        ≡ passOf (n - 1) (now (bases .entry)) (now (tops .entry)) word
+        (lentOf (now (puts .entry)) (now (puts .entry)) (now (store .entry)) (now (words .entry))) ⌝ }
 {
     let m = n - 1;
     let mut carry = word;
@@ -56,7 +59,8 @@ fn exchange(
     words[m] = carry;
 }
 
-// Every filter moves: `word` comes in, and the word that passes filter k is written to `words` at k. Where every FIFO is full, `gets` is neither read nor kept.
+// Every filter moves: `word` comes in, and the word that passes filter k is written to `words` at k. Where every FIFO is
+// full, `gets` is neither read nor kept.
 fn pass(
     full: bool,
     n: usize,
@@ -70,8 +74,11 @@ fn pass(
 )
     requires { ⌜ (0 < n) × (n ≤ 32) × (n ≤ length (now words)) ⌝ }
     requires { ⌜ InStore (n - 1) (now puts) (heads full (now puts) (now gets)) (now store) ⌝ }
-    ensures { λ _. ⌜ lentOf (now (puts .exit)) (heads full (now (puts .exit)) (now (gets .exit))) (now (store .exit)) (now (words .exit))
-        ≡ passOf (n - 1) (now (bases .entry)) (now (tops .entry)) word (lentOf (now (puts .entry)) (heads full (now (puts .entry)) (now (gets .entry))) (now (store .entry)) (now (words .entry))) ⌝ }
+    ensures { λ _. ⌜ lentOf (now (puts .exit)) (heads full (now (puts .exit)) (now (gets .exit))) (now (store .exit))
+        (now (words .exit))
+        ≡ passOf (n - 1) (now (bases .entry)) (now (tops .entry)) word
+        (lentOf (now (puts .entry)) (heads full (now (puts .entry)) (now (gets .entry))) (now (store .entry))
+        (now (words .entry))) ⌝ }
 {
     if full {
         exchange(n, bases, tops, puts, store, word, words);
@@ -94,7 +101,8 @@ fn pass(
     words[m] = carry;
 }
 
-// Every filter moves `count` times: the cells from place `from` on come in, and the words of each pass go to `words`, from place o on and `step` places behind those of the pass before.
+// Every filter moves `count` times: the cells from place `from` on come in, and the words of each pass go to `words`, from
+// place o on and `step` places behind those of the pass before.
 fn pass_all(
     full: bool,
     n: usize,
@@ -110,11 +118,16 @@ fn pass_all(
     o: usize,
     step: usize,
 )
-    requires { ⌜ Rung n (length (now store)) (now bases) (now tops) (now puts) (heads full (now puts) (now gets)) (now store) × (from + count ≤ length (now cells)) ⌝ }
+    requires { ⌜ Rung n (length (now store)) (now bases) (now tops) (now puts) (heads full (now puts) (now gets)) (now store)
+        × (from + count ≤ length (now cells)) ⌝ }
     requires { ⌜ (step ≤ n) × (o + count * step + (n - step) ≤ length (now words)) ⌝ }
-    ensures { λ _. ⌜ (lentOf (now (puts .exit)) (heads full (now (puts .exit)) (now (gets .exit))) (now (store .exit)) (now (words .exit))
-        ≡ passesOf n step (now (bases .entry)) (now (tops .entry)) (now (cells .entry)) from o count (lentOf (now (puts .entry)) (heads full (now (puts .entry)) (now (gets .entry))) (now (store .entry)) (now (words .entry))))
-        × Rung n (length (now (store .entry))) (now (bases .entry)) (now (tops .entry)) (now (puts .exit)) (heads full (now (puts .exit)) (now (gets .exit))) (now (store .exit))
+    ensures { λ _. ⌜ (lentOf (now (puts .exit)) (heads full (now (puts .exit)) (now (gets .exit))) (now (store .exit))
+        (now (words .exit))
+        ≡ passesOf n step (now (bases .entry)) (now (tops .entry)) (now (cells .entry)) from o count
+        (lentOf (now (puts .entry)) (heads full (now (puts .entry)) (now (gets .entry))) (now (store .entry))
+        (now (words .entry))))
+        × Rung n (length (now (store .entry))) (now (bases .entry)) (now (tops .entry)) (now (puts .exit))
+        (heads full (now (puts .exit)) (now (gets .exit))) (now (store .exit))
         × (length (now (words .exit)) ≡ length (now (words .entry))) ⌝ }
 {
     let mut at = o;
@@ -137,7 +150,8 @@ fn pass_all(
     }
 }
 
-// So many firings: what the kernel makes of the words that pass goes to `out`, from place o on and `width` places behind that of the firing before. `row` is room for the words of a firing, `terms` are the filters that the kernel adds.
+// So many firings: what the kernel makes of the words that pass goes to `out`, from place o on and `width` places behind that
+// of the firing before. `row` is room for the words of a firing, `terms` are the filters that the kernel adds.
 fn fire_all(
     full: bool,
     kernel: Kernel,
@@ -157,11 +171,16 @@ fn fire_all(
     terms: &[u8],
     width: usize,
 )
-    requires { ⌜ Rung n (length (now store)) (now bases) (now tops) (now puts) (heads full (now puts) (now gets)) (now store) × Blank n (now row) × (from + count ≤ length (now cells)) ⌝ }
+    requires { ⌜ Rung n (length (now store)) (now bases) (now tops) (now puts) (heads full (now puts) (now gets)) (now store)
+        × Blank n (now row) × (from + count ≤ length (now cells)) ⌝ }
     requires { ⌜ (width ≡ widthFor kernel n) × (o + count * width ≤ length (now out)) ⌝ }
-    ensures { λ _. ⌜ (lentOf (now (puts .exit)) (heads full (now (puts .exit)) (now (gets .exit))) (now (store .exit)) (now (out .exit))
-        ≡ firesOf kernel centre (now (terms .entry)) n width (now (bases .entry)) (now (tops .entry)) (now (cells .entry)) from o count (lentOf (now (puts .entry)) (heads full (now (puts .entry)) (now (gets .entry))) (now (store .entry)) (now (out .entry))))
-        × Rung n (length (now (store .entry))) (now (bases .entry)) (now (tops .entry)) (now (puts .exit)) (heads full (now (puts .exit)) (now (gets .exit))) (now (store .exit))
+    ensures { λ _. ⌜ (lentOf (now (puts .exit)) (heads full (now (puts .exit)) (now (gets .exit))) (now (store .exit))
+        (now (out .exit))
+        ≡ firesOf kernel centre (now (terms .entry)) n width (now (bases .entry)) (now (tops .entry)) (now (cells .entry))
+        from o count (lentOf (now (puts .entry)) (heads full (now (puts .entry)) (now (gets .entry))) (now (store .entry))
+        (now (out .entry))))
+        × Rung n (length (now (store .entry))) (now (bases .entry)) (now (tops .entry)) (now (puts .exit))
+        (heads full (now (puts .exit)) (now (gets .exit))) (now (store .exit))
         × Blank n (now (row .exit)) × (length (now (out .exit)) ≡ length (now (out .entry))) ⌝ }
 {
     if let Kernel::Raw = kernel {
@@ -225,7 +244,8 @@ fn walk(dims: usize, spans: &[usize; 4], strides: &[usize; 4], j: usize) -> usiz
     sum
 }
 
-// How many cells lie between filter 0, which is at `position`, and the cell that it wants in iteration `next`; `first` is the cell that it wants in iteration 0.
+// How many cells lie between filter 0, which is at `position`, and the cell that it wants in iteration `next`; `first` is the
+// cell that it wants in iteration 0.
 fn wait_for(
     dims: usize,
     spans: &[usize; 4],
@@ -315,13 +335,13 @@ fn bad_rows(
     if row == 0 {
         return true;
     }
-    if 1048576 < iterations {
+    if MOST_CELLS < iterations {
         return true;
     }
-    if 1048576 < first {
+    if MOST_CELLS < first {
         return true;
     }
-    if 1048576 < wanted {
+    if MOST_CELLS < wanted {
         return true;
     }
     if wanted < position {
@@ -332,7 +352,7 @@ fn bad_rows(
         if spans[d] == 0 {
             return true;
         }
-        if 1048576 < strides[d] {
+        if MOST_CELLS < strides[d] {
             return true;
         }
         d += 1;
@@ -355,8 +375,8 @@ pub struct Slid {
     pub firings: usize,
 }
 
-// The clocks of a call whose filters are aligned: every filter moves in each. Filter 0, which is at `position`, has `wait` cells before the one that it wants; `first` is what it wants in
-// iteration 0; `left` iterations are left in the row.
+// The clocks of a call whose filters are aligned: every filter moves in each. Filter 0, which is at `position`, has `wait`
+// cells before the one that it wants; `first` is what it wants in iteration 0; `left` iterations are left in the row.
 fn slide(
     full: bool,
     kernel: Kernel,
@@ -384,11 +404,16 @@ fn slide(
     width: usize,
 ) -> Slid
     requires { ⌜ width ≡ widthFor kernel n ⌝ }
-    requires { ⌜ (length (now puts) ≡ 32) × (length (now gets) ≡ 32) × InRings n (length (now store)) (now bases) (now tops) (now puts) (now gets) ⌝ }
+    requires { ⌜ (length (now puts) ≡ 32) × (length (now gets) ≡ 32)
+        × InRings n (length (now store)) (now bases) (now tops) (now puts) (now gets) ⌝ }
     requires { ⌜ InRows dims row iterations first (position + wait0) position (now spans) (now strides) × (0 < left0) ⌝ }
-    ensures { λ r. ⌜ ((L : Layout) (write : List ℕ → List ℕ) (size : ℕ) (at wants caps passed : List ℕ) → Starts full n row fired0 first position wait0 left0 at wants caps passed
-        → Glides L write kernel (now (terms .entry)) n row iterations size centre width fired0 dims at wants caps (now (bases .entry)) (now (tops .entry)) (now (spans .entry)) (now (strides .entry)) passed (now (puts .entry)) (now (gets .entry)) (now (store .entry))
-        → GlidesTo r L write width n iterations size fired0 passed (now (store .entry)) (now (store .exit)) (now (out .entry)) (now (out .exit)) (now (cells .entry)) allowance) ⌝ }
+    ensures { λ r. ⌜ ((L : Layout) (write : List ℕ → List ℕ) (size : ℕ) (at wants caps passed : List ℕ)
+        → Starts full n row fired0 first position wait0 left0 at wants caps passed
+        → Glides L write kernel (now (terms .entry)) n row iterations size centre width fired0 dims at wants caps
+        (now (bases .entry)) (now (tops .entry)) (now (spans .entry)) (now (strides .entry)) passed (now (puts .entry))
+        (now (gets .entry)) (now (store .entry))
+        → GlidesTo r L write width n iterations size fired0 passed (now (store .entry)) (now (store .exit)) (now (out .entry))
+        (now (out .exit)) (now (cells .entry)) allowance) ⌝ }
 {
     let mut spare = [0u32; 256];
     let mut fired = fired0;
@@ -486,7 +511,8 @@ fn slide(
     }
 }
 
-// The clocks of a call whose filters are aligned. `full`: each FIFO is full; `order`: the author's order. Tables that are out of place make no clock, and nothing changes.
+// The clocks of a call whose filters are aligned. `full`: each FIFO is full; `order`: the author's order. Tables that are out
+// of place make no clock, and nothing changes.
 pub fn glide(
     full: bool,
     kernel: Kernel,
@@ -511,10 +537,16 @@ pub fn glide(
     allowance: usize,
     order: Order,
 ) -> Slid
-    ensures { λ r. ⌜ ((L : Layout) (write : List ℕ → List ℕ) (size : ℕ) (caps : List ℕ) → (full ≡ true → FullFifos n caps (now (passed .entry)))
-        → Glides L write kernel (termsOf kernel centre (filtersFor n order)) n row iterations size centre (widthFor kernel n) fired0 dims (now (at .entry)) (now (wants .entry)) caps (now (bases .entry)) (now (tops .entry)) (now (spans .entry)) (now (strides .entry)) (now (passed .entry)) puts0 gets0 (now (store .entry))
-        → GlidesTo r L write (widthFor kernel n) n iterations size fired0 (now (passed .entry)) (now (store .entry)) (now (store .exit)) (now (out .entry)) (now (out .exit)) (now (cells .entry)) allowance)
-        × ((Sound n dims row iterations (length (now (store .entry))) (now (at .entry)) (now (wants .entry)) (now (bases .entry)) (now (tops .entry)) (now (spans .entry)) (now (strides .entry)) (now (passed .entry)) puts0 gets0 → ⊥)
+    ensures { λ r. ⌜ ((L : Layout) (write : List ℕ → List ℕ) (size : ℕ) (caps : List ℕ)
+        → (full ≡ true → FullFifos n caps (now (passed .entry)))
+        → Glides L write kernel (termsOf kernel centre (filtersFor n order)) n row iterations size centre (widthFor kernel n)
+        fired0 dims (now (at .entry)) (now (wants .entry)) caps (now (bases .entry)) (now (tops .entry)) (now (spans .entry))
+        (now (strides .entry)) (now (passed .entry)) puts0 gets0 (now (store .entry))
+        → GlidesTo r L write (widthFor kernel n) n iterations size fired0 (now (passed .entry)) (now (store .entry))
+        (now (store .exit)) (now (out .entry)) (now (out .exit)) (now (cells .entry)) allowance)
+        × ((Sound n dims row iterations (length (now (store .entry))) (now (at .entry)) (now (wants .entry))
+        (now (bases .entry)) (now (tops .entry)) (now (spans .entry)) (now (strides .entry)) (now (passed .entry)) puts0 gets0
+        → ⊥)
         → Left r (now (store .entry)) (now (store .exit)) (now (out .entry)) (now (out .exit))) ⌝ }
 {
     let first = at[0];
@@ -545,7 +577,7 @@ pub fn glide(
             firings: 0,
         };
     }
-    let found = kernel::terms_of(kernel, centre, n, order);
+    let found = kernel_terms::terms_of(kernel, centre, n, order);
     let filters = found.filters;
     let count = found.count;
     slide(
@@ -572,6 +604,6 @@ pub fn glide(
         out,
         allowance,
         &filters[..count],
-        kernel::width(kernel, n),
+        kernel_terms::width(kernel, n),
     )
 }

@@ -28,7 +28,7 @@ use Rattle.grid_laws.proofs.CheckLaws.{value-passes}
 use Rattle.run_laws.specs.Accepted.{Accepted}
 use Rattle.run_laws.proofs.Accepts.{first-append}
 use Rattle.geometry.specs.Parts.{part, Small}
-use Rattle.geometry.specs.Windows.{centreIn}
+use Rattle.windows.specs.Windows.{centreIn}
 use Rattle.geometry.proofs.PartLaws.{part-none, part-all, part-shift, part-same}
 use Rattle.shape.proofs.Answers.{centre-is}
 use Rattle.loop_laws.specs.Standings.{counting}

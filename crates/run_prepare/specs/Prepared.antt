@@ -37,7 +37,8 @@ pub record Widened (size : ℕ) (from : List ℕ) (n : ℕ) (xs : List ℕ) : Ty
   pub same : (i : ℕ) → i < n → numberAt xs i ≡ numberAt from i
   pub small : (i : ℕ) → numberAt xs i < 4294967296
 
--- How many cells iteration j lies behind the first, in `dims` dimensions of these extents and strides: each index times its stride, the last one first.
+-- How many cells iteration j lies behind the first, in `dims` dimensions of these extents and strides: each index times its
+-- stride, the last one first.
 unfoldable pub walkBy : (extents strides : ℕ → ℕ) (dims j : ℕ) → ℕ
 walkBy extents strides zero j = 0
 walkBy extents strides (suc d) j = j % extents d * strides d + walkBy extents strides d (j / extents d)
@@ -48,7 +49,8 @@ pub record Walks (dims : ℕ) (es ss : List ℕ) (j : ℕ) : Type 0 where
   pub some : (d : ℕ) → d < dims → 0 < numberAt es d
   pub near : walkBy (numberAt es) (numberAt ss) dims j ≤ mostCells
 
--- On a rectangle: the extents of the iterations, and the strides, which "are those of the whole grid": dimension d's is the number of cells of the dimensions behind it.
+-- On a rectangle: the extents of the iterations, and the strides, which "are those of the whole grid": dimension d's is the
+-- number of cells of the dimensions behind it.
 pub record Spaced (t : Trimmed) (dims : ℕ) (es ss : List ℕ) : Type 0 where
   pub fitting : Fitting t
   pub rectangular : t .ground ≡ rectangle (groundSizes (t .ground))
@@ -81,7 +83,8 @@ pub record Capped (t : Trimmed) (n : ℕ) (caps : List ℕ) : Type 0 where
 abbrev pub counterAt : List CellsPassed → ℕ → ℕ
 counterAt ps k = getD ps k (record { 0 = 0 }) .0
 
--- What 11 looks at of a chain's layout, where `fired` firings are made: `wants` are the next wanted cells, and `last` those that were fired last, if any were.
+-- What 11 looks at of a chain's layout, where `fired` firings are made: `wants` are the next wanted cells, and `last` those
+-- that were fired last, if any were.
 pub record Laid (L : Layout) (n cells iterations fired : ℕ) (caps wants last : List ℕ) : Type 0 where
   pub cells-are : L .cells ≡ cells
   pub iterations-are : L .iterations ≡ iterations

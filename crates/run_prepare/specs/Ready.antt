@@ -22,8 +22,9 @@ use Rattle.loop_laws.specs.Standings.{counting}
 use Rattle.run_prepare.specs.Prepared.{numberAt, Shaped, Capped}
 use Rattle.run_prepare.specs.declared.Ready.{Ready}
 
--- The tables of an accepted chain, whose grid is a rectangle: reference k's cell in iteration 0, FIFO k's capacity, its first place and the place past its last; for each dimension how many
--- iterations and how many cells one index there is; how many iterations a row has.
+-- The tables of an accepted chain, whose grid is a rectangle: reference k's cell in iteration 0, FIFO k's capacity, its first
+-- place and the place past its last; for each dimension how many iterations and how many cells one index there is; how many
+-- iterations a row has.
 pub record Prepared (t : Trimmed) (row iterations cells centre : ℕ) (at caps bases tops spans strides : List ℕ) : Type 0 where
   pub accepted : Accepted t
   pub rectangular : t .ground ≡ rectangle (groundSizes (t .ground))
@@ -59,12 +60,14 @@ pub record Capable (c : Chain) (rows caps : List ℕ) : Type 0 where
 -- Besides the places of its FIFOs, and a store that 10 does not turn back.
 pub record Stored (c : Chain) (rows caps bases tops store : List ℕ) : Type 0 where
   pub capable : Capable c rows caps
-  pub bases-are : (k : ℕ) → suc k < c .window .count → numberAt bases k ≡ firstPlace (λ i. getD (trimmed c rows .capacities) i 0) k
+  pub bases-are : (k : ℕ) → suc k < c .window .count
+      → numberAt bases k ≡ firstPlace (λ i. getD (trimmed c rows .capacities) i 0) k
   pub tops-are : (k : ℕ) → suc k < c .window .count → numberAt tops k ≡ numberAt bases k + numberAt caps k
   pub long : shortStore (trimmed c rows) store ≡ false
 
 -- On a rectangle: and a state that 11 does not turn back, its counters and the cells that its filters want next in arrays.
-pub record Taken (c : Chain) (s : State) (cells iterations : ℕ) (es ss at wants caps bases tops passed store : List ℕ) : Type 0 where
+pub record Taken (c : Chain) (s : State) (cells iterations : ℕ) (es ss at wants caps bases tops passed store : List ℕ) : Type
+    0 where
   pub stored : Stored (flattened c) [] caps bases tops store
   pub shaped : Shaped (trimmed (flattened c) []) (c .grid .dims) (c .window .count) cells iterations es ss at
   pub at-there : length at ≡ 32
@@ -74,13 +77,15 @@ pub record Taken (c : Chain) (s : State) (cells iterations : ℕ) (es ss at want
   pub good : badState (layout (trimmed (flattened c) [])) (countersOf (c .window .count) s) ≡ false
 
 -- Where a call is not refused: its tables, and its counters.
-pub record Begun (c : Chain) (rows : List ℕ) (s : State) (r : Ready) (at wants caps bases tops spans strides passed store : List ℕ) : Type 0 where
+pub record Begun (c : Chain) (rows : List ℕ) (s : State) (r : Ready)
+    (at wants caps bases tops spans strides passed store : List ℕ) : Type 0 where
   pub tables : Prepared (trimmed c rows) (r .row) (r .iterations) (r .cells) (r .centre) at caps bases tops spans strides
   pub begins : Begins (trimmed c rows) (r .fired) wants passed store
   pub fired-is : r .fired ≡ s .fired .0
   pub counters : take (c .window .count) passed ≡ countersOf (c .window .count) s .passed
 
 -- The verdict is the call's, whatever it is handed.
-pub record Readied (c : Chain) (rows : List ℕ) (s : State) (r : Ready) (at wants caps bases tops spans strides passed store : List ℕ) : Type 0 where
+pub record Readied (c : Chain) (rows : List ℕ) (s : State) (r : Ready)
+    (at wants caps bases tops spans strides passed store : List ℕ) : Type 0 where
   pub verdict-is : r .verdict ≡ judgeRun (trimmed c rows) s store
   pub begun : r .verdict ≡ verdict.Accepted → Begun c rows s r at wants caps bases tops spans strides passed store

@@ -31,13 +31,15 @@ abbrev pub inRows : Chain → Chain
 inRows c = setGrid (record { skewed = true; rows = c .grid .rows; dims = c .grid .dims; sizes = c .grid .sizes }) c
 
 -- Where n references read, row by row, by tables of the cells and of the iterations above each row.
-pub record RowReads (t : Trimmed) (count : ℕ) (rows : List ℕ) (course : RowCourse) (n : ℕ) (above iterations : List ℕ) : Type 0 where
+pub record RowReads (t : Trimmed) (count : ℕ) (rows : List ℕ) (course : RowCourse) (n : ℕ) (above iterations : List ℕ) : Type
+    0 where
   pub few : n ≤ 32
   pub looked-is : looked course ≡ n
   pub few-rows : course .height ≤ 512
   pub none-above : numberAt iterations 0 ≡ 0
   pub all-above : numberAt iterations (course .height) ≡ iterationsOf t
-  pub reads-are : (j v k : ℕ) → LiesIn iterations (course .height) j v → k < n → readAt (rowsOf count rows) above course v k + (j - numberAt iterations v) ≡ readsOf t j k
+  pub reads-are : (j v k : ℕ) → LiesIn iterations (course .height) j v → k < n
+      → readAt (rowsOf count rows) above course v k + (j - numberAt iterations v) ≡ readsOf t j k
   pub near : (j k : ℕ) → j < iterationsOf t → k < n → readsOf t j k ≤ mostCells
 
 -- What is found of an accepted chain on rows.
@@ -48,14 +50,15 @@ pub record RowsFound (c : Chain) (rows : List ℕ) (s : RowSurvey) : Type 0 wher
   pub cells-are : s .cells ≡ cellsOf (trimmed c rows)
   pub centre-is : s .centre ≡ centreOf (trimmed c rows .offsets)
 
--- The tables of an accepted chain on rows: how many cells lie above each row, and how many iterations above each row of the course; FIFO k's capacity, its first place and the place past
--- its last.
+-- The tables of an accepted chain on rows: how many cells lie above each row, and how many iterations above each row of the
+-- course; FIFO k's capacity, its first place and the place past its last.
 pub record RowTables (c : Chain) (rows : List ℕ) (s : RowSurvey) (above iterations caps bases tops : List ℕ) : Type 0 where
   pub accepted : Accepted (trimmed c rows)
   pub skewed : c .grid .skewed ≡ true
   pub surveyed : Surveyed (c .grid .rows) rows (c .window) (c .bounds) (s .course)
   pub cells-above : parts.Filled 513 0 (cellsAbove (rowsOf (c .grid .rows) rows)) (c .grid .rows + 1) above
-  pub iterations-above : parts.Filled 513 0 (lengthsAbove (rowLength (rowsOf (c .grid .rows) rows) (s .course))) (s .course .height + 1) iterations
+  pub iterations-above : parts.Filled 513 0 (lengthsAbove (rowLength (rowsOf (c .grid .rows) rows) (s .course)))
+      (s .course .height + 1) iterations
   pub caps-are : (k : ℕ) → suc k < c .window .count → getD caps k 0 ≡ getD (trimmed c rows .capacities) k 0
   pub bases-are : (k : ℕ) → suc k < c .window .count → getD bases k 0 ≡ firstPlace (λ i. getD (trimmed c rows .capacities) i 0) k
   pub tops-are : (k : ℕ) → suc k < c .window .count → getD tops k 0 ≡ getD bases k 0 + getD caps k 0
@@ -64,7 +67,8 @@ pub record RowTables (c : Chain) (rows : List ℕ) (s : RowSurvey) (above iterat
   pub centre-is : s .centre ≡ centreOf (trimmed c rows .offsets)
 
 -- Where a call is not refused: its tables, its counters, and a store that is not refused.
-pub record RowsBegun (c : Chain) (rows : List ℕ) (state : State) (s : RowSurvey) (above iterations caps bases tops passed store : List ℕ) : Type 0 where
+pub record RowsBegun (c : Chain) (rows : List ℕ) (state : State) (s : RowSurvey)
+    (above iterations caps bases tops passed store : List ℕ) : Type 0 where
   pub tables : RowTables c rows s above iterations caps bases tops
   pub there : length passed ≡ 32
   pub room : sum (trimmed c rows .capacities) ≤ length store
@@ -72,6 +76,7 @@ pub record RowsBegun (c : Chain) (rows : List ℕ) (state : State) (s : RowSurve
   pub counters : take (c .window .count) passed ≡ countersOf (c .window .count) state .passed
 
 -- The verdict is the call's, whatever it is handed.
-pub record RowsReadied (c : Chain) (rows : List ℕ) (state : State) (r : RowSurvey) (above iterations caps bases tops passed store : List ℕ) : Type 0 where
+pub record RowsReadied (c : Chain) (rows : List ℕ) (state : State) (r : RowSurvey)
+    (above iterations caps bases tops passed store : List ℕ) : Type 0 where
   pub verdict-is : r .verdict ≡ judgeRun (trimmed c rows) state store
   pub begun : r .verdict ≡ verdict.Accepted → RowsBegun c rows state r above iterations caps bases tops passed store

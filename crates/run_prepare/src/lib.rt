@@ -1,4 +1,5 @@
-// What a run call prepares before its clocks: the chain's numbers in arrays, and numbers 10 and 11 (document 01, "Running" and "Turned back on account of the state"). On rows: skewed.rt.
+// What a run call prepares before its clocks: the chain's numbers in arrays, and numbers 10 and 11 (document 01, "Running"
+// and "Turned back on account of the state"). On rows: skewed.rt.
 pub mod skewed;
 
 use model::Chain;
@@ -21,9 +22,10 @@ ghost use Rattle.model.specs.Judging.{judgeChain};
 ghost use Rattle.model_run.specs.Running.{layout, badCounter, badFifo, badState};
 ghost use Rattle.model.specs.declared.Verdict.the-variants.{Accepted, Refused};
 ghost use Rattle.geometry.specs.Parts.{part, Small};
-ghost use Rattle.geometry.specs.Windows.{centreIn};
+ghost use Rattle.windows.specs.Windows.{centreIn};
 ghost use Rattle.shape.specs.Shapes.{chainShape};
-ghost use Rattle.run_prepare.specs.Prepared.{numberAt, blank, Filled, Widened, walkBy, Walks, Shaped, Capped, counterAt, Laid, TakenUp};
+ghost use Rattle.run_prepare.specs.Prepared.{numberAt, blank, Filled, Widened, walkBy, Walks, Shaped, Capped};
+ghost use Rattle.run_prepare.specs.Prepared.{counterAt, Laid, TakenUp};
 ghost use Rattle.run_prepare.specs.Ready.{flattened, Capable, Stored, Readied};
 
 fn wide(x: u32) -> usize
@@ -86,7 +88,8 @@ fn walk(dims: usize, extents: &[usize; 4], strides: &[usize; 4], j: usize) -> us
 // How many iterations one index is, in each dimension: the product of the extents behind it.
 fn spans_of(dims: usize, extents: &[usize; 4], spans: &mut [usize; 4])
     requires { ⌜ (dims ≤ 4) × Small (now extents) dims ⌝ }
-    ensures { λ _. ⌜ ((d : ℕ) → d < dims → numberAt (now (spans .exit)) d ≡ product (part (numberAt (now (extents .entry))) (d + 1) dims)) ⌝ }
+    ensures { λ _. ⌜ ((d : ℕ) → d < dims
+        → numberAt (now (spans .exit)) d ≡ product (part (numberAt (now (extents .entry))) (d + 1) dims)) ⌝ }
 {
     *spans = [0usize; 4];
     let mut behind: usize = 1;
@@ -134,8 +137,10 @@ fn wants_of(
     j: usize,
     to: &mut [usize; 32],
 )
-    requires { ⌜ (length (now to) ≡ 32) × ((t : Trimmed) × Shaped t dims n cells iterations (now extents) (now strides) (now at)) ⌝ }
-    ensures { λ _. ⌜ ((t : Trimmed) → Shaped t dims n cells iterations (now (extents .entry)) (now (strides .entry)) (now (at .entry))
+    requires { ⌜ (length (now to) ≡ 32)
+        × ((t : Trimmed) × Shaped t dims n cells iterations (now extents) (now strides) (now at)) ⌝ }
+    ensures { λ _. ⌜ ((t : Trimmed)
+        → Shaped t dims n cells iterations (now (extents .entry)) (now (strides .entry)) (now (at .entry))
         → Filled (now (to .entry)) (λ k. layout t .wants j k) n (now (to .exit))) ⌝ }
 {
     if j < iterations {
@@ -151,7 +156,8 @@ fn bases_of(n: usize, caps: &[usize; 32], bases: &mut [usize; 32], tops: &mut [u
     requires { ⌜ (n ≤ 32) × ((k : ℕ) → numberAt (now caps) k < 4294967296) ⌝ }
     ensures { λ r. ⌜ (r ≡ firstPlace (numberAt (now (caps .entry))) (n - 1))
         × Filled blank (firstPlace (numberAt (now (caps .entry)))) (n - 1) (now (bases .exit))
-        × Filled blank (λ k. firstPlace (numberAt (now (caps .entry))) k + numberAt (now (caps .entry)) k) (n - 1) (now (tops .exit)) ⌝ }
+        × Filled blank (λ k. firstPlace (numberAt (now (caps .entry))) k + numberAt (now (caps .entry)) k) (n - 1)
+        (now (tops .exit)) ⌝ }
 {
     *bases = [0usize; 32];
     *tops = [0usize; 32];
@@ -176,7 +182,8 @@ fn short(places: usize, store: &[u32]) -> bool
 // The input counters of a state.
 fn passed_of(state: State, n: usize, to: &mut [usize; 32])
     requires { ⌜ (n ≤ 32) × (length (now to) ≡ 32) ⌝ }
-    ensures { λ _. ⌜ Filled (now (to .entry)) (counterAt (state .passed)) n (now (to .exit)) × ((k : ℕ) → k < n → numberAt (now (to .exit)) k < 4294967296) ⌝ }
+    ensures { λ _. ⌜ Filled (now (to .entry)) (counterAt (state .passed)) n (now (to .exit))
+        × ((k : ℕ) → k < n → numberAt (now (to .exit)) k < 4294967296) ⌝ }
 {
     let passed = state.passed;
     let mut k: usize = 0;
@@ -189,7 +196,8 @@ fn passed_of(state: State, n: usize, to: &mut [usize; 32])
 
 // 11, of an input counter: past its next wanted cell, not past its last fired one, or above the cell count.
 fn bad_counter(cells: usize, fired: usize, wanted: usize, last: usize, passed: usize) -> bool
-    ensures { λ r. ⌜ ((L : Layout) (k : ℕ) → L .cells ≡ cells → L .wants fired k ≡ wanted → ((f : ℕ) → fired ≡ suc f → L .wants f k ≡ last) → r ≡ badCounter L fired k passed) ⌝ }
+    ensures { λ r. ⌜ ((L : Layout) (k : ℕ) → L .cells ≡ cells → L .wants fired k ≡ wanted
+        → ((f : ℕ) → fired ≡ suc f → L .wants f k ≡ last) → r ≡ badCounter L fired k passed) ⌝ }
 {
     if wanted < passed {
         return true;
@@ -204,7 +212,8 @@ fn bad_counter(cells: usize, fired: usize, wanted: usize, last: usize, passed: u
 
 // 11, of the FIFO behind filter k: its counter below the next filter's, or the FIFO over its capacity.
 fn bad_fifo(n: usize, k: usize, caps: &[usize; 32], passed: &[usize; 32]) -> bool
-    requires { ⌜ (k < n) × (n ≤ 32) × (n ≤ length (now passed)) × ((i : ℕ) → numberAt (now caps) i < 4294967296) × ((i : ℕ) → i < n → numberAt (now passed) i < 4294967296) ⌝ }
+    requires { ⌜ (k < n) × (n ≤ 32) × (n ≤ length (now passed)) × ((i : ℕ) → numberAt (now caps) i < 4294967296)
+        × ((i : ℕ) → i < n → numberAt (now passed) i < 4294967296) ⌝ }
     ensures { λ r. ⌜ ((L : Layout) → (suc k < n → L .capacity k ≡ numberAt (now (caps .entry)) k)
         → r ≡ badFifo L k (numberAt (now (passed .entry)) k) (slice (suc k) n (now (passed .entry)))) ⌝ }
 {
@@ -230,7 +239,8 @@ fn bad_state(
     last: &[usize; 32],
     passed: &[usize; 32],
 ) -> bool
-    requires { ⌜ (n ≤ 32) × (n ≤ length (now passed)) × ((i : ℕ) → numberAt (now caps) i < 4294967296) × ((i : ℕ) → i < n → numberAt (now passed) i < 4294967296) ⌝ }
+    requires { ⌜ (n ≤ 32) × (n ≤ length (now passed)) × ((i : ℕ) → numberAt (now caps) i < 4294967296)
+        × ((i : ℕ) → i < n → numberAt (now passed) i < 4294967296) ⌝ }
     ensures { λ r. ⌜ ((L : Layout) → Laid L n cells iterations fired (now (caps .entry)) (now (wants .entry)) (now (last .entry))
         → r ≡ badState L (record { fired = fired; passed = take n (now (passed .entry)) })) ⌝ }
 {
@@ -276,7 +286,9 @@ fn take_up(
 ) -> bool
     requires { ⌜ ((k : ℕ) → numberAt (now caps) k < 4294967296)
         × ((t : Trimmed) × Shaped t dims n cells iterations (now extents) (now strides) (now at)) ⌝ }
-    ensures { λ r. ⌜ ((t : Trimmed) → Shaped t dims n cells iterations (now (extents .entry)) (now (strides .entry)) (now (at .entry)) → Capped t n (now (caps .entry))
+    ensures { λ r. ⌜ ((t : Trimmed)
+        → Shaped t dims n cells iterations (now (extents .entry)) (now (strides .entry)) (now (at .entry))
+        → Capped t n (now (caps .entry))
         → TakenUp t state n r (now (passed .exit)) (now (wants .exit))) ⌝ }
 {
     *passed = [0usize; 32];
@@ -351,7 +363,8 @@ fn with_store(
     requires { ⌜ (shape ≡ chainShape (flattened chain)) × (centre ≡ centreIn (chain .grid .dims) (chain .window)) ⌝ }
     requires { ⌜ Capable (flattened chain) [] (now caps) ⌝ }
     ensures { λ r. ⌜ ((bases tops store : List ℕ) → Stored (flattened chain) [] (now (caps .entry)) bases tops store
-        → Readied (flattened chain) [] state r (now (at .exit)) (now (wants .exit)) (now (caps .entry)) bases tops (now (spans .exit)) (now (strides .exit)) (now (passed .exit)) store) ⌝ }
+        → Readied (flattened chain) [] state r (now (at .exit)) (now (wants .exit)) (now (caps .entry)) bases tops
+        (now (spans .exit)) (now (strides .exit)) (now (passed .exit)) store) ⌝ }
 {
     let n = chain.window.count as usize;
     let dims = chain.grid.dims as usize;
@@ -409,7 +422,9 @@ fn with_chain(
 ) -> Ready
     requires { ⌜ judgeChain (flattened chain) [] ≡ Accepted ⌝ }
     requires { ⌜ (shape ≡ chainShape (flattened chain)) × (centre ≡ centreIn (chain .grid .dims) (chain .window)) ⌝ }
-    ensures { λ r. ⌜ Readied (flattened chain) [] state r (now (at .exit)) (now (wants .exit)) (now (caps .exit)) (now (bases .exit)) (now (tops .exit)) (now (spans .exit)) (now (strides .exit)) (now (passed .exit)) (now (store .entry)) ⌝ }
+    ensures { λ r. ⌜ Readied (flattened chain) [] state r (now (at .exit)) (now (wants .exit)) (now (caps .exit))
+        (now (bases .exit)) (now (tops .exit)) (now (spans .exit)) (now (strides .exit)) (now (passed .exit))
+        (now (store .entry)) ⌝ }
 {
     let n = chain.window.count as usize;
     let capacities = chain.capacities;
@@ -432,7 +447,8 @@ fn with_chain(
     )
 }
 
-// What a run call on a rectangle finds before its clocks: the chain is looked at first, then 10, then 11; then the tables are those of the call.
+// What a run call on a rectangle finds before its clocks: the chain is looked at first, then 10, then 11; then the tables are
+// those of the call.
 pub fn prepare(
     chain: Chain,
     state: State,
@@ -447,7 +463,8 @@ pub fn prepare(
     passed: &mut [usize; 32],
 ) -> Ready
     ensures { λ r. ⌜ (chain .grid .skewed ≡ false
-        → Readied chain [] state r (now (at .exit)) (now (wants .exit)) (now (caps .exit)) (now (bases .exit)) (now (tops .exit)) (now (spans .exit)) (now (strides .exit)) (now (passed .exit)) (now (store .entry))) ⌝ }
+        → Readied chain [] state r (now (at .exit)) (now (wants .exit)) (now (caps .exit)) (now (bases .exit))
+        (now (tops .exit)) (now (spans .exit)) (now (strides .exit)) (now (passed .exit)) (now (store .entry))) ⌝ }
 {
     let found = judging::examine(chain);
     let verdict = found.verdict;

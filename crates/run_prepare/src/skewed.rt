@@ -1,4 +1,5 @@
-// What a run call on rows prepares before its clocks (document 02, request 5): the chain's numbers in arrays, and numbers 10 and 11.
+// What a run call on rows prepares before its clocks (document 02, request 5): the chain's numbers in arrays, and numbers 10
+// and 11.
 use super::add_to_each;
 use super::bad_state;
 use super::bases_of;
@@ -39,8 +40,10 @@ fn reads_at(
     j: u32,
     to: &mut [usize; 32],
 )
-    requires { ⌜ (length (now to) ≡ 32) × ((t : Trimmed) × RowReads t count (now rows) course n (now above) (now iterations) × (j < iterationsOf t)) ⌝ }
-    ensures { λ _. ⌜ ((t : Trimmed) → RowReads t count (now (rows .entry)) course n (now (above .entry)) (now (iterations .entry)) → j < iterationsOf t
+    requires { ⌜ (length (now to) ≡ 32)
+        × ((t : Trimmed) × RowReads t count (now rows) course n (now above) (now iterations) × (j < iterationsOf t)) ⌝ }
+    ensures { λ _. ⌜ ((t : Trimmed)
+        → RowReads t count (now (rows .entry)) course n (now (above .entry)) (now (iterations .entry)) → j < iterationsOf t
         → Filled (now (to .entry)) (readsOf t j) n (now (to .exit))) ⌝ }
 {
     let v = row_courses::row_of(iterations, course.height, j);
@@ -64,8 +67,10 @@ fn wants_in(
     j: usize,
     to: &mut [usize; 32],
 )
-    requires { ⌜ (length (now to) ≡ 32) × ((t : Trimmed) × Counted t n cells covered × RowReads t count (now rows) course n (now above) (now iterations)) ⌝ }
-    ensures { λ _. ⌜ ((t : Trimmed) → Counted t n cells covered → RowReads t count (now (rows .entry)) course n (now (above .entry)) (now (iterations .entry))
+    requires { ⌜ (length (now to) ≡ 32)
+        × ((t : Trimmed) × Counted t n cells covered × RowReads t count (now rows) course n (now above) (now iterations)) ⌝ }
+    ensures { λ _. ⌜ ((t : Trimmed) → Counted t n cells covered
+        → RowReads t count (now (rows .entry)) course n (now (above .entry)) (now (iterations .entry))
         → Filled (now (to .entry)) (λ k. layout t .wants j k) n (now (to .exit))) ⌝ }
 {
     if j < covered {
@@ -91,7 +96,9 @@ fn take_up_rows(
 ) -> bool
     requires { ⌜ ((k : ℕ) → numberAt (now caps) k < 4294967296)
         × ((t : Trimmed) × Counted t n cells covered × RowReads t count (now rows) course n (now above) (now iterations)) ⌝ }
-    ensures { λ r. ⌜ ((t : Trimmed) → Counted t n cells covered → RowReads t count (now (rows .entry)) course n (now (above .entry)) (now (iterations .entry)) → Capped t n (now (caps .entry))
+    ensures { λ r. ⌜ ((t : Trimmed) → Counted t n cells covered
+        → RowReads t count (now (rows .entry)) course n (now (above .entry)) (now (iterations .entry))
+        → Capped t n (now (caps .entry))
         → ((wants : List ℕ) × TakenUp t state n r (now (passed .exit)) wants)) ⌝ }
 {
     *passed = [0usize; 32];
@@ -154,7 +161,8 @@ fn with_store(
 ) -> RowSurvey
     requires { ⌜ RowsFound (inRows chain) (now rows) found × Capable (inRows chain) (now rows) (now caps) ⌝ }
     ensures { λ r. ⌜ ((bases tops store : List ℕ) → Stored (inRows chain) (now (rows .entry)) (now (caps .entry)) bases tops store
-        → RowsReadied (inRows chain) (now (rows .entry)) state r (now (above .exit)) (now (iterations .exit)) (now (caps .entry)) bases tops (now (passed .exit)) store) ⌝ }
+        → RowsReadied (inRows chain) (now (rows .entry)) state r (now (above .exit)) (now (iterations .exit))
+        (now (caps .entry)) bases tops (now (passed .exit)) store) ⌝ }
 {
     let n = chain.window.count as usize;
     let count = chain.grid.rows;
@@ -196,7 +204,8 @@ fn with_chain(
     passed: &mut [usize; 32],
 ) -> RowSurvey
     requires { ⌜ (judgeChain (inRows chain) (now rows) ≡ Accepted) × RowsFound (inRows chain) (now rows) found ⌝ }
-    ensures { λ r. ⌜ RowsReadied (inRows chain) (now (rows .entry)) state r (now (above .exit)) (now (iterations .exit)) (now (caps .exit)) (now (bases .exit)) (now (tops .exit)) (now (passed .exit)) (now (store .entry)) ⌝ }
+    ensures { λ r. ⌜ RowsReadied (inRows chain) (now (rows .entry)) state r (now (above .exit)) (now (iterations .exit))
+        (now (caps .exit)) (now (bases .exit)) (now (tops .exit)) (now (passed .exit)) (now (store .entry)) ⌝ }
 {
     let n = chain.window.count as usize;
     let capacities = chain.capacities;
@@ -208,7 +217,8 @@ fn with_chain(
     with_store(chain, rows, found, state, caps, above, iterations, passed)
 }
 
-// What a run call on rows finds before its clocks: the chain is looked at first, then 10, then 11; then the tables are those of the call.
+// What a run call on rows finds before its clocks: the chain is looked at first, then 10, then 11; then the tables are those
+// of the call.
 pub fn prepare_rows(
     chain: Chain,
     rows: &[u32],
@@ -222,7 +232,8 @@ pub fn prepare_rows(
     passed: &mut [usize; 32],
 ) -> RowSurvey
     ensures { λ r. ⌜ (chain .grid .skewed ≡ true
-        → RowsReadied chain (now (rows .entry)) state r (now (above .exit)) (now (iterations .exit)) (now (caps .exit)) (now (bases .exit)) (now (tops .exit)) (now (passed .exit)) (now (store .entry))) ⌝ }
+        → RowsReadied chain (now (rows .entry)) state r (now (above .exit)) (now (iterations .exit)) (now (caps .exit))
+        (now (bases .exit)) (now (tops .exit)) (now (passed .exit)) (now (store .entry))) ⌝ }
 {
     let found = judging::examine_rows(chain, rows);
     let verdict = found.verdict;

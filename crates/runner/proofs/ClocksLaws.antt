@@ -20,8 +20,8 @@ use Rattle.model.specs.declared.Chain.{Chain}
 use Rattle.model.specs.declared.Counts.{Counts}
 use Rattle.model.specs.declared.Outcome.{Outcome}
 use Rattle.grid_laws.proofs.Iterations.{at-most-cells}
-use Rattle.kernel.specs.FilterTables.{filtersFor}
-use Rattle.kernel.proofs.TableLaws.{filters-are}
+use Rattle.kernel_terms.specs.FilterTables.{filtersFor}
+use Rattle.kernel_terms.proofs.TableLaws.{filters-are}
 use Rattle.flow.specs.Machine.{Invariant}
 use Rattle.run_laws.proofs.Accepts.{trimmed-proper, fitting-of}
 use Rattle.loop_laws.specs.Standings.{counting, stand, endedAt}

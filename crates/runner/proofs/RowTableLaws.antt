@@ -24,7 +24,7 @@ use Rattle.grid_laws.proofs.ChainLaws.{offsets-count}
 use Rattle.grid_laws.proofs.Iterations.{at-most-cells}
 use Rattle.run_laws.proofs.Accepts.{fitting-of}
 use Rattle.run_laws.proofs.Layouts.{wants-read, lawful}
-use Rattle.kernel.specs.FilterTables.{filtersFor}
+use Rattle.kernel_terms.specs.FilterTables.{filtersFor}
 use Rattle.geometry.specs.Parts.{Filled}
 use Rattle.rows.specs.Courses.{looked, rowLength}
 use Rattle.rows.specs.declared.RowCourse.{RowCourse}

@@ -8,7 +8,7 @@ use Rattle.model.specs.declared.Chain.{Chain}
 use Rattle.model.specs.declared.State.{State}
 use Rattle.grid_laws.proofs.ChainLaws.{dims-skewed, ground-skewed}
 use Rattle.run_laws.proofs.Accepts.{trimmed-proper}
-use Rattle.kernel.proofs.TableLaws.{filters-are}
+use Rattle.kernel_terms.proofs.TableLaws.{filters-are}
 use Rattle.rows.specs.declared.RowSurvey.{RowSurvey}
 use Rattle.run_prepare.specs.RowsReady.{RowsBegun}
 use Rattle.runner.specs.ByRows.{RowCall}

@@ -19,7 +19,7 @@ use Rattle.model.specs.declared.Order.{Order}
 use Rattle.model.specs.declared.Window.{Window}
 use Rattle.flow.specs.Machine.{Invariant}
 use Rattle.run_laws.specs.Accepted.{Accepted}
-use Rattle.kernel.specs.FilterTables.{filtersFor}
+use Rattle.kernel_terms.specs.FilterTables.{filtersFor}
 use Rattle.geometry.specs.Parts.{Filled}
 use Rattle.rows.specs.Courses.{rowLength}
 use Rattle.rows.specs.Surveys.{Surveyed}
@@ -29,8 +29,10 @@ use Rattle.loop_laws.specs.Standings.{counting, stand}
 use Rattle.loop_laws.specs.Stretches.{stretch}
 use Rattle.run_glide.specs.Glides.{calls}
 
--- An accepted value on rows, and its tables: the course of its iterations, how many cells lie above each row, and the places of the FIFOs.
-pub record RowTables (t : Trimmed) (kernel : Kernel) (order : Order) (n count cells centre : ℕ) (c : RowCourse) (rows above caps bases tops : List ℕ) : Type 0 where
+-- An accepted value on rows, and its tables: the course of its iterations, how many cells lie above each row, and the places
+-- of the FIFOs.
+pub record RowTables (t : Trimmed) (kernel : Kernel) (order : Order) (n count cells centre : ℕ) (c : RowCourse)
+    (rows above caps bases tops : List ℕ) : Type 0 where
   pub window : Window
   pub bounds : Bounds
   pub surveyed : Surveyed count rows window bounds c
@@ -70,16 +72,20 @@ pub record AtRow (t : Trimmed) (n count : ℕ) (rows : List ℕ) (c : RowCourse)
   pub counted : Counted t n (iterationsAbove count rows c v + j) passed store
 
 -- All that the call is handed.
-pub record RowCall (t : Trimmed) (kernel : Kernel) (order : Order) (n count cells centre : ℕ) (c : RowCourse) (rows above iterations caps bases tops : List ℕ) (fired : ℕ) (passed store : List ℕ)
+pub record RowCall (t : Trimmed) (kernel : Kernel) (order : Order) (n count cells centre : ℕ) (c : RowCourse)
+    (rows above iterations caps bases tops : List ℕ) (fired : ℕ) (passed store : List ℕ)
     : Type 0 where
   pub tables : RowTables t kernel order n count cells centre c rows above caps bases tops
   pub iterations-are : Filled 513 0 (iterationsAbove count rows c) (c .height + 1) iterations
   pub counted : Counted t n fired passed store
 
--- Between two rows: the call goes on from here, in row v, where it began with `fired` firings, with these counters, store and output.
-pub record RowsGone (t : Trimmed) (n count : ℕ) (rows : List ℕ) (c : RowCourse) (size fired : ℕ) (passed₀ store₀ lent out₀ : List ℕ) (allowance : ℕ)
+-- Between two rows: the call goes on from here, in row v, where it began with `fired` firings, with these counters, store and
+-- output.
+pub record RowsGone (t : Trimmed) (n count : ℕ) (rows : List ℕ) (c : RowCourse) (size fired : ℕ)
+    (passed₀ store₀ lent out₀ : List ℕ) (allowance : ℕ)
     (v taken made firings : ℕ) (passed store out : List ℕ) : Type 0 where
-  pub goes : call (layout t) (writtenBy t) size lent (allowance - made) (stand (fired + firings) (take n passed) store out taken made firings)
+  pub goes : call (layout t) (writtenBy t) size lent (allowance - made)
+      (stand (fired + firings) (take n passed) store out taken made firings)
       ≡ calls (layout t) (writtenBy t) size n fired passed₀ store₀ lent out₀ allowance
   pub most : v ≤ c .height
   pub from : iterationsAbove count rows c v ≤ fired + firings

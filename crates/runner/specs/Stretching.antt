@@ -21,7 +21,8 @@ use Rattle.runner.specs.declared.End.the-variants as end
 use Rattle.runner.specs.declared.Stretched.{Stretched}
 
 -- Tables, counters and rows of the stretch's layout L, and what a firing writes.
-pub record Stretching (L : Layout) (write : List ℕ → List ℕ) (kernel : Kernel) (ts : List ℕ) (n row iterations cells centre fired dims : ℕ) (at wants caps bases tops spans strides passed store : List ℕ)
+pub record Stretching (L : Layout) (write : List ℕ → List ℕ) (kernel : Kernel) (ts : List ℕ)
+    (n row iterations cells centre fired dims : ℕ) (at wants caps bases tops spans strides passed store : List ℕ)
     : Type 0 where
   pub handed : Handed L (walked spans strides dims 0) n cells iterations fired at wants caps bases tops passed store
   pub most : iterations ≤ 1048576
@@ -30,10 +31,12 @@ pub record Stretching (L : Layout) (write : List ℕ → List ℕ) (kernel : Ker
   pub writes-are : (ws : List ℕ) → write ws ≡ written kernel centre ts (upTo n) ws
 
 -- There is such a layout.
-pub record Stretchable (kernel : Kernel) (ts : List ℕ) (n row iterations cells centre fired dims : ℕ) (at wants caps bases tops spans strides passed store : List ℕ) : Type 0 where
+pub record Stretchable (kernel : Kernel) (ts : List ℕ) (n row iterations cells centre fired dims : ℕ)
+    (at wants caps bases tops spans strides passed store : List ℕ) : Type 0 where
   pub layout : Layout
   pub write : List ℕ → List ℕ
-  pub stretching : Stretching layout write kernel ts n row iterations cells centre fired dims at wants caps bases tops spans strides passed store
+  pub stretching : Stretching layout write kernel ts n row iterations cells centre fired dims at wants caps bases tops spans
+      strides passed store
 
 abbrev pub endingOf : End → Ending
 endingOf end.Done = Done
@@ -56,8 +59,11 @@ wayEnd way.Starved = end.Starved
 wayEnd way.Full = end.Full
 
 -- All that the clocks leave, where they are L's. The first n counters are small, and those past n as they came.
-pub record StretchedTo (r : Stretched) (L : Layout) (write : List ℕ → List ℕ) (size n iterations fired : ℕ) (passed passed′ store store′ out out′ lent : List ℕ) (allowance : ℕ) : Type 0 where
-  pub ends : endedAt (endingOf (r .end)) (stand (fired + r .firings) (take n passed′) store′ out′ (r .taken) (r .clocks) (r .firings)) ≡ calls L write size n fired passed store lent out allowance
+pub record StretchedTo (r : Stretched) (L : Layout) (write : List ℕ → List ℕ) (size n iterations fired : ℕ)
+    (passed passed′ store store′ out out′ lent : List ℕ) (allowance : ℕ) : Type 0 where
+  pub ends : endedAt (endingOf (r .end))
+      (stand (fired + r .firings) (take n passed′) store′ out′ (r .taken) (r .clocks) (r .firings))
+      ≡ calls L write size n fired passed store lent out allowance
   pub there : length passed′ ≡ 32
   pub rest : drop n passed′ ≡ drop n passed
   pub small : (k : ℕ) → k < n → getD passed′ k 0 ≤ 1048576

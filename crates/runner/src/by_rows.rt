@@ -50,10 +50,16 @@ fn of_row(
     out: &mut [u32],
     allowance: usize,
 ) -> Stretched
-    requires { ⌜ ((t : Trimmed) × RowTables t kernel order n count size centre course (now rows) (now above) (now caps) (now bases) (now tops) × AtRow t n count (now rows) course v length fired (now passed) (now store)) ⌝ }
-    ensures { λ r. ⌜ ((t : Trimmed) → RowTables t kernel order n count size centre course (now (rows .entry)) (now (above .entry)) (now (caps .entry)) (now (bases .entry)) (now (tops .entry))
+    requires { ⌜ ((t : Trimmed)
+        × RowTables t kernel order n count size centre course (now rows) (now above) (now caps) (now bases) (now tops)
+        × AtRow t n count (now rows) course v length fired (now passed) (now store)) ⌝ }
+    ensures { λ r. ⌜ ((t : Trimmed)
+        → RowTables t kernel order n count size centre course (now (rows .entry)) (now (above .entry)) (now (caps .entry))
+        (now (bases .entry)) (now (tops .entry))
         → AtRow t n count (now (rows .entry)) course v length fired (now (passed .entry)) (now (store .entry))
-        → StretchedTo r (rowOf t count (now (rows .entry)) course v) (writtenBy t) (widthFor kernel n) n length fired (now (passed .entry)) (now (passed .exit)) (now (store .entry)) (now (store .exit)) (now (out .entry)) (now (out .exit)) (now (cells .entry)) allowance) ⌝ }
+        → StretchedTo r (rowOf t count (now (rows .entry)) course v) (writtenBy t) (widthFor kernel n) n length fired
+        (now (passed .entry)) (now (passed .exit)) (now (store .entry)) (now (store .exit)) (now (out .entry))
+        (now (out .exit)) (now (cells .entry)) allowance) ⌝ }
 {
     if length <= fired {
         return Stretched {
@@ -117,12 +123,18 @@ fn rows_from(
     allowance: usize,
 ) -> Stretched
     requires { ⌜ LiesIn (now iterations) (course .height) fired0 v0 ⌝ }
-    requires { ⌜ ((t : Trimmed) × RowCall t kernel order n count size centre course (now rows) (now above) (now iterations) (now caps) (now bases) (now tops) fired0 (now passed) (now store)) ⌝ }
-    ensures { λ r. ⌜ ((t : Trimmed) → RowCall t kernel order n count size centre course (now (rows .entry)) (now (above .entry)) (now (iterations .entry)) (now (caps .entry)) (now (bases .entry)) (now (tops .entry)) fired0 (now (passed .entry)) (now (store .entry))
-        → StretchedTo r (layout t) (writtenBy t) (widthOf t) n (iterationsOf t) fired0 (now (passed .entry)) (now (passed .exit)) (now (store .entry)) (now (store .exit)) (now (out .entry)) (now (out .exit)) (now (cells .entry)) allowance) ⌝ }
+    requires { ⌜ ((t : Trimmed)
+        × RowCall t kernel order n count size centre course (now rows) (now above) (now iterations) (now caps) (now bases)
+        (now tops) fired0 (now passed) (now store)) ⌝ }
+    ensures { λ r. ⌜ ((t : Trimmed)
+        → RowCall t kernel order n count size centre course (now (rows .entry)) (now (above .entry)) (now (iterations .entry))
+        (now (caps .entry)) (now (bases .entry)) (now (tops .entry)) fired0 (now (passed .entry)) (now (store .entry))
+        → StretchedTo r (layout t) (writtenBy t) (widthOf t) n (iterationsOf t) fired0 (now (passed .entry))
+        (now (passed .exit)) (now (store .entry)) (now (store .exit)) (now (out .entry)) (now (out .exit))
+        (now (cells .entry)) allowance) ⌝ }
 {
     let height = course.height;
-    let width = kernel::width(kernel, n);
+    let width = kernel_terms::width(kernel, n);
     let mut taken: usize = 0;
     let mut made: usize = 0;
     let mut firings: usize = 0;
@@ -197,9 +209,15 @@ pub(crate) fn row_clocks(
     out: &mut [u32],
     allowance: usize,
 ) -> Stretched
-    requires { ⌜ ((t : Trimmed) × RowCall t kernel order n count size centre course (now rows) (now above) (now iterations) (now caps) (now bases) (now tops) fired0 (now passed) (now store)) ⌝ }
-    ensures { λ r. ⌜ ((t : Trimmed) → RowCall t kernel order n count size centre course (now (rows .entry)) (now (above .entry)) (now (iterations .entry)) (now (caps .entry)) (now (bases .entry)) (now (tops .entry)) fired0 (now (passed .entry)) (now (store .entry))
-        → StretchedTo r (layout t) (writtenBy t) (widthOf t) n (iterationsOf t) fired0 (now (passed .entry)) (now (passed .exit)) (now (store .entry)) (now (store .exit)) (now (out .entry)) (now (out .exit)) (now (cells .entry)) allowance) ⌝ }
+    requires { ⌜ ((t : Trimmed)
+        × RowCall t kernel order n count size centre course (now rows) (now above) (now iterations) (now caps) (now bases)
+        (now tops) fired0 (now passed) (now store)) ⌝ }
+    ensures { λ r. ⌜ ((t : Trimmed)
+        → RowCall t kernel order n count size centre course (now (rows .entry)) (now (above .entry)) (now (iterations .entry))
+        (now (caps .entry)) (now (bases .entry)) (now (tops .entry)) fired0 (now (passed .entry)) (now (store .entry))
+        → StretchedTo r (layout t) (writtenBy t) (widthOf t) n (iterationsOf t) fired0 (now (passed .entry))
+        (now (passed .exit)) (now (store .entry)) (now (store .exit)) (now (out .entry)) (now (out .exit))
+        (now (cells .entry)) allowance) ⌝ }
 {
     let height = course.height;
     if entry(iterations, height) <= fired0 {

@@ -27,7 +27,7 @@ ghost use Rattle.model_run.specs.Kernels.{width as widthFor, terms as termsOf};
 ghost use Rattle.model.specs.Values.{Trimmed, trimmed};
 ghost use Rattle.model_run.specs.Running.{outcomeOf, withCounters, judgeRun, runOf};
 ghost use Rattle.model.specs.declared.Verdict.the-variants.{Accepted};
-ghost use Rattle.kernel.specs.FilterTables.{filtersFor};
+ghost use Rattle.kernel_terms.specs.FilterTables.{filtersFor};
 ghost use Rattle.run_prepare.specs.Prepared.{numberAt};
 ghost use Rattle.run_prepare.specs.Ready.{Prepared, Begins, Begun};
 ghost use Rattle.run_prepare.specs.RowsReady.{RowsBegun};
@@ -92,7 +92,8 @@ fn way_end(way: Way) -> End
     }
 }
 
-// The clocks of a stretch with firings left: until the filters are aligned, then with every filter moving. `iterations` and `fired` are counted from the stretch's first iteration on.
+// The clocks of a stretch with firings left: until the filters are aligned, then with every filter moving. `iterations` and
+// `fired` are counted from the stretch's first iteration on.
 fn stretch_clocks(
     kernel: Kernel,
     centre: u8,
@@ -116,10 +117,14 @@ fn stretch_clocks(
     out: &mut [u32],
     allowance: usize,
 ) -> Stretched
-    requires { ⌜ Stretchable kernel (termsOf kernel centre (filtersFor n order)) n row iterations size centre fired dims (now at) (now wants) (now caps) (now bases) (now tops) (now spans) (now strides) (now passed) (now store) ⌝ }
+    requires { ⌜ Stretchable kernel (termsOf kernel centre (filtersFor n order)) n row iterations size centre fired dims
+        (now at) (now wants) (now caps) (now bases) (now tops) (now spans) (now strides) (now passed) (now store) ⌝ }
     ensures { λ r. ⌜ ((L : Layout) (write : List ℕ → List ℕ)
-        → Stretching L write kernel (termsOf kernel centre (filtersFor n order)) n row iterations size centre fired dims (now (at .entry)) (now (wants .entry)) (now (caps .entry)) (now (bases .entry)) (now (tops .entry)) (now (spans .entry)) (now (strides .entry)) (now (passed .entry)) (now (store .entry))
-        → StretchedTo r L write (widthFor kernel n) n iterations fired (now (passed .entry)) (now (passed .exit)) (now (store .entry)) (now (store .exit)) (now (out .entry)) (now (out .exit)) (now (cells .entry)) allowance) ⌝ }
+        → Stretching L write kernel (termsOf kernel centre (filtersFor n order)) n row iterations size centre fired dims
+        (now (at .entry)) (now (wants .entry)) (now (caps .entry)) (now (bases .entry)) (now (tops .entry))
+        (now (spans .entry)) (now (strides .entry)) (now (passed .entry)) (now (store .entry))
+        → StretchedTo r L write (widthFor kernel n) n iterations fired (now (passed .entry)) (now (passed .exit))
+        (now (store .entry)) (now (store .exit)) (now (out .entry)) (now (out .exit)) (now (cells .entry)) allowance) ⌝ }
 {
     let mut puts = [0usize; 32];
     let mut gets = [0usize; 32];
@@ -245,9 +250,13 @@ fn clocks(
     out: &mut [u32],
     allowance: u32,
 ) -> Stopped
-    requires { ⌜ (chain .grid .skewed ≡ false) × Prepared (trimmed chain []) row iterations size centre (now at) (now caps) (now bases) (now tops) (now spans) (now strides)
+    requires { ⌜ (chain .grid .skewed ≡ false)
+        × Prepared (trimmed chain []) row iterations size centre (now at) (now caps) (now bases) (now tops) (now spans)
+        (now strides)
         × Begins (trimmed chain []) fired (now wants) (now passed) (now store) × (order ≡ chain .order) ⌝ }
-    ensures { λ r. ⌜ Ends r (callOf (trimmed chain []) (chain .window .count) fired (now (passed .entry)) (now (store .entry)) (now (cells .entry)) (now (out .entry)) allowance) (chain .window .count)
+    ensures { λ r. ⌜ Ends r
+        (callOf (trimmed chain []) (chain .window .count) fired (now (passed .entry)) (now (store .entry))
+        (now (cells .entry)) (now (out .entry)) allowance) (chain .window .count)
         (now (passed .entry)) (now (passed .exit)) (now (store .exit)) (now (out .exit)) ⌝ }
 {
     if iterations <= fired {
@@ -322,9 +331,14 @@ fn clocks_on_rows(
     out: &mut [u32],
     allowance: u32,
 ) -> Stopped
-    requires { ⌜ ((t : Trimmed) × RowCall t kernel order n count size centre course (now rows) (now above) (now iterations) (now caps) (now bases) (now tops) fired (now passed) (now store)) ⌝ }
-    ensures { λ r. ⌜ ((t : Trimmed) → RowCall t kernel order n count size centre course (now (rows .entry)) (now (above .entry)) (now (iterations .entry)) (now (caps .entry)) (now (bases .entry)) (now (tops .entry)) fired (now (passed .entry)) (now (store .entry))
-        → Ends r (callOf t n fired (now (passed .entry)) (now (store .entry)) (now (cells .entry)) (now (out .entry)) allowance) n (now (passed .entry)) (now (passed .exit)) (now (store .exit)) (now (out .exit))) ⌝ }
+    requires { ⌜ ((t : Trimmed)
+        × RowCall t kernel order n count size centre course (now rows) (now above) (now iterations) (now caps) (now bases)
+        (now tops) fired (now passed) (now store)) ⌝ }
+    ensures { λ r. ⌜ ((t : Trimmed)
+        → RowCall t kernel order n count size centre course (now (rows .entry)) (now (above .entry)) (now (iterations .entry))
+        (now (caps .entry)) (now (bases .entry)) (now (tops .entry)) fired (now (passed .entry)) (now (store .entry))
+        → Ends r (callOf t n fired (now (passed .entry)) (now (store .entry)) (now (cells .entry)) (now (out .entry))
+        allowance) n (now (passed .entry)) (now (passed .exit)) (now (store .exit)) (now (out .exit))) ⌝ }
 {
     let s = by_rows::row_clocks(
         kernel,
@@ -402,9 +416,12 @@ fn run_ready(
     out: &mut [u32],
     allowance: u32,
 ) -> Ran
-    requires { ⌜ (chain .grid .skewed ≡ false) × (judgeRun (trimmed chain []) state (now store) ≡ Accepted) × Begun chain [] state ready (now at) (now wants) (now caps) (now bases) (now tops) (now spans) (now strides) (now passed) (now store)
+    requires { ⌜ (chain .grid .skewed ≡ false) × (judgeRun (trimmed chain []) state (now store) ≡ Accepted)
+        × Begun chain [] state ready (now at) (now wants) (now caps) (now bases) (now tops) (now spans) (now strides)
+        (now passed) (now store)
         × (order ≡ chain .order) ⌝ }
-    ensures { λ r. ⌜ ranOf r (now (store .exit)) (now (out .exit)) ≡ runOf chain [] state (now (store .entry)) (now (cells .entry)) (now (out .entry)) allowance ⌝ }
+    ensures { λ r. ⌜ ranOf r (now (store .exit)) (now (out .exit))
+        ≡ runOf chain [] state (now (store .entry)) (now (cells .entry)) (now (out .entry)) allowance ⌝ }
 {
     let n = chain.window.count as usize;
     let stopped = clocks(
@@ -436,7 +453,8 @@ fn run_ready(
     }
 }
 
-// A run call on a rectangle: the chain is looked at first, then 10, then 11; then the clocks are made. The order is taken out first, so that nothing else of the chain has to be kept for the clocks.
+// A run call on a rectangle: the chain is looked at first, then 10, then 11; then the clocks are made. The order is taken out
+// first, so that nothing else of the chain has to be kept for the clocks.
 fn run_flat(
     chain: Chain,
     state: State,
@@ -446,7 +464,8 @@ fn run_flat(
     allowance: u32,
 ) -> Ran
     requires { ⌜ chain .grid .skewed ≡ false ⌝ }
-    ensures { λ r. ⌜ ranOf r (now (store .exit)) (now (out .exit)) ≡ runOf chain [] state (now (store .entry)) (now (cells .entry)) (now (out .entry)) allowance ⌝ }
+    ensures { λ r. ⌜ ranOf r (now (store .exit)) (now (out .exit))
+        ≡ runOf chain [] state (now (store .entry)) (now (cells .entry)) (now (out .entry)) allowance ⌝ }
 {
     let order = chain.order;
     let mut at = [0usize; 32];
@@ -516,8 +535,11 @@ fn rows_ready(
     out: &mut [u32],
     allowance: u32,
 ) -> Ran
-    requires { ⌜ (judgeRun (trimmed chain (now rows)) state (now store) ≡ Accepted) × RowsBegun chain (now rows) state found (now above) (now iterations) (now caps) (now bases) (now tops) (now passed) (now store) ⌝ }
-    ensures { λ r. ⌜ ranOf r (now (store .exit)) (now (out .exit)) ≡ runOf chain (now (rows .entry)) state (now (store .entry)) (now (cells .entry)) (now (out .entry)) allowance ⌝ }
+    requires { ⌜ (judgeRun (trimmed chain (now rows)) state (now store) ≡ Accepted)
+        × RowsBegun chain (now rows) state found (now above) (now iterations) (now caps) (now bases) (now tops) (now passed)
+        (now store) ⌝ }
+    ensures { λ r. ⌜ ranOf r (now (store .exit)) (now (out .exit))
+        ≡ runOf chain (now (rows .entry)) state (now (store .entry)) (now (cells .entry)) (now (out .entry)) allowance ⌝ }
 {
     let n = chain.window.count as usize;
     let made = state.fired;
@@ -564,7 +586,8 @@ fn run_rows(
     allowance: u32,
 ) -> Ran
     requires { ⌜ chain .grid .skewed ≡ true ⌝ }
-    ensures { λ r. ⌜ ranOf r (now (store .exit)) (now (out .exit)) ≡ runOf chain (now (rows .entry)) state (now (store .entry)) (now (cells .entry)) (now (out .entry)) allowance ⌝ }
+    ensures { λ r. ⌜ ranOf r (now (store .exit)) (now (out .exit))
+        ≡ runOf chain (now (rows .entry)) state (now (store .entry)) (now (cells .entry)) (now (out .entry)) allowance ⌝ }
 {
     let mut above = [0u32; 513];
     let mut iterations = [0u32; 513];
@@ -621,7 +644,8 @@ pub fn run(
     out: &mut [u32],
     allowance: u32,
 ) -> Ran
-    ensures { λ r. ⌜ ranOf r (now (store .exit)) (now (out .exit)) ≡ runOf chain (now (rows .entry)) state (now (store .entry)) (now (cells .entry)) (now (out .entry)) allowance ⌝ }
+    ensures { λ r. ⌜ ranOf r (now (store .exit)) (now (out .exit))
+        ≡ runOf chain (now (rows .entry)) state (now (store .entry)) (now (cells .entry)) (now (out .entry)) allowance ⌝ }
 {
     let grid = chain.grid;
     if grid.skewed {

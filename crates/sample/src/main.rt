@@ -1,5 +1,6 @@
-// Does what `plan` and `run` do on the sheets that the file `list` names, with small buffers and the input cut into pieces of varying size, and compares the text
-// with the one that is stored beside each sheet. It writes a line for each: its name, the last line of the text, and whether all of it is the same.
+// Does what `plan` and `run` do on the sheets that the file `list` names, with small buffers and the input cut into pieces of
+// varying size, and compares the text with the one that is stored beside each sheet. It writes a line for each: its name, the
+// last line of the text, and whether all of it is the same.
 mod files;
 mod texts;
 

@@ -1,5 +1,5 @@
 // What the programs write of an input that is at hand whole, cut into pieces.
-use program_stages::Job;
+use program_jobs::Job;
 use values::lesser;
 ghost use Prim.Native.Nat.{_≤_};
 ghost use lib.ListN.{length};
@@ -55,10 +55,13 @@ fn supply(job: Job, at: usize, len: usize) -> Job {
     if at != len {
         return job;
     }
-    if !program_stages::wants_input(job) {
+    let stage = job.stage;
+    let line = job.line;
+    let v = line.verdict;
+    if !program_stages::wants_input(stage, v) {
         return job;
     }
-    program_stages::close_input(job)
+    program_jobs::close_input(job)
 }
 
 fn run_text(input: &[u8], piece: usize, text: &mut [u8]) -> usize
@@ -69,13 +72,14 @@ fn run_text(input: &[u8], piece: usize, text: &mut [u8]) -> usize
     let mut cells = [0u32; 5];
     let mut words = [0u32; 40];
     let mut part = [0u8; 300];
-    let mut job = program_stages::begin();
+    let mut job = program_jobs::begin();
     let mut at: usize = 0;
     let mut done: usize = 0;
     let mut turns: u32 = 100000;
     while 0 < turns {
         turns -= 1;
-        if program_stages::is_over(job) {
+        let stage = job.stage;
+        if program_stages::is_over(stage) {
             return done;
         }
         let ready = supply(job, at, input.len());

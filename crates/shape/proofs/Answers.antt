@@ -9,9 +9,9 @@ use Rattle.model.specs.declared.Grid.{Grid}
 use Rattle.model.specs.declared.Window.{Window}
 use Rattle.model.specs.declared.Verdict.{Verdict}
 use Rattle.model.specs.declared.Verdict.the-variants as verdict
-use Rattle.geometry.specs.Windows.{held, repeatsIn, centreIn}
+use Rattle.windows.specs.Windows.{held, repeatsIn, centreIn}
 use Rattle.shape.specs.Shapes.{surveyOf}
-use Rattle.geometry.proofs.OffsetLaws.{is-held}
+use Rattle.windows.proofs.OffsetLaws.{is-held}
 use Rattle.geometry.proofs.GridLaws.{few-dimensions, few-references}
 
 module _ (g : Grid) (w : Window) (a : badGrid (g .dims) (sizesOf g) ≡ false) (b : badCount (w .count) ≡ false) where

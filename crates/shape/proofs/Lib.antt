@@ -1,4 +1,3 @@
-pub mod SpanLaws
 pub mod PlacingLaws
 pub mod ShapeLaws
 pub mod Answers

@@ -1,5 +1,5 @@
 -- Laws that lead from the arrays to a window's shape.
-use Prim.Native.Nat.{ℕ, zero, suc, _+_, _*_, _<_, _≤_}
+use Prim.Native.Nat.{ℕ, zero, suc, _+_, _-_, _*_, _<_, _≤_}
 use mathlib.Core.Bool.{true, false}
 use mathlib.Core.List.{List, [], _∷_}
 use mathlib.Core.Path.{_≡_, refl, sym, _∙_, ap, ap₂}
@@ -27,6 +27,8 @@ use Rattle.grid_laws.proofs.Distances.{reads-sum, below-cells}
 use Rattle.grid_laws.proofs.ChainLaws.{sizes-sized}
 use Rattle.grid_laws.proofs.WholeLaws.{rectangle-count}
 use Rattle.geometry.specs.Parts.{part, numberAt, entryAt, entriesIn, Filled, Lows, placeBy, Small}
+use Rattle.windows.specs.Lows.{spanIn}
+use Rattle.windows.proofs.LowLaws.{span-there}
 use Rattle.shape.specs.Shapes.{sound, stride, shapeFor, wholeShape, blankShape, shapeOf}
 use Rattle.shape.specs.declared.Shape.{Shape}
 use Rattle.geometry.proofs.PartLaws.{part-all}
@@ -56,6 +58,12 @@ pub relative-by-dimension : (n : ℕ) (f g : ℕ → ℤ) → relative (tabulate
 unfolding relative tabulate
 relative-by-dimension zero f g = refl
 relative-by-dimension (suc n) f g = ap (_∷_ (above (f 0) (g 0))) (relative-by-dimension n (λ i. f (suc i)) (λ i. g (suc i)))
+
+-- The extent, by how far the greatest entry lies above the low.
+pub extent-is : (s count : ℕ) (offsets : List ℤ) (d : ℕ) (low : ℤ) → count ≤ 32 → d < 4 → low ≡ least (entriesIn count offsets d)
+    → s - spanIn count offsets d low ≡ extent s (entriesIn count offsets d)
+unfolding extent
+extent-is s count offsets d low h k e = rw (span-there count offsets d low h k, e)
 
 -- Past the last reference nothing is read, in whichever iteration.
 pub nothing-read : (sizes : List ℕ) (offsets : List (List ℤ)) (v : List ℤ) (k : ℕ) → length offsets ≤ k → position (rectangle sizes) (plus v (getD offsets k [])) ≡ 0

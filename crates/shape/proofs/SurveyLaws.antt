@@ -31,9 +31,9 @@ use Rattle.geometry.specs.Parts.{part, numberAt, offsetAt, Falls}
 use Rattle.shape.specs.Shapes.{shapeFor, wholeShape, blankShape, shapeOf, unsurveyedOf, surveyOf, Whole}
 use Rattle.shape.specs.declared.Shape.{Shape}
 use Rattle.shape.specs.declared.Survey.{Survey}
-use Rattle.geometry.specs.Windows.{repeatsIn, centreIn}
+use Rattle.windows.specs.Windows.{repeatsIn, centreIn}
 use Rattle.geometry.proofs.PartLaws.{part-none, part-more, part-all}
-use Rattle.geometry.proofs.OffsetLaws.{repeats-held}
+use Rattle.windows.proofs.OffsetLaws.{repeats-held}
 use Rattle.geometry.proofs.GridLaws.{few-dimensions, few-references}
 use Rattle.shape.proofs.ShapeLaws.{blank-iterations, whole-shape}
 use Rattle.shape.proofs.Answers.{repeats-is, centre-is}

@@ -1,20 +1,15 @@
 -- A box in its arrays, dimension by dimension: what functions that look at it answer.
 use Prim.Native.Nat.{ℕ, _+_, _-_, _≤_, _<_}
-use mathlib.Core.Bool.{true, false, cond, _&&_}
+use mathlib.Core.Bool.{true, false}
 use mathlib.Core.List.{List}
 use mathlib.Core.Path.{_≡_}
-use lib.Dec.{ltb}
-use lib.IntN.{ℤ, pos, negℤ}
+use lib.IntN.{ℤ, pos}
 use lib.ListN.{getD, replicate}
-use lib.Signed.{leZ}
-use Rattle.model.specs.Vectors.{above}
 use Rattle.geometry.specs.Parts.{numberAt, Filled}
+use Rattle.windows.specs.Lows.{indexIn}
 use Rattle.shape.specs.declared.boxed.Placed.{Placed}
 
--- An index counted from the first iteration, which lies at the negated low; the extent where it is none of the indices below it.
-unfoldable pub indexIn : (x low : ℤ) (extent : ℕ) → ℕ
-indexIn x low extent = cond (leZ (negℤ low) x && ltb (above x (negℤ low)) extent) (above x (negℤ low)) extent
-
+-- An index of dimension d, counted from the first iteration.
 abbrev pub indexAt : (xs lows : List ℤ) (extents : List ℕ) → (d : ℕ) → ℕ
 indexAt xs lows extents d = indexIn (getD xs d (pos 0)) (getD lows d (pos 0)) (numberAt extents d)
 

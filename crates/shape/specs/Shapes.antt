@@ -1,4 +1,5 @@
--- What this crate's public functions answer, on any value: the model's definitions where 3 and 4 let the value pass, and a fixed answer elsewhere.
+-- What this crate's public functions answer, on any value: the model's definitions where 3 and 4 let the value pass, and a
+-- fixed answer elsewhere.
 use Prim.Native.Nat.{ℕ, zero, suc}
 use mathlib.Core.Bool.{Bool, false, not, cond, _&&_}
 use mathlib.Core.List.{List, [], _∷_}
@@ -50,7 +51,8 @@ abbrev pub wholeShape : List ℕ → List (List ℤ) → Shape
 wholeShape sizes offsets = shapeFor sizes offsets (allIterations (rectangle sizes) offsets)
 
 unfoldable pub blankShape : Shape
-blankShape = record { cells = 0; iterations = 0; extents = tabulate 4 (λ d. 0); strides = tabulate 4 (λ d. 0); at = tabulate 32 (λ k. 0) }
+blankShape = record
+    { cells = 0; iterations = 0; extents = tabulate 4 (λ d. 0); strides = tabulate 4 (λ d. 0); at = tabulate 32 (λ k. 0) }
 
 -- Blank where 3, 4 or 6 turns the two back.
 unfoldable pub shapeOf : Grid → Window → Shape
@@ -63,17 +65,23 @@ shapeOf g w =
 abbrev pub unsurveyedOf : Refusal → Survey
 unsurveyedOf x = record { verdict = verdict.Refused x; centre = 0; shape = blankShape }
 
--- What judging and running ask of a window on a grid, found together: the first of 3 to 6 and 15 that turns them back, else the centre and the shape of the course that a run takes.
+-- What judging and running ask of a window on a grid, found together: the first of 3 to 6 and 15 that turns them back, else
+-- the centre and the shape of the course that a run takes.
 unfoldable pub surveyOf : Grid → Window → Bounds → Survey
 surveyOf g w b =
     let offsets = offsetsOf (g .dims) w in
     byVerdict (judgeRectangle g w b)
-    (record { verdict = verdict.Accepted; centre = centreOf offsets; shape = shapeFor (sizesOf g) offsets (courseOf (onRectangle g w b)) })
+    (record {
+      verdict = verdict.Accepted;
+      centre = centreOf offsets;
+      shape = shapeFor (sizesOf g) offsets (courseOf (onRectangle g w b));
+    })
     unsurveyedOf
 
 -- The shape of an accepted chain.
 unfoldable pub chainShape : Chain → Shape
-chainShape c = shapeFor (sizesOf (c .grid)) (offsetsOf (c .grid .dims) (c .window)) (courseOf (onRectangle (c .grid) (c .window) (c .bounds)))
+chainShape c = shapeFor (sizesOf (c .grid)) (offsetsOf (c .grid .dims) (c .window))
+    (courseOf (onRectangle (c .grid) (c .window) (c .bounds)))
 
 -- The centre and the shape of all iterations, of a grid and a window that 3 to 6 let pass.
 pub record Whole (g : Grid) (w : Window) (centre : ℕ) (s : Shape) : Type 0 where

@@ -1,31 +1,19 @@
 // A smaller box among the iterations of a window on a grid (document 02, request 4).
 use model::Bounds;
+use windows::lows::index_in;
 ghost use mathlib.Core.Path.{_≡_};
 ghost use Prim.Native.Nat.{ℕ, _+_, _-_, _*_, _≤_, _<_};
 ghost use Rattle.model.specs.Lists.{tabulate, sum};
 ghost use Rattle.model.specs.Judging.{mostCells};
 ghost use Rattle.geometry.specs.Parts.{numberAt, Filled};
-ghost use Rattle.shape.specs.Boxing.{indexIn, noPlace, PlacedIn};
+ghost use Rattle.shape.specs.Boxing.{noPlace, PlacedIn};
 
-// Where a box lies among the iterations: whether it does; in each dimension its first index, counted from the first iteration, and how many it has.
+// Where a box lies among the iterations: whether it does; in each dimension its first index, counted from the first
+// iteration, and how many it has.
 pub(crate) struct Placed {
     pub(crate) fits: bool,
     pub(crate) firsts: [u32; 4],
     pub(crate) widths: [u32; 4],
-}
-
-// An index counted from the first iteration; the extent where it lies before that or past the last. Index and low add up to more than 32 bits.
-fn index_in(index: i32, low: i16, extent: u32) -> u32
-    ensures { λ r. ⌜ r ≡ indexIn index low extent ⌝ }
-{
-    let x = index as i64 + low as i64;
-    if x < 0 {
-        return extent;
-    }
-    if extent as i64 <= x {
-        return extent;
-    }
-    x as u32
 }
 
 // How many indices there are from the first to the last, which is below the extent.

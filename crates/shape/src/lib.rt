@@ -1,4 +1,5 @@
-// A window on a grid as numbers (document 01, "Grid, window, distances"): extents, strides, positions. What a public function answers on any value is fixed in specs/Shapes.antt.
+// A window on a grid as numbers (document 01, "Grid, window, distances"): extents, strides, positions. What a public function
+// answers on any value is fixed in specs/Shapes.antt.
 mod boxed;
 
 use model::Bounds;
@@ -6,18 +7,18 @@ use model::Grid;
 use model::Refusal;
 use model::Verdict;
 use model::Window;
+use windows::lows::height;
+use windows::lows::lows_of;
+use windows::lows::span_in;
 ghost use mathlib.Core.Path.{_≡_};
-ghost use mathlib.Core.Bool.{true, false, cond};
-ghost use mathlib.Core.List.{map};
-ghost use Prim.Native.Nat.{ℕ, _+_, _-_, _≤_, _<_, max};
-ghost use lib.Signed.{ltZ};
-ghost use Rattle.model.specs.Lists.{product as productOf, greatest};
-ghost use Rattle.model.specs.Vectors.{above};
-ghost use Rattle.model.specs.Geometry.{least, extent};
+ghost use mathlib.Core.Bool.{true, false};
+ghost use Prim.Native.Nat.{ℕ, _+_, _-_, _≤_, _<_};
+ghost use Rattle.model.specs.Lists.{product as productOf};
+ghost use Rattle.model.specs.Geometry.{extent};
 ghost use Rattle.model.specs.Values.{sizesOf};
 ghost use Rattle.model.specs.Judging.{mostCells, badGrid, badCount};
 ghost use Rattle.geometry.specs.Parts.{part, numberAt, entriesIn, Filled, Lows, placeBy, Small, Falls};
-ghost use Rattle.geometry.specs.Windows.{repeatsIn};
+ghost use Rattle.windows.specs.Windows.{repeatsIn};
 ghost use Rattle.shape.specs.Shapes.{blankShape, shapeOf, unsurveyedOf, surveyOf, Whole};
 
 // A window on a grid as numbers. All are 0 where 3, 4 or 6 turns the two back.
@@ -31,34 +32,6 @@ pub struct Shape {
     pub at: [u32; 32],
 }
 
-// How far x lies above low; 0 where it lies below.
-fn height(x: i16, low: i16) -> u32
-    ensures { λ r. ⌜ r ≡ above x low ⌝ }
-{
-    if x < low {
-        return 0;
-    }
-    (x as i32 - low as i32) as u32
-}
-
-fn lesser(x: i16, y: i16) -> i16
-    ensures { λ r. ⌜ r ≡ cond (ltZ y x) y x ⌝ }
-{
-    if y < x {
-        return y;
-    }
-    x
-}
-
-fn greater(x: u32, y: u32) -> u32
-    ensures { λ r. ⌜ r ≡ max x y ⌝ }
-{
-    if x < y {
-        return y;
-    }
-    x
-}
-
 // x less y; 0 where y is greater.
 fn less(x: u32, y: u32) -> u32
     ensures { λ r. ⌜ r ≡ x - y ⌝ }
@@ -67,51 +40,6 @@ fn less(x: u32, y: u32) -> u32
         return 0;
     }
     x - y
-}
-
-// The least entry of dimension d.
-fn low_in(offsets: &[i16; 128], count: usize, d: usize) -> i16
-    requires { ⌜ (0 < count) × (count ≤ 32) × (d < 4) ⌝ }
-    ensures { λ r. ⌜ r ≡ least (entriesIn count (now (offsets .entry)) d) ⌝ }
-{
-    let mut low = offsets[d];
-    let mut k: usize = 1;
-    while k < count {
-        let x = offsets[4 * k + d];
-        low = lesser(low, x);
-        k += 1;
-    }
-    low
-}
-
-// How far the greatest entry of dimension d lies above low.
-fn span_in(offsets: &[i16; 128], count: usize, d: usize, low: i16) -> u32
-    requires { ⌜ (count ≤ 32) × (d < 4) ⌝ }
-    ensures { λ r. ⌜ r ≡ greatest (map (λ e. above e low) (entriesIn count (now (offsets .entry)) d)) ⌝ }
-{
-    let mut span: u32 = 0;
-    let mut k: usize = 0;
-    while k < count {
-        let x = offsets[4 * k + d];
-        span = greater(span, height(x, low));
-        k += 1;
-    }
-    span
-}
-
-// The least entry of each dimension.
-fn lows_of(offsets: &[i16; 128], count: usize, dims: usize) -> [i16; 4]
-    requires { ⌜ (0 < count) × (count ≤ 32) × (dims ≤ 4) ⌝ }
-    ensures { λ r. ⌜ Lows dims count (now (offsets .entry)) r ⌝ }
-{
-    let mut lows = [0i16; 4];
-    let mut d: usize = 0;
-    while d < dims {
-        let low = low_in(offsets, count, d);
-        lows[d] = low;
-        d += 1;
-    }
-    lows
 }
 
 // How many indices the iterations have in each dimension.
@@ -123,7 +51,8 @@ fn extents_of(
     dims: usize,
 ) -> [u32; 4]
     requires { ⌜ (count ≤ 32) × (dims ≤ 4) × Lows dims count (now offsets) (now lows) ⌝ }
-    ensures { λ r. ⌜ Filled 4 0 (λ d. extent (numberAt (now (sizes .entry)) d) (entriesIn count (now (offsets .entry)) d)) dims r ⌝ }
+    ensures { λ r. ⌜ Filled 4 0 (λ d. extent (numberAt (now (sizes .entry)) d) (entriesIn count (now (offsets .entry)) d))
+        dims r ⌝ }
 {
     let mut extents = [0u32; 4];
     let mut d: usize = 0;
@@ -188,7 +117,8 @@ fn places_of(
     count: usize,
     dims: usize,
 ) -> [u32; 32]
-    requires { ⌜ (count ≤ 32) × (dims ≤ 4) × ((k : ℕ) → k < count → placeBy dims (now lows) (now strides) (now offsets) k ≤ mostCells) ⌝ }
+    requires { ⌜ (count ≤ 32) × (dims ≤ 4)
+        × ((k : ℕ) → k < count → placeBy dims (now lows) (now strides) (now offsets) k ≤ mostCells) ⌝ }
     ensures { λ r. ⌜ Filled 32 0 (placeBy dims (now (lows .entry)) (now (strides .entry)) (now (offsets .entry))) count r ⌝ }
 {
     let mut at = [0u32; 32];
@@ -261,10 +191,11 @@ fn repeats_at(dims: u8, window: Window, at: &[u32; 32]) -> bool
     if falls(at, window.count as usize) {
         return false;
     }
-    geometry::repeats(dims, window)
+    windows::repeats(dims, window)
 }
 
-// What judging and running ask of a window on a grid: the first of 3 to 6 and 15 that turns them back, else the centre and the shape of the iterations that a run covers.
+// What judging and running ask of a window on a grid: the first of 3 to 6 and 15 that turns them back, else the centre and
+// the shape of the iterations that a run covers.
 pub struct Survey {
     pub verdict: Verdict,
     pub centre: u8,
@@ -320,10 +251,10 @@ fn survey_box(grid: Grid, window: Window, bounds: Bounds, centre: u8, whole: Sha
 pub fn survey_of(grid: Grid, window: Window, bounds: Bounds) -> Survey
     ensures { λ r. ⌜ r ≡ surveyOf grid window bounds ⌝ }
 {
-    if geometry::bad_grid(grid) {
+    if limits::bad_grid(grid) {
         return unsurveyed(Refusal::BadGrid);
     }
-    if geometry::bad_count(window) {
+    if limits::bad_count(window.count) {
         return unsurveyed(Refusal::BadCount);
     }
     let offsets = window.offsets;
@@ -335,7 +266,7 @@ pub fn survey_of(grid: Grid, window: Window, bounds: Bounds) -> Survey
     if shape.iterations == 0 {
         return unsurveyed(Refusal::NoIteration);
     }
-    let centre = geometry::centre(grid.dims, window);
+    let centre = windows::centre(grid.dims, window);
     if bounds.stood {
         return survey_box(grid, window, bounds, centre, shape);
     }

@@ -97,7 +97,8 @@ pub fn read_request(text: &[u8]) -> ReadRequest
     }
 }
 
-// The sheet of a chain into the lent output: 3 (16 where it is skewed) to 9, 14 and 15 of the chain, then 12. The rows of a skewed grid are lent beside it.
+// The sheet of a chain into the lent output: 3 (16 where it is skewed) to 9, 14 and 15 of the chain, then 12. The rows of a
+// skewed grid are lent beside it.
 pub fn write_chain(c: Chain, rows: &[u32], out: &mut [u8]) -> Wrote
     ensures { λ r. ⌜ written r (now (out .exit)) ≡ writeOf c (now (rows .entry)) (now (out .entry)) ⌝ }
 {

@@ -1,4 +1,5 @@
-// What stands on a line: its numbers from the line's bytes, and the patterns that are written for an entry, an index and a factor.
+// What stands on a line: its numbers from the line's bytes, and the patterns that are written for an entry, an index and a
+// factor.
 use model::Factors;
 use model::KEPT;
 use model::Kernel;

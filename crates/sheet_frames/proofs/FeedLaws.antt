@@ -3,6 +3,7 @@ use Prim.Native.Nat.{ℕ, _+_, _*_, _%_, _≤_, _<_}
 use mathlib.Core.Bool.{true, false}
 use mathlib.Core.List.{List}
 use mathlib.Core.Path.{_≡_}
+use native.Mathlib.Nat.{mod-eq-of-lt}
 use native.Mathlib.Numerals.{add-one}
 use native.Mathlib.Omega.{arith}
 use lib.ListN.{length, drop, getD, set, drop-of-length-le}
@@ -10,6 +11,11 @@ use lib.Seq.{drop-cons}
 use borrow.Author.Tests.{lt-ltb, le-ltb}
 use Rattle.model.specs.declared.Frame.{Frame}
 use Rattle.model_sheet.specs.Frames.{isDigit, valueOf, kept, counted, pushed, fed, feeds}
+use Rattle.sheet_laws.proofs.FrameLaws.{value-small}
+
+-- Two digits are a byte.
+pub joined : (high c : ℕ) → isDigit c ≡ true → (v : ℕ) → v ≡ valueOf c → (b : ℕ) → b ≡ high % 16 * 16 + v % 16 → b ≡ high % 16 * 16 + valueOf c
+joined high c digit v value b is = rw (is, value, mod-eq-of-lt (value-small c digit))
 
 module _ (f : Frame) (c : ℕ) where
   pub fed-other : isDigit c ≡ false → record { first = f .first; len = f .len; sound = false; half = f .half; high = f .high } ≡ fed f c
@@ -21,10 +27,10 @@ module _ (f : Frame) (c : ℕ) where
     unfolding fed
     fed-high h = rw (digit, h, value)
 
-    pub fed-kept : f .half ≡ true → f .len < kept
-        → record { first = set (f .first) (f .len) (f .high % 16 * 16 + v); len = f .len + 1; sound = f .sound; half = false; high = 0 } ≡ fed f c
+    pub fed-kept : (b : ℕ) → b ≡ f .high % 16 * 16 + v % 16 → f .half ≡ true → f .len < kept
+        → record { first = set (f .first) (f .len) b; len = f .len + 1; sound = f .sound; half = false; high = 0 } ≡ fed f c
     unfolding fed pushed
-    fed-kept h l = let m : f .len < counted = omega arith in rw (digit, h, lt-ltb _ _ l, lt-ltb _ _ m, value)
+    fed-kept b is h l = let m : f .len < counted = omega arith in rw (digit, h, lt-ltb _ _ l, lt-ltb _ _ m, joined (f .high) c digit v value b is)
 
     pub fed-counted : f .half ≡ true → kept ≤ f .len → f .len < counted
         → record { first = f .first; len = f .len + 1; sound = f .sound; half = false; high = 0 } ≡ fed f c

@@ -18,29 +18,30 @@ use Rattle.grid_laws.proofs.ListLaws.{tabulate-same}
 use Rattle.model_sheet.proofs.NumberLaws.{numbers-table}
 use Rattle.sheet_laws.proofs.Cases.{by-bool, by-eq, by-lt}
 use Rattle.sheet_laws.proofs.NumbersLaws.{set-table, zero-table}
+use Rattle.sheet_frames.proofs.FeedLaws.{joined}
 
 -- One byte more.
 abbrev pub withByte : List ℕ → (len b : ℕ) → List ℕ
-withByte ns len b = cond (leb 3 len) (withHalf ns (len - 3) b) ns
+withByte numbers len b = cond (leb 3 len) (withHalf numbers (len - 3) b) numbers
 
-module _ (ns : List ℕ) (len b : ℕ) where
-  pub byte-ahead : len < 3 → ns ≡ withByte ns len b
+module _ (numbers : List ℕ) (len b : ℕ) where
+  pub byte-ahead : len < 3 → numbers ≡ withByte numbers len b
   byte-ahead h = rw (lt-leb _ _ h)
 
   module _ (behind : 3 ≤ len) where
-    pub byte-past : length ns ≤ (len - 3) / 2 → ns ≡ withByte ns len b
+    pub byte-past : length numbers ≤ (len - 3) / 2 → numbers ≡ withByte numbers len b
     unfolding withHalf
     byte-past h =
         rw (le-leb _ _ behind)
         (by-eq ((len - 3) % 2) 0
-        (λ e. rw (eq-eqb _ _ e) (sym (set-out ns ((len - 3) / 2) (b * 256) h)))
-        (λ e. rw (ne-eqb _ _ e) (sym (set-out ns ((len - 3) / 2) (getD ns ((len - 3) / 2) 0 / 256 * 256 + b) h))))
+        (λ e. rw (eq-eqb _ _ e) (sym (set-out numbers ((len - 3) / 2) (b * 256) h)))
+        (λ e. rw (ne-eqb _ _ e) (sym (set-out numbers ((len - 3) / 2) (getD numbers ((len - 3) / 2) 0 / 256 * 256 + b) h))))
 
-    pub byte-upper : (len - 3) % 2 ≡ 0 → set ns ((len - 3) / 2) (b * 256) ≡ withByte ns len b
+    pub byte-upper : (len - 3) % 2 ≡ 0 → set numbers ((len - 3) / 2) (b * 256) ≡ withByte numbers len b
     unfolding withHalf
     byte-upper e = rw (le-leb _ _ behind, eq-eqb _ _ e)
 
-    pub byte-lower : ((len - 3) % 2 ≡ 0 → ⊥) → (v : ℕ) → v ≡ getD ns ((len - 3) / 2) 0 / 256 * 256 + b → set ns ((len - 3) / 2) v ≡ withByte ns len b
+    pub byte-lower : ((len - 3) % 2 ≡ 0 → ⊥) → (v : ℕ) → v ≡ getD numbers ((len - 3) / 2) 0 / 256 * 256 + b → set numbers ((len - 3) / 2) v ≡ withByte numbers len b
     unfolding withHalf
     byte-lower e v is = rw (le-leb _ _ behind, ne-eqb _ _ e, is)
 
@@ -51,61 +52,65 @@ made first len sound half high = record { first = first; len = len; sound = soun
 abbrev pub bare : (len : ℕ) → (half : Bool) → (high : ℕ) → Frame
 bare len half high = made [] len true half high
 
-same-numbers : (ds ns x y : List ℕ) (len : ℕ) (s t half : Bool) (high : ℕ) → numbersFeeds ns (made x len s half high) ds ≡ numbersFeeds ns (made y len t half high) ds
+same-numbers : (ds numbers x y : List ℕ) (len : ℕ) (s t half : Bool) (high : ℕ) → numbersFeeds numbers (made x len s half high) ds ≡ numbersFeeds numbers (made y len t half high) ds
 unfolding numbersFeeds numbersFed fed pushed
-same-numbers [] ns x y len s t half high = refl
-same-numbers (d ∷ ds) ns x y len s t true high =
+same-numbers [] numbers x y len s t half high = refl
+same-numbers (d ∷ ds) numbers x y len s t true high =
     by-bool (isDigit d)
     (λ e. rw e (same-numbers ds _ _ _ _ s t false 0))
     (λ e. rw e (same-numbers ds _ x y len false false true high))
-same-numbers (d ∷ ds) ns x y len s t false high =
+same-numbers (d ∷ ds) numbers x y len s t false high =
     by-bool (isDigit d)
-    (λ e. rw e (same-numbers ds ns x y len s t true (valueOf d)))
-    (λ e. rw e (same-numbers ds ns x y len false false false high))
+    (λ e. rw e (same-numbers ds numbers x y len s t true (valueOf d)))
+    (λ e. rw e (same-numbers ds numbers x y len false false false high))
 
-pub bare-numbers : (ns : List ℕ) (f : Frame) (ds : List ℕ) → numbersFeeds ns (bare (f .len) (f .half) (f .high)) ds ≡ numbersFeeds ns f ds
-bare-numbers ns f ds = same-numbers ds ns [] (f .first) (f .len) true (f .sound) (f .half) (f .high)
+pub bare-numbers : (numbers : List ℕ) (f : Frame) (ds : List ℕ) → numbersFeeds numbers (bare (f .len) (f .half) (f .high)) ds ≡ numbersFeeds numbers f ds
+bare-numbers numbers f ds = same-numbers ds numbers [] (f .first) (f .len) true (f .sound) (f .half) (f .high)
 
 -- One character more.
-module _ (ns : List ℕ) (c : ℕ) (cs : List ℕ) where
-  other-more : isDigit c ≡ false → (len : ℕ) (half : Bool) (high : ℕ) → numbersFeeds ns (bare len half high) cs ≡ numbersFeeds ns (bare len half high) (c ∷ cs)
+module _ (numbers : List ℕ) (c : ℕ) (cs : List ℕ) where
+  other-more : isDigit c ≡ false → (len : ℕ) (half : Bool) (high : ℕ) → numbersFeeds numbers (bare len half high) cs ≡ numbersFeeds numbers (bare len half high) (c ∷ cs)
   unfolding numbersFeeds numbersFed fed
-  other-more e len true high = rw e (same-numbers cs ns [] [] len true false true high)
-  other-more e len false high = rw e (same-numbers cs ns [] [] len true false false high)
+  other-more e len true high = rw e (same-numbers cs numbers [] [] len true false true high)
+  other-more e len false high = rw e (same-numbers cs numbers [] [] len true false false high)
 
-  upper-more : isDigit c ≡ true → (v : ℕ) → v ≡ valueOf c → (len high : ℕ) → numbersFeeds ns (bare len true v) cs ≡ numbersFeeds ns (bare len false high) (c ∷ cs)
+  upper-more : isDigit c ≡ true → (v : ℕ) → v ≡ valueOf c → (len high : ℕ) → numbersFeeds numbers (bare len true v) cs ≡ numbersFeeds numbers (bare len false high) (c ∷ cs)
   unfolding numbersFeeds numbersFed fed
   upper-more e v value len high = rw (e, value)
 
-  byte-more : isDigit c ≡ true → (v : ℕ) → v ≡ valueOf c → (len high : ℕ) (ms : List ℕ) → ms ≡ withByte ns len (high % 16 * 16 + v) → (next : ℕ) → next ≡ cond (ltb len counted) (len + 1) len
-      → numbersFeeds ms (bare next false 0) cs ≡ numbersFeeds ns (bare len true high) (c ∷ cs)
+  byte-more : isDigit c ≡ true → (v : ℕ) → v ≡ valueOf c → (len high b : ℕ) → b ≡ high % 16 * 16 + v % 16
+      → (after : List ℕ) → after ≡ withByte numbers len b → (next : ℕ) → next ≡ cond (ltb len counted) (len + 1) len
+      → numbersFeeds after (bare next false 0) cs ≡ numbersFeeds numbers (bare len true high) (c ∷ cs)
   unfolding numbersFeeds numbersFed fed pushed
-  byte-more e v value len high ms is next step = rw (e, is, value, step) (same-numbers cs _ [] _ _ true true false 0)
+  byte-more e v value len high b join after is next step =
+      rw (e, is, joined high c e v value b join, step) (same-numbers cs _ [] _ _ true true false 0)
 
-module _ (ns s : List ℕ) (i : ℕ) (more : i < length s) where
+module _ (numbers s : List ℕ) (i : ℕ) (more : i < length s) where
   abbrev c : ℕ
   c = getD s i 0
 
-  at-character : (f : Frame) → numbersFeeds ns f (c ∷ drop (i + 1) s) ≡ numbersFeeds ns f (drop i s)
-  at-character f = ap (numbersFeeds ns f) (rw add-one (sym (drop-cons s i 0 more)))
+  at-character : (f : Frame) → numbersFeeds numbers f (c ∷ drop (i + 1) s) ≡ numbersFeeds numbers f (drop i s)
+  at-character f = ap (numbersFeeds numbers f) (rw add-one (sym (drop-cons s i 0 more)))
 
-  pub past-other : isDigit c ≡ false → (len : ℕ) (half : Bool) (high : ℕ) → numbersFeeds ns (bare len half high) (drop (i + 1) s) ≡ numbersFeeds ns (bare len half high) (drop i s)
-  past-other e len half high = other-more ns c (drop (i + 1) s) e len half high ∙ at-character (bare len half high)
+  pub past-other : isDigit c ≡ false → (len : ℕ) (half : Bool) (high : ℕ) → numbersFeeds numbers (bare len half high) (drop (i + 1) s) ≡ numbersFeeds numbers (bare len half high) (drop i s)
+  past-other e len half high = other-more numbers c (drop (i + 1) s) e len half high ∙ at-character (bare len half high)
 
   module _ (digit : isDigit c ≡ true) (v : ℕ) (value : v ≡ valueOf c) (len : ℕ) (half : Bool) (high : ℕ) where
-    pub past-upper : half ≡ false → numbersFeeds ns (bare len true v) (drop (i + 1) s) ≡ numbersFeeds ns (bare len half high) (drop i s)
-    past-upper e = rw e (upper-more ns c (drop (i + 1) s) digit v value len high ∙ at-character (bare len false high))
+    pub past-upper : half ≡ false → numbersFeeds numbers (bare len true v) (drop (i + 1) s) ≡ numbersFeeds numbers (bare len half high) (drop i s)
+    past-upper e = rw e (upper-more numbers c (drop (i + 1) s) digit v value len high ∙ at-character (bare len false high))
 
-    module _ (e : half ≡ true) (ms : List ℕ) (is : ms ≡ withByte ns len (high % 16 * 16 + v)) where
-      pub past-counted : len < counted → numbersFeeds ms (bare (len + 1) false 0) (drop (i + 1) s) ≡ numbersFeeds ns (bare len half high) (drop i s)
-      past-counted h = rw e (byte-more ns c (drop (i + 1) s) digit v value len high ms is (len + 1) (rw (lt-ltb _ _ h)) ∙ at-character (bare len true high))
+    module _ (e : half ≡ true) (b : ℕ) (join : b ≡ high % 16 * 16 + v % 16) (after : List ℕ) (is : after ≡ withByte numbers len b) where
+      pub past-counted : len < counted → numbersFeeds after (bare (len + 1) false 0) (drop (i + 1) s) ≡ numbersFeeds numbers (bare len half high) (drop i s)
+      past-counted h =
+          rw e (byte-more numbers c (drop (i + 1) s) digit v value len high b join after is (len + 1) (rw (lt-ltb _ _ h)) ∙ at-character (bare len true high))
 
-      pub past-uncounted : counted ≤ len → numbersFeeds ms (bare len false 0) (drop (i + 1) s) ≡ numbersFeeds ns (bare len half high) (drop i s)
-      past-uncounted h = rw e (byte-more ns c (drop (i + 1) s) digit v value len high ms is len (rw (le-ltb _ _ h)) ∙ at-character (bare len true high))
+      pub past-uncounted : counted ≤ len → numbersFeeds after (bare len false 0) (drop (i + 1) s) ≡ numbersFeeds numbers (bare len half high) (drop i s)
+      past-uncounted h =
+          rw e (byte-more numbers c (drop (i + 1) s) digit v value len high b join after is len (rw (le-ltb _ _ h)) ∙ at-character (bare len true high))
 
-pub numbers-end : (ns : List ℕ) (f : Frame) (s : List ℕ) (i : ℕ) → length s ≤ i → ns ≡ numbersFeeds ns f (drop i s)
+pub numbers-end : (numbers : List ℕ) (f : Frame) (s : List ℕ) (i : ℕ) → length s ≤ i → numbers ≡ numbersFeeds numbers f (drop i s)
 unfolding numbersFeeds
-numbers-end ns f s i h = rw (drop-of-length-le s {i = i} h)
+numbers-end numbers f s i h = rw (drop-of-length-le s {i = i} h)
 
 -- Byte i of a whole line.
 pub byte-none : (ds : List ℕ) (i : ℕ) → length ds ≤ 2 * i + 1 → byteAt (bytesOf ds) i ≡ 0

@@ -1,13 +1,17 @@
 // The lines of a sheet, as parts of it, and a line's characters, decoded as they arrive.
+use hexadecimal::byte_of;
+use hexadecimal::is_digit;
+use hexadecimal::value_of;
 use model::Frame;
 use model::KEPT;
+use model::ROW_NUMBERS;
 ghost use mathlib.Core.Path.{_≡_};
-ghost use mathlib.Core.Bool.{true, cond};
+ghost use mathlib.Core.Bool.{cond};
 ghost use Prim.Native.Nat.{_+_, _-_, _*_, _/_, _≤_, _<_};
 ghost use lib.Dec.{leb};
 ghost use lib.ListN.{length, drop};
 ghost use Rattle.model_sheet.specs.Lines.{lineOf};
-ghost use Rattle.model_sheet.specs.Frames.{isDigit, valueOf, bytesOf, emptyFrame, fed, feeds, withHalf, numbersFeeds};
+ghost use Rattle.model_sheet.specs.Frames.{bytesOf, emptyFrame, feeds, withHalf, numbersFeeds};
 ghost use Rattle.model_sheet.specs.Numbers.{byteAt};
 ghost use Rattle.model_sheet.specs.Reading.{numbersOn};
 
@@ -15,9 +19,6 @@ const LINE_FEED: u8 = b'\n';
 
 // How many bytes of a line are counted.
 const COUNTED: usize = 2052;
-
-// How many numbers of 2 bytes each are kept of a line, behind its row count.
-const NUMBERS: usize = 1024;
 
 // Where the line that starts at `at` ends: at its LF, or at the sheet's end.
 fn line_end(sheet: &[u8], at: usize) -> usize
@@ -46,28 +47,6 @@ pub fn line(sheet: &[u8], at: usize) -> &[u8]
     &sheet[at..end]
 }
 
-fn is_digit(c: u8) -> bool
-    ensures { λ r. ⌜ r ≡ isDigit c ⌝ }
-{
-    if c <= b'9' {
-        return b'0' <= c;
-    }
-    if c <= b'F' {
-        return b'A' <= c;
-    }
-    false
-}
-
-fn value_of(c: u8) -> u8
-    requires { ⌜ isDigit c ≡ true ⌝ }
-    ensures { λ r. ⌜ (r ≡ valueOf c) × (r < 16) ⌝ }
-{
-    if c <= b'9' {
-        return c - b'0';
-    }
-    c - 55
-}
-
 // Before a line's first character.
 pub fn empty_frame() -> Frame
     ensures { λ r. ⌜ r ≡ emptyFrame ⌝ }
@@ -76,59 +55,6 @@ pub fn empty_frame() -> Frame
         first: [0u8; KEPT],
         len: 0,
         sound: true,
-        half: false,
-        high: 0,
-    }
-}
-
-// One character more.
-pub fn feed(f: Frame, c: u8) -> Frame
-    ensures { λ r. ⌜ r ≡ fed f c ⌝ }
-{
-    let mut first = f.first;
-    let len = f.len;
-    if !is_digit(c) {
-        return Frame {
-            first,
-            len,
-            sound: false,
-            half: f.half,
-            high: f.high,
-        };
-    }
-    let v = value_of(c);
-    if !f.half {
-        return Frame {
-            first,
-            len,
-            sound: f.sound,
-            half: true,
-            high: v,
-        };
-    }
-    if len < KEPT {
-        first[len] = f.high % 16 * 16 + v;
-        return Frame {
-            first,
-            len: len + 1,
-            sound: f.sound,
-            half: false,
-            high: 0,
-        };
-    }
-    if len < COUNTED {
-        return Frame {
-            first,
-            len: len + 1,
-            sound: f.sound,
-            half: false,
-            high: 0,
-        };
-    }
-    Frame {
-        first,
-        len,
-        sound: f.sound,
         half: false,
         high: 0,
     }
@@ -159,7 +85,7 @@ pub fn more(f: Frame, piece: &[u8]) -> Frame
         }
         half = false;
         if len < KEPT {
-            first[len] = high % 16 * 16 + v;
+            first[len] = byte_of(high, v);
             len += 1;
         } else if len < COUNTED {
             len += 1;
@@ -191,7 +117,8 @@ fn with_lower(x: u32, b: u8) -> u32
 
 // One byte more of a line with `len` of them: behind its row count it is the upper or the lower half of a number.
 fn put_byte(numbers: &mut [u32], len: usize, b: u8)
-    ensures { λ _. ⌜ now (numbers .exit) ≡ cond (leb 3 len) (withHalf (now (numbers .entry)) (len - 3) b) (now (numbers .entry)) ⌝ }
+    ensures { λ _. ⌜ now (numbers .exit)
+        ≡ cond (leb 3 len) (withHalf (now (numbers .entry)) (len - 3) b) (now (numbers .entry)) ⌝ }
 {
     if len < 3 {
         return;
@@ -229,25 +156,12 @@ pub fn more_numbers(f: Frame, piece: &[u8], numbers: &mut [u32])
             continue;
         }
         second = false;
-        put_byte(numbers, len, upper % 16 * 16 + v);
+        put_byte(numbers, len, byte_of(upper, v));
         if len < COUNTED {
             len += 1;
         }
         upper = 0;
     }
-}
-
-// What a character of any kind counts.
-fn counts(c: u8) -> u32
-    ensures { λ r. ⌜ (r ≡ valueOf c) × (r ≤ 200) ⌝ }
-{
-    if c < b'0' {
-        return 0;
-    }
-    if c <= b'9' {
-        return (c - b'0') as u32;
-    }
-    (c - 55) as u32
 }
 
 // Byte i of a line, 0 past its end.
@@ -259,16 +173,16 @@ fn byte(line: &[u8], i: usize) -> u32
     if line.len() <= at + 1 {
         return 0;
     }
-    counts(line[at]) * 16 + counts(line[at + 1])
+    (value_of(line[at]) as u32) * 16 + (value_of(line[at + 1]) as u32)
 }
 
 // The numbers on a whole line.
-pub fn numbers_on(line: &[u8]) -> [u32; NUMBERS]
+pub fn numbers_on(line: &[u8]) -> [u32; ROW_NUMBERS]
     ensures { λ r. ⌜ r ≡ numbersOn (bytesOf (now (line .entry))) ⌝ }
 {
-    let mut numbers = [0u32; NUMBERS];
+    let mut numbers = [0u32; ROW_NUMBERS];
     let mut k: usize = 0;
-    while k < NUMBERS {
+    while k < ROW_NUMBERS {
         let i = 3 + 2 * k;
         if line.len() <= 2 * i + 1 {
             return numbers;

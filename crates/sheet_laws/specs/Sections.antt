@@ -1,4 +1,5 @@
--- The sheet of a chain by the numbers of its lines: line 0 is the grid's; behind it come sections of lines, the offsets', the box's, the capacities', the order's, and last the kernel's.
+-- The sheet of a chain by the numbers of its lines: line 0 is the grid's; behind it come sections of lines, the offsets', the
+-- box's, the capacities', the order's, and last the kernel's.
 use Prim.Native.Nat.{ℕ, zero, suc, _+_, _-_, _*_}
 use mathlib.Core.Bool.{Bool, cond, _&&_}
 use mathlib.Core.List.{List, [], _∷_, _++_, flatMap}
@@ -17,11 +18,13 @@ use Rattle.model_sheet.specs.Writing.{gridLine, indexPair, capacityLine, kernel
 use Rattle.sheet_laws.specs.declared.Part.{Part}
 use Rattle.sheet_laws.specs.declared.Part.the-variants as part
 
--- Rows: lines with all four sizes, entries or pairs of indices, whatever the dimension count, and with all 32 filter numbers, however many references there are.
+-- Rows: lines with all four sizes, entries or pairs of indices, whatever the dimension count, and with all 32 filter numbers,
+-- however many references there are.
 unfoldable pub gridRow : Grid → List ℕ
 gridRow g =
     1 ∷ g .dims
-    ∷ (wordBytes (getD (g .sizes) 0 0) ++ (wordBytes (getD (g .sizes) 1 0) ++ (wordBytes (getD (g .sizes) 2 0) ++ wordBytes (getD (g .sizes) 3 0))))
+    ∷ (wordBytes (getD (g .sizes) 0 0)
+    ++ (wordBytes (getD (g .sizes) 1 0) ++ (wordBytes (getD (g .sizes) 2 0) ++ wordBytes (getD (g .sizes) 3 0))))
 
 -- An `09` line of n rows goes by its numbers, of which each row has two.
 unfoldable pub rowsLine : (n : ℕ) → (rows : List ℕ) → List ℕ
@@ -62,8 +65,8 @@ lenOf c part.Kernel = length (kernelLine (c .kernel))
 abbrev pub toCapacities : (boxed : Bool) (n : ℕ) → ℕ
 toCapacities boxed n = n + cond boxed 1 0
 
--- Line `behind` from the capacities' on, counted from 0; and line m behind the grid's: the sections have n, 1 (0 where no box stands), n - 1, 1 (0 where no order stands)
--- and 1 lines;
+-- Line `behind` from the capacities' on, counted from 0; and line m behind the grid's: the sections have n, 1 (0 where no box
+-- stands), n - 1, 1 (0 where no order stands) and 1 lines;
 unfoldable pub partBehind : (ordered : Bool) (n behind : ℕ) → Part
 partBehind ordered n behind =
     cond (ltb (behind + 1) n) (part.Capacity behind)

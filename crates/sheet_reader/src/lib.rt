@@ -16,7 +16,8 @@ ghost use Prim.Native.Nat.{_+_, _<_};
 ghost use lib.ListN.{set};
 ghost use Rattle.model_sheet.specs.Frames.{shown};
 ghost use Rattle.model_sheet.specs.Lines.{linesOf};
-ghost use Rattle.model_sheet.specs.Reading.{withGrid, withRows, withOffset, withName, withBox, withCapacity, withOrder, withKernel, taken, stepOf, start, complete, readLines};
+ghost use Rattle.model_sheet.specs.Reading.{withGrid, withRows, withOffset, withName, withBox, withCapacity, withOrder};
+ghost use Rattle.model_sheet.specs.Reading.{withKernel, taken, stepOf, start, complete, readLines};
 ghost use Rattle.sheet_reader.specs.Room.{Room};
 
 // Before the first line.

@@ -1,4 +1,5 @@
--- Windows by name (document 02, request 1): "A sheet with the name plans exactly as one with the offsets written out in that order".
+-- Windows by name (document 02, request 1): "A sheet with the name plans exactly as one with the offsets written out in that
+-- order".
 use Prim.Native.Nat.{ℕ}
 use mathlib.Core.Bool.{true}
 use mathlib.Core.List.{List, [], _∷_, _++_, map, flatMap}
@@ -11,7 +12,8 @@ use Rattle.model_sheet.specs.Reading.{readRequest, numbersIn}
 use Rattle.model_sheet.specs.Writing.{offsetLine}
 use Rattle.model_program.specs.Programs.{planText}
 
--- The bytes of a first line with this many dimensions: an `01` line, with any bytes behind the dimension count; an `09` line, with any bytes behind its first, where there are two.
+-- The bytes of a first line with this many dimensions: an `01` line, with any bytes behind the dimension count; an `09` line,
+-- with any bytes behind its first, where there are two.
 pub data FirstLine (dims : ℕ) : List ℕ → Type 0 where
   sized : (bytes : List ℕ) → FirstLine dims (1 ∷ dims ∷ bytes)
   rowed : dims ≡ 2 → (bytes : List ℕ) → FirstLine dims (9 ∷ bytes)
@@ -28,7 +30,8 @@ module _ (name : ℕ) (first rest : List ℕ) where
   abbrev pub writtenOut : List ℕ
   writtenOut = sheetWith (flatMap framed (map offsetLine (offsetsNamed name)))
 
--- What reading two sheets gives, verdict and request, and the rows beside it; the plan of that request, verdict and chain; and what `plan` writes, byte for byte.
+-- What reading two sheets gives, verdict and request, and the rows beside it; the plan of that request, verdict and chain;
+-- and what `plan` writes, byte for byte.
 pub record PlannedAlike (one other : List ℕ) : Type 0 where
   pub read : readRequest one ≡ readRequest other
   pub rows : numbersIn one ≡ numbersIn other
@@ -39,7 +42,8 @@ pub record PlannedAlike (one other : List ℕ) : Type 0 where
 abbrev pub BeginsWithOffset : List ℕ → Type 0
 BeginsWithOffset rest = take 2 rest ≡ digitsOf (2 ∷ [])
 
--- Of every name of the list, on a grid of as many dimensions as its window has, whatever else stands on the first line and behind the window.
+-- Of every name of the list, on a grid of as many dimensions as its window has, whatever else stands on the first line and
+-- behind the window.
 abbrev pub ByName : Type 0
 ByName =
     (name : ℕ) (first rest : List ℕ) → isName name ≡ true → FirstLine (namedOf name .dims) first → (BeginsWithOffset rest → ⊥)

@@ -17,7 +17,8 @@ use Rattle.model.specs.Judging.{judgeChain}
 use Rattle.model_sheet.specs.Reading.{readChain, numbersIn}
 use Rattle.model_sheet.specs.Writing.{sheetOf, Written, writeOf}
 
--- What the machine's types give of a chain's value: sizes and capacities of 32 bits, entries of 16 bits and indices of 32 bits in two's complement, factors that binary32 holds.
+-- What the machine's types give of a chain's value: sizes and capacities of 32 bits, entries of 16 bits and indices of 32
+-- bits in two's complement, factors that binary32 holds.
 unfoldable pub FactorsFit : Kernel → Type 0
 FactorsFit kernel.Raw = Unit
 FactorsFit kernel.Difference = Unit
@@ -32,7 +33,8 @@ pub record InRange (c : Chain) : Type 0 where
   pub capacities : (k : ℕ) → getD (c .capacities) k 0 < 4294967296
   pub factors : FactorsFit (c .kernel)
 
--- A sheet tells of a chain and the rows beside it: it is accepted, and what is read from it is the same chain, in its normal form, with each number of its rows.
+-- A sheet tells of a chain and the rows beside it: it is accepted, and what is read from it is the same chain, in its normal
+-- form, with each number of its rows.
 pub record Tells (sheet : List ℕ) (c : Chain) (rows : List ℕ) : Type 0 where
   pub read : readChain sheet ≡ record { verdict = verdict.Accepted; chain = chainOf (trimmed c rows) }
   pub same : Same (readChain sheet .chain) (numbersIn sheet) c rows
@@ -44,9 +46,11 @@ WriteRead = (c : Chain) (rows : List ℕ) → InRange c → judgeChain c rows �
 
 -- An accepted chain sheet, read and written, gives back its bytes.
 abbrev pub ReadWrite : Type 0
-ReadWrite = (sheet : List ℕ) → readChain sheet .verdict ≡ verdict.Accepted → sheetOf (readChain sheet .chain) (numbersIn sheet) ≡ sheet
+ReadWrite = (sheet : List ℕ) → readChain sheet .verdict ≡ verdict.Accepted
+    → sheetOf (readChain sheet .chain) (numbersIn sheet) ≡ sheet
 
--- The same of the calls. What `write_chain` wrote `read_chain` accepts and reads as the same chain; an accepted sheet that was read is written as the same bytes.
+-- The same of the calls. What `write_chain` wrote `read_chain` accepts and reads as the same chain; an accepted sheet that
+-- was read is written as the same bytes.
 abbrev pub bytesOf : Written → List ℕ
 bytesOf w = take (w .answer .bytes) (w .output)
 

@@ -1,1 +1,2 @@
-// Sheets round-trip, and may be read as their characters arrive: the statements are in specs/, for every chain and every list of bytes.
+// Sheets round-trip, and may be read as their characters arrive: the statements are in specs/, for every chain and every list
+// of bytes.

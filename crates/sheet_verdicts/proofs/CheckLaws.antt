@@ -12,7 +12,7 @@ use Rattle.model.specs.Lists.{any}
 use Rattle.model.specs.Values.{rowsOf}
 use Rattle.model.specs.Answers.{Check, check, firstOf}
 use Rattle.model.specs.Judging.{badRow, badRowCount, badRows}
-use Rattle.rows.proofs.LentLaws.{rows-count}
+use Rattle.grid_laws.proofs.ChainLaws.{rows-count}
 
 pub none : verdict.Accepted ≡ firstOf []
 unfolding firstOf

@@ -1,3 +1,1 @@
-pub mod SizeLaws
 pub mod CheckLaws
-pub mod OrderLaws

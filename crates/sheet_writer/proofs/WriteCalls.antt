@@ -7,7 +7,7 @@ use native.Mathlib.Omega.{arith}
 use lib.Dec.{ltb}
 use lib.ListN.{length, drop}
 use lib.Seq.{sets, sets-eq}
-use borrow.Author.Tests.{eq-eqb, ne-eqb, lt-ltb, le-ltb}
+use borrow.Author.Tests.{lt-ltb, le-ltb}
 use Rattle.model.specs.declared.Chain.{Chain}
 use Rattle.model.specs.declared.Refusal.{Refusal}
 use Rattle.model.specs.declared.Refusal.the-variants as refusal
@@ -50,36 +50,26 @@ module _ (c : Chain) (rows out : List ℕ) where
   rows-turned h = stays refusal.BadRows (by-rows h)
 
   module _ (fine : bad ≡ false) where
-    pub no-dims : dimsOf (c .grid) ≡ 0 → refused refusal.BadGrid out ≡ layOf c rows out
-    unfolding firstOf badDims
-    no-dims h = stays refusal.BadGrid (by-rows fine ∙ rw (eq-eqb _ _ h))
+    pub dims-turned : badDims (dimsOf (c .grid)) ≡ true → refused refusal.BadGrid out ≡ layOf c rows out
+    unfolding firstOf
+    dims-turned h = stays refusal.BadGrid (by-rows fine ∙ rw h)
 
-    module _ (some : dimsOf (c .grid) ≡ 0 → ⊥) where
-      pub many-dims : 4 < dimsOf (c .grid) → refused refusal.BadGrid out ≡ layOf c rows out
-      unfolding firstOf badDims
-      many-dims h = stays refusal.BadGrid (by-rows fine ∙ rw (ne-eqb _ _ some, lt-ltb _ _ h))
+    module _ (dims : badDims (dimsOf (c .grid)) ≡ false) where
+      pub count-turned : badCount (c .window .count) ≡ true → refused refusal.BadCount out ≡ layOf c rows out
+      unfolding firstOf
+      count-turned h = stays refusal.BadCount (by-rows fine ∙ rw (dims, h))
 
-      module _ (few : dimsOf (c .grid) ≤ 4) where
-        pub no-references : c .window .count ≡ 0 → refused refusal.BadCount out ≡ layOf c rows out
-        unfolding firstOf badDims badCount
-        no-references h = stays refusal.BadCount (by-rows fine ∙ rw (ne-eqb _ _ some, le-ltb _ _ few, eq-eqb _ _ h))
+      module _ (count : badCount (c .window .count) ≡ false) where
+        pub no-room : length out < length (sheetOf c rows) → refused refusal.ShortOutput out ≡ layOf c rows out
+        unfolding firstOf
+        no-room h = stays refusal.ShortOutput (by-rows fine ∙ rw (dims, count, lt-ltb _ _ h))
 
-        module _ (one : c .window .count ≡ 0 → ⊥) where
-          pub many-references : 32 < c .window .count → refused refusal.BadCount out ≡ layOf c rows out
-          unfolding firstOf badDims badCount
-          many-references h = stays refusal.BadCount (by-rows fine ∙ rw (ne-eqb _ _ some, le-ltb _ _ few, ne-eqb _ _ one, lt-ltb _ _ h))
-
-          module _ (most : c .window .count ≤ 32) where
-            pub no-room : length out < length (sheetOf c rows) → refused refusal.ShortOutput out ≡ layOf c rows out
-            unfolding firstOf badDims badCount
-            no-room h = stays refusal.ShortOutput (by-rows fine ∙ rw (ne-eqb _ _ some, le-ltb _ _ few, ne-eqb _ _ one, le-ltb _ _ most, lt-ltb _ _ h))
-
-            pub laid : (bytes : ℕ) (end : List ℕ) → length (sheetOf c rows) ≤ length out → bytes ≡ length (sheetOf c rows) → end ≡ sets out 0 (sheetOf c rows)
-                → written (record { verdict = verdict.Accepted; bytes = bytes }) end ≡ layOf c rows out
-            unfolding layOf firstOf badDims badCount
-            laid bytes end h e q =
-                let z : 0 + length (sheetOf c rows) ≡ length (sheetOf c rows) = omega arith in
-                let v : verdictOf ≡ verdict.Accepted = by-rows fine ∙ rw (ne-eqb _ _ some, le-ltb _ _ few, ne-eqb _ _ one, le-ltb _ _ most, le-ltb _ _ h) in
-                rw (v, e, q)
-                (ap (λ t. written (record { verdict = verdict.Accepted; bytes = length (sheetOf c rows) }) t)
-                (sets-eq (sheetOf c rows) out 0 (omega arith) ∙ ap (λ n. sheetOf c rows ++ drop n out) z))
+        pub laid : (bytes : ℕ) (end : List ℕ) → length (sheetOf c rows) ≤ length out → bytes ≡ length (sheetOf c rows) → end ≡ sets out 0 (sheetOf c rows)
+            → written (record { verdict = verdict.Accepted; bytes = bytes }) end ≡ layOf c rows out
+        unfolding layOf firstOf
+        laid bytes end h e q =
+            let z : 0 + length (sheetOf c rows) ≡ length (sheetOf c rows) = omega arith in
+            let v : verdictOf ≡ verdict.Accepted = by-rows fine ∙ rw (dims, count, le-ltb _ _ h) in
+            rw (v, e, q)
+            (ap (λ t. written (record { verdict = verdict.Accepted; bytes = length (sheetOf c rows) }) t)
+            (sets-eq (sheetOf c rows) out 0 (omega arith) ∙ ap (λ n. sheetOf c rows ++ drop n out) z))

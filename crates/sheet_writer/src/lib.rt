@@ -1,4 +1,5 @@
-// Writing a chain sheet, line by line: a line's bytes are made by value, then laid into the lent output; those of an `09` line are laid as they are made.
+// Writing a chain sheet, line by line: a line's bytes are made by value, then laid into the lent output; those of an `09`
+// line are laid as they are made.
 mod skewed;
 
 use hexadecimal::high_digit;
@@ -25,7 +26,8 @@ ghost use Rattle.model_sheet.specs.Frames.{kept, framed, padded};
 ghost use Rattle.model.specs.Values.{dimsOf};
 ghost use Rattle.model_sheet.specs.Numbers.{halfBytes, wordBytes, pattern};
 ghost use Rattle.model_sheet.specs.Writing.{gridLine, indexPair, capacityLine, kernelLine, sheetOf};
-ghost use Rattle.sheet_laws.specs.Sections.{gridRow, gridLen, offsetRow, boxRow, orderRow, rowOf, lenOf, toCapacities, partAt, linesBehind};
+ghost use Rattle.sheet_laws.specs.Sections.{gridRow, gridLen, offsetRow, boxRow, orderRow, rowOf, lenOf, toCapacities};
+ghost use Rattle.sheet_laws.specs.Sections.{partAt, linesBehind};
 ghost use Rattle.sheet_writer.specs.Laying.{written, layOf, Counted, RowsFit, HasLength, Inside};
 
 // Two and four bytes, most significant first, from byte `at` of a line on.
@@ -52,8 +54,8 @@ fn put_word(x: [u8; KEPT], at: usize, w: u32) -> [u8; KEPT]
     y
 }
 
-// The rows: all four sizes, entries or pairs of indices, of which a line has as many as there are dimensions, and all 32 filter numbers, of which it has as many as there
-// are references.
+// The rows: all four sizes, entries or pairs of indices, of which a line has as many as there are dimensions, and all 32
+// filter numbers, of which it has as many as there are references.
 
 fn grid_row(g: Grid) -> [u8; KEPT]
     ensures { λ r. ⌜ r ≡ padded (gridRow g) ⌝ }
@@ -190,7 +192,8 @@ fn to_capacities(boxed: bool, n: usize) -> usize
     n
 }
 
-// Where line `m` behind the grid's stands: the sections have n, 1 (0 where no box stands), n - 1, 1 (0 where no order stands) and 1 lines;
+// Where line `m` behind the grid's stands: the sections have n, 1 (0 where no box stands), n - 1, 1 (0 where no order stands)
+// and 1 lines;
 fn part_at(boxed: bool, ordered: bool, n: usize, m: usize) -> Part
     requires { ⌜ (n ≤ 32) × (m ≤ 2 * n + 1) ⌝ }
     ensures { λ r. ⌜ r ≡ partAt boxed ordered n m ⌝ }
@@ -305,7 +308,8 @@ fn sheet_len(c: Chain) -> usize
 // The grid's line, from the first place of the output on; the place behind it.
 fn put_grid(out: &mut [u8], g: Grid, rows: &[u32]) -> usize
     requires { ⌜ (dimsOf g ≤ 4) × RowsFit g (now rows) × (2 * gridLen g + 1 ≤ length (now out)) ⌝ }
-    ensures { λ r. ⌜ (r ≡ 2 * gridLen g + 1) × (now (out .exit) ≡ sets (now (out .entry)) 0 (framed (gridLine g (now (rows .entry))))) ⌝ }
+    ensures { λ r. ⌜ (r ≡ 2 * gridLen g + 1)
+        × (now (out .exit) ≡ sets (now (out .entry)) 0 (framed (gridLine g (now (rows .entry))))) ⌝ }
 {
     if g.skewed {
         return skewed::put_rows(out, g.rows, rows);
@@ -317,7 +321,8 @@ fn put_grid(out: &mut [u8], g: Grid, rows: &[u32]) -> usize
 
 fn put_sheet(out: &mut [u8], c: Chain, rows: &[u32]) -> usize
     requires { ⌜ (Counted c) × RowsFit (c .grid) (now rows) × (length (sheetOf c (now rows)) ≤ length (now out)) ⌝ }
-    ensures { λ r. ⌜ (r ≡ length (sheetOf c (now (rows .entry)))) × (now (out .exit) ≡ sets (now (out .entry)) 0 (sheetOf c (now (rows .entry)))) ⌝ }
+    ensures { λ r. ⌜ (r ≡ length (sheetOf c (now (rows .entry))))
+        × (now (out .exit) ≡ sets (now (out .entry)) 0 (sheetOf c (now (rows .entry)))) ⌝ }
 {
     let grid = c.grid;
     let window = c.window;
@@ -339,7 +344,8 @@ fn put_sheet(out: &mut [u8], c: Chain, rows: &[u32]) -> usize
     at
 }
 
-// A chain sheet into the lent output, or why not: 16 of a skewed grid, the counts' 3 and 4, then 12. Nothing else of the chain is judged.
+// A chain sheet into the lent output, or why not: 16 of a skewed grid, the counts' 3 and 4, then 12. Nothing else of the
+// chain is judged.
 pub fn write_sheet(c: Chain, rows: &[u32], out: &mut [u8]) -> Wrote
     ensures { λ r. ⌜ written r (now (out .exit)) ≡ layOf c (now (rows .entry)) (now (out .entry)) ⌝ }
 {
@@ -352,25 +358,13 @@ pub fn write_sheet(c: Chain, rows: &[u32], out: &mut [u8]) -> Wrote
         };
     }
     let dims = dims_of(grid);
-    if dims == 0 {
+    if limits::bad_dims(dims) {
         return Wrote {
             verdict: Verdict::Refused(Refusal::BadGrid),
             bytes: 0,
         };
     }
-    if 4 < dims {
-        return Wrote {
-            verdict: Verdict::Refused(Refusal::BadGrid),
-            bytes: 0,
-        };
-    }
-    if window.count == 0 {
-        return Wrote {
-            verdict: Verdict::Refused(Refusal::BadCount),
-            bytes: 0,
-        };
-    }
-    if 32 < window.count {
+    if limits::bad_count(window.count) {
         return Wrote {
             verdict: Verdict::Refused(Refusal::BadCount),
             bytes: 0,

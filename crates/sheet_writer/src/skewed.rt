@@ -2,11 +2,12 @@
 use hexadecimal::high_digit;
 use hexadecimal::low_digit;
 use model::Grid;
+use values::number_at;
 use values::wide_usize;
 ghost use mathlib.Core.Bool.{false, _&&_};
 ghost use mathlib.Core.Path.{_≡_};
 ghost use Prim.Native.Nat.{_+_, _*_, _≤_, _<_};
-ghost use lib.ListN.{length, getD};
+ghost use lib.ListN.{length};
 ghost use lib.Seq.{sets};
 ghost use Rattle.model_sheet.specs.Frames.{framed, digitsOf};
 ghost use Rattle.model_sheet.specs.Numbers.{halfBytes};
@@ -19,19 +20,9 @@ pub(crate) fn bad_rows(g: Grid, rows: &[u32]) -> bool
     ensures { λ r. ⌜ r ≡ (g .skewed && badRows (rowsOf (g .rows) (now (rows .entry)))) ⌝ }
 {
     if g.skewed {
-        return rows::bad_rows(g.rows, rows);
+        return limits::bad_rows(g.rows, rows);
     }
     false
-}
-
-// Number i; 0 where there are too few.
-fn number(rows: &[u32], i: usize) -> u32
-    ensures { λ r. ⌜ r ≡ getD (now (rows .entry)) i 0 ⌝ }
-{
-    if i < rows.len() {
-        return rows[i];
-    }
-    0
 }
 
 // A number of 2 bytes, from place `at` of the output on; the place behind it.
@@ -51,7 +42,8 @@ fn put_number(out: &mut [u8], at: usize, w: u32) -> usize
 // The line of so many rows, from the first place of the output on; the place behind it.
 pub(crate) fn put_rows(out: &mut [u8], count: u32, rows: &[u32]) -> usize
     requires { ⌜ (badRows (rowsOf count (now rows)) ≡ false) × (2 * (3 + 4 * count) + 1 ≤ length (now out)) ⌝ }
-    ensures { λ r. ⌜ (r ≡ 2 * (3 + 4 * count) + 1) × (now (out .exit) ≡ sets (now (out .entry)) 0 (framed (rowsLine count (now (rows .entry))))) ⌝ }
+    ensures { λ r. ⌜ (r ≡ 2 * (3 + 4 * count) + 1)
+        × (now (out .exit) ≡ sets (now (out .entry)) 0 (framed (rowsLine count (now (rows .entry))))) ⌝ }
 {
     out[0] = b'0';
     out[1] = b'9';
@@ -59,7 +51,7 @@ pub(crate) fn put_rows(out: &mut [u8], count: u32, rows: &[u32]) -> usize
     let mut at = put_number(out, 2, count);
     let mut i: usize = 0;
     while i < n {
-        let w = number(rows, i);
+        let w = number_at(rows, i);
         at = put_number(out, at, w);
         i += 1;
     }

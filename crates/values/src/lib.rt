@@ -1,16 +1,21 @@
 // Small functions on the values of document 01 and on numbers.
+use model::Answer;
 use model::Bounds;
 use model::Chain;
+use model::Counts;
 use model::Grid;
 use model::Kernel;
 use model::Order;
+use model::Outcome;
 use model::Refusal;
 use model::Request;
 use model::Window;
 ghost use mathlib.Core.Path.{_≡_};
 ghost use Prim.Native.Nat.{_<_, min};
-ghost use Rattle.model.specs.Answers.{numberOf};
-ghost use Rattle.model.specs.Values.{dimsOf, blankChain, requestOf, setGrid, setWindow, setBounds, setCapacities, setOrder, setKernel};
+ghost use lib.ListN.{getD};
+ghost use Rattle.model.specs.Answers.{numberOf, answerCounts};
+ghost use Rattle.model.specs.Values.{dimsOf, blankChain, requestOf, setGrid, setWindow, setBounds, setCapacities, setOrder};
+ghost use Rattle.model.specs.Values.{setKernel};
 
 // What a refusal hands back in place of a chain.
 pub fn blank_chain() -> Chain
@@ -141,6 +146,26 @@ pub fn number_of(n: Refusal) -> u8
     }
 }
 
+// What a call did.
+pub fn counts_of(a: Answer) -> Counts
+    ensures { λ r. ⌜ r ≡ answerCounts a ⌝ }
+{
+    match a {
+        Answer::Refused(_) => Counts {
+            cells: 0,
+            firings: 0,
+            clocks: 0,
+        },
+        Answer::Ended(o) => match o {
+            Outcome::Done(c) => c,
+            Outcome::Stalled(c) => c,
+            Outcome::Starved(c) => c,
+            Outcome::Full(c) => c,
+            Outcome::Spent(c) => c,
+        },
+    }
+}
+
 // How many dimensions a grid has.
 pub fn dims_of(grid: Grid) -> u8
     ensures { λ r. ⌜ r ≡ dimsOf grid ⌝ }
@@ -171,4 +196,14 @@ pub fn lesser(a: usize, b: usize) -> usize
         return a;
     }
     b
+}
+
+// Number i; 0 where there are too few.
+pub fn number_at(numbers: &[u32], i: usize) -> u32
+    ensures { λ r. ⌜ r ≡ getD (now (numbers .entry)) i 0 ⌝ }
+{
+    if i < numbers.len() {
+        return numbers[i];
+    }
+    0
 }

@@ -29,7 +29,10 @@ pub record Sheets : Type 0 where
 unfoldable pub written : Chain → (rows sheet : List ℕ) → Sheets
 written c rows sheet =
     let wrote = writeOf c rows sheet in
-    record { answer = record { refusal = verdictNumber (wrote .answer .verdict); bytes = wrote .answer .bytes }; sheet = wrote .output }
+    record {
+      answer = record { refusal = verdictNumber (wrote .answer .verdict); bytes = wrote .answer .bytes };
+      sheet = wrote .output;
+    }
 
 -- Planning a request sheet into a chain sheet: 1 to 9, 13, 15 and 16 of the request first.
 unfoldable pub planCall : (request sheet : List ℕ) → Sheets
@@ -49,7 +52,8 @@ module _ (state store cells out : List ℕ) (allowance : ℕ) where
   runSheet sheet =
       let read = readChain sheet in
       let ran = runValue state store cells out allowance (read .chain) (numbersIn sheet) in
-      byVerdict (read .verdict) ran (λ x. record { report = reportOf (answer.Refused x); state = state; store = store; out = out })
+      byVerdict (read .verdict) ran
+      (λ x. record { report = reportOf (answer.Refused x); state = state; store = store; out = out })
 
   -- A call on a chain given by its words, and the rows lent beside it.
   abbrev pub runChain : (chain rows : List ℕ) → Runs

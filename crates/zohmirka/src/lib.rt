@@ -1,5 +1,5 @@
-// The functions for C and Rust. Numbers and slices go in; a slice is a pointer and a length. The rows of a skewed grid are lent beside the words of its chain. No function has a `requires`. c/zohmirka.h says the
-// same for C.
+// The functions for C and Rust. Numbers and slices go in; a slice is a pointer and a length. The rows of a skewed grid are
+// lent beside the words of its chain. No function has a `requires`. c/zohmirka.h says the same for C.
 use model::Chain;
 use model::Refusal;
 use model::Verdict;
@@ -13,7 +13,8 @@ use zohmirka_words::chain_out;
 use zohmirka_words::row_places;
 use zohmirka_words::rows_out;
 ghost use mathlib.Core.Path.{_≡_};
-ghost use Rattle.zohmirka.specs.Calls.{version, written, planCall, judgeCall, runSheet, runChain, readCall, judgeChainCall, writeCall};
+ghost use Rattle.zohmirka.specs.Calls.{version, written, planCall, judgeCall, runSheet, runChain, readCall};
+ghost use Rattle.zohmirka.specs.Calls.{judgeChainCall, writeCall};
 
 // The version of this interface.
 #[no_mangle]
@@ -82,7 +83,8 @@ pub extern "C" fn zohmirka_run(
     allowance: u32,
 ) -> Report
     ensures { λ r. ⌜ record { report = r; state = now (state .exit); store = now (store .exit); out = now (out .exit) }
-        ≡ runSheet (now (state .entry)) (now (store .entry)) (now (cells .entry)) (now (out .entry)) allowance (now (sheet .entry)) ⌝ }
+        ≡ runSheet (now (state .entry)) (now (store .entry)) (now (cells .entry)) (now (out .entry)) allowance
+        (now (sheet .entry)) ⌝ }
 {
     let read = sheet_calls::read_chain(sheet);
     let verdict = read.verdict;
@@ -142,7 +144,8 @@ pub extern "C" fn zohmirka_run_chain(
     allowance: u32,
 ) -> Report
     ensures { λ r. ⌜ record { report = r; state = now (state .exit); store = now (store .exit); out = now (out .exit) }
-        ≡ runChain (now (state .entry)) (now (store .entry)) (now (cells .entry)) (now (out .entry)) allowance (now (chain .entry)) (now (rows .entry)) ⌝ }
+        ≡ runChain (now (state .entry)) (now (store .entry)) (now (cells .entry)) (now (out .entry)) allowance
+        (now (chain .entry)) (now (rows .entry)) ⌝ }
 {
     run_value(chain_in(chain), rows, state, store, cells, out, allowance)
 }
@@ -159,7 +162,8 @@ pub extern "C" fn zohmirka_judge_chain(chain: &[u32], rows: &[u32]) -> u32
 // Writes the sheet of a chain given by its words and the rows lent beside it: 3 to 9, 14, 15 and 16 of the chain, then 12.
 #[no_mangle]
 pub extern "C" fn zohmirka_write_chain(chain: &[u32], rows: &[u32], sheet: &mut [u8]) -> Sheet
-    ensures { λ r. ⌜ record { answer = r; sheet = now (sheet .exit) } ≡ writeCall (now (chain .entry)) (now (rows .entry)) (now (sheet .entry)) ⌝ }
+    ensures { λ r. ⌜ record { answer = r; sheet = now (sheet .exit) }
+        ≡ writeCall (now (chain .entry)) (now (rows .entry)) (now (sheet .entry)) ⌝ }
 {
     write(chain_in(chain), rows, sheet)
 }

@@ -26,7 +26,7 @@ use Rattle.model.specs.declared.Chain.{Chain}
 use Rattle.model.specs.declared.Verdict.the-variants as verdict
 use Rattle.grid_laws.proofs.CheckLaws.{value-passes}
 use Rattle.grid_laws.proofs.SortLaws.{falling-no-other}
-use Rattle.geometry.proofs.GridLaws.{product-above}
+use Rattle.limits.proofs.SizeLaws.{product-above}
 use Rattle.sheet_laws.proofs.Cases.{by-bool, by-lt, or-false}
 use Rattle.sheet_trips.specs.RoundTrips.{FactorsFit, InRange}
 use Rattle.sheet_trips.proofs.Bytes.{blank-at}

@@ -1,4 +1,5 @@
--- States as words, and lists of run calls: a list of calls with these functions is a list that demands 2 and 3 speak of (`model/specs/CallLists`).
+-- States as words, and lists of run calls: a list of calls with these functions is a list that demands 2 and 3 speak of
+-- (`model/specs/CallLists`).
 use Prim.Native.Nat.{ℕ, _+_, _≤_, _<_}
 use mathlib.Core.List.{List, [], _∷_, _++_, map}
 use mathlib.Core.Path.{_≡_}
@@ -16,7 +17,8 @@ use Rattle.zohmirka_reports.specs.Reports.{reportOf}
 use Rattle.zohmirka_runs.specs.Runs.{Runs}
 use Rattle.zohmirka.specs.Calls.{judgeCall, judgeChainCall, runSheet, runChain}
 
--- A state, which has 32 input counters, comes back from its words; written into a slice that is long enough it comes back too, and the later words stay.
+-- A state, which has 32 input counters, comes back from its words; written into a slice that is long enough it comes back
+-- too, and the later words stay.
 pub record StateBack (s : State) : Type 0 where
   pub back : stateIn (stateWords s) ≡ s
   pub words : (ws : List ℕ) → stateSize ≤ length ws → take stateSize (stateInto s ws) ≡ stateWords s
@@ -51,7 +53,8 @@ between k = record { state = stateIn (k .state); store = k .store }
 module _ (call : Call) (stream : ℕ → ℕ) where
   -- One call of a list: "the first one at the position that word 0 of the state says" (c/zohmirka.h).
   abbrev pub called : Lending → Slices → Runs
-  called l k = call (k .state) (take (l .front) (k .store)) (tabulate (l .cells) (λ i. stream (wordAt (k .state) 0 + i))) (l .output) (l .allowance)
+  called l k = call (k .state) (take (l .front) (k .store)) (tabulate (l .cells) (λ i. stream (wordAt (k .state) 0 + i)))
+      (l .output) (l .allowance)
 
   -- The slices after it, after a list, and the runs of the list.
   unfoldable pub left : Lending → Slices → Slices
@@ -66,7 +69,8 @@ module _ (call : Call) (stream : ℕ → ℕ) where
   calledAll (l ∷ ls) k = called l k ∷ calledAll ls (left l k)
 
 module _ (call : Call) (c : Chain) (rows : List ℕ) (stream : ℕ → ℕ) where
-  -- Each call is that of the list on the chain and its rows, with the state that the words are; it hands on what that call hands on, and the state's later words stay.
+  -- Each call is that of the list on the chain and its rows, with the state that the words are; it hands on what that call
+  -- hands on, and the state's later words stay.
   pub record OneCall (l : Lending) (k : Slices) : Type 0 where
     pub report : called call stream l k .report ≡ reportOf (callRun (trimmed c rows) stream l (between k) .answer)
     pub out : called call stream l k .out ≡ callRun (trimmed c rows) stream l (between k) .output
@@ -76,14 +80,16 @@ module _ (call : Call) (c : Chain) (rows : List ℕ) (stream : ℕ → ℕ) wher
 
   -- So is a list of calls: all reports, all outputs, and what it hands on at its end.
   pub record AllCalls (ls : List Lending) (k : Slices) : Type 0 where
-    pub reports : map (λ r. r .report) (calledAll call stream ls k) ≡ map (λ r. reportOf (r .answer)) (runs (trimmed c rows) stream ls (between k))
+    pub reports : map (λ r. r .report) (calledAll call stream ls k)
+        ≡ map (λ r. reportOf (r .answer)) (runs (trimmed c rows) stream ls (between k))
     pub outs : map (λ r. r .out) (calledAll call stream ls k) ≡ map (λ r. r .output) (runs (trimmed c rows) stream ls (between k))
     pub hands-on : between (leftAll call stream ls k) ≡ afterAll (trimmed c rows) stream ls (between k)
 
 -- With 33 words or more, which "are 0 when fresh".
 pub record Lists (call : Call) (c : Chain) (rows : List ℕ) : Type 0 where
   pub accepted : judgeChain c rows ≡ Accepted
-  pub fresh : (k : Slices) → stateSize ≤ length (k .state) → ((i : ℕ) → i < stateSize → wordAt (k .state) i ≡ 0) → Fresh (trimmed c rows) (between k)
+  pub fresh : (k : Slices) → stateSize ≤ length (k .state) → ((i : ℕ) → i < stateSize → wordAt (k .state) i ≡ 0)
+      → Fresh (trimmed c rows) (between k)
   pub one : (stream : ℕ → ℕ) (l : Lending) (k : Slices) → stateSize ≤ length (k .state) → OneCall call c rows stream l k
   pub all : (stream : ℕ → ℕ) (ls : List Lending) (k : Slices) → stateSize ≤ length (k .state) → AllCalls call c rows stream ls k
 

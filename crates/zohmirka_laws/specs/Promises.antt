@@ -55,31 +55,35 @@ RunRefused =
 abbrev pub ChainRefused : Type 0
 ChainRefused =
     (chain rows : List ℕ) → (judgeChainCall chain rows ≡ 0 → ⊥)
-    → ((state store cells out : List ℕ) (allowance : ℕ) → runChain state store cells out allowance chain rows .report .refusal ≡ judgeChainCall chain rows)
+    → ((state store cells out : List ℕ) (allowance : ℕ)
+    → runChain state store cells out allowance chain rows .report .refusal ≡ judgeChainCall chain rows)
     × ((sheet : List ℕ) → writeCall chain rows sheet .answer .refusal ≡ judgeChainCall chain rows)
 
 abbrev pub SheetRefused : Type 0
 SheetRefused =
     (sheet : List ℕ) → (judgeCall sheet ≡ 0 → ⊥)
-    → ((state store cells out : List ℕ) (allowance : ℕ) → runSheet state store cells out allowance sheet .report .refusal ≡ judgeCall sheet)
+    → ((state store cells out : List ℕ) (allowance : ℕ)
+    → runSheet state store cells out allowance sheet .report .refusal ≡ judgeCall sheet)
     × ((chain rows : List ℕ) → readCall sheet chain rows .refusal ≡ judgeCall sheet)
 
 -- On the words and the rows that reading a sheet wrote, a run call does what it does on that sheet.
 abbrev pub SameRuns : Type 0
 SameRuns =
     (sheet chain rows state store cells out : List ℕ) (allowance : ℕ) → readCall sheet chain rows .refusal ≡ 0
-    → runChain state store cells out allowance (readCall sheet chain rows .chain) (readCall sheet chain rows .rows) ≡ runSheet state store cells out allowance sheet
+    → runChain state store cells out allowance (readCall sheet chain rows .chain) (readCall sheet chain rows .rows)
+    ≡ runSheet state store cells out allowance sheet
 
 -- Of rows only as many numbers play a part as the words say, of a rectangle none.
 abbrev pub RowsAlike : Type 0
 RowsAlike =
     (chain rows others : List ℕ) → ((i : ℕ) → i < rowPlaces (chainIn chain .grid) → wordAt rows i ≡ wordAt others i)
     → (judgeChainCall chain rows ≡ judgeChainCall chain others)
-    × ((state store cells out : List ℕ) (allowance : ℕ) → runChain state store cells out allowance chain rows ≡ runChain state store cells out allowance chain others)
+    × ((state store cells out : List ℕ) (allowance : ℕ)
+    → runChain state store cells out allowance chain rows ≡ runChain state store cells out allowance chain others)
     × ((sheet : List ℕ) → writeCall chain rows sheet ≡ writeCall chain others sheet)
 
--- Too few words of a state are refused in both run calls, by 11 where neither the chain nor the store is refused first. Too few words of a chain are refused by 3, whatever is lent
--- beside them.
+-- Too few words of a state are refused in both run calls, by 11 where neither the chain nor the store is refused first. Too
+-- few words of a chain are refused by 3, whatever is lent beside them.
 abbrev pub ShortState : Type 0
 ShortState =
     (state store cells out : List ℕ) (allowance : ℕ) → length state < stateSize
@@ -96,21 +100,27 @@ ShortStateBy11 =
 
 abbrev pub ShortChain : Type 0
 ShortChain =
-    (state store cells out : List ℕ) (allowance : ℕ) (chain rows : List ℕ) → length chain < chainSize → runChain state store cells out allowance chain rows .report .refusal ≡ 3
+    (state store cells out : List ℕ) (allowance : ℕ) (chain rows : List ℕ) → length chain < chainSize
+    → runChain state store cells out allowance chain rows .report .refusal ≡ 3
 
 abbrev pub ShortChainJudged : Type 0
 ShortChainJudged = (chain rows : List ℕ) → length chain < chainSize → judgeChainCall chain rows ≡ 3
 
--- The sizes of the C header are enough: in `ZOHMIRKA_SHEET_BYTES` every accepted request is planned and every accepted chain is written, into `ZOHMIRKA_CHAIN_WORDS` and
--- `ZOHMIRKA_ROW_NUMBERS` every accepted sheet is read, with `ZOHMIRKA_STORE_WORDS` no run is refused by 10, and no firing of an accepted chain writes more than `ZOHMIRKA_FIRING_WORDS`.
+-- The sizes of the C header are enough: in `ZOHMIRKA_SHEET_BYTES` every accepted request is planned and every accepted chain
+-- is written, into `ZOHMIRKA_CHAIN_WORDS` and `ZOHMIRKA_ROW_NUMBERS` every accepted sheet is read, with
+-- `ZOHMIRKA_STORE_WORDS` no run is refused by 10, and no firing of an accepted chain writes more than
+-- `ZOHMIRKA_FIRING_WORDS`.
 abbrev pub LongSheet : Type 0
-LongSheet = (request sheet : List ℕ) → readRequest request .verdict ≡ Accepted → longestSheet ≤ length sheet → planCall request sheet .answer .refusal ≡ 0
+LongSheet = (request sheet : List ℕ) → readRequest request .verdict ≡ Accepted → longestSheet ≤ length sheet
+    → planCall request sheet .answer .refusal ≡ 0
 
 abbrev pub LongSheetOfChain : Type 0
-LongSheetOfChain = (chain rows sheet : List ℕ) → judgeChainCall chain rows ≡ 0 → longestSheet ≤ length sheet → writeCall chain rows sheet .answer .refusal ≡ 0
+LongSheetOfChain = (chain rows sheet : List ℕ) → judgeChainCall chain rows ≡ 0 → longestSheet ≤ length sheet
+    → writeCall chain rows sheet .answer .refusal ≡ 0
 
 abbrev pub LongRows : Type 0
-LongRows = (sheet chain rows : List ℕ) → judgeCall sheet ≡ 0 → chainSize ≤ length chain → rowNumbers ≤ length rows → readCall sheet chain rows .refusal ≡ 0
+LongRows = (sheet chain rows : List ℕ) → judgeCall sheet ≡ 0 → chainSize ≤ length chain → rowNumbers ≤ length rows
+    → readCall sheet chain rows .refusal ≡ 0
 
 abbrev pub FewRows : Type 0
 FewRows = (chain rows : List ℕ) → judgeChainCall chain rows ≡ 0 → rowPlaces (chainIn chain .grid) ≤ rowNumbers
@@ -122,7 +132,8 @@ LongStore =
 
 abbrev pub LongStoreOfSheet : Type 0
 LongStoreOfSheet =
-    (state store cells out : List ℕ) (allowance : ℕ) (sheet : List ℕ) → 16384 ≤ length store → runSheet state store cells out allowance sheet .report .refusal ≡ 10 → ⊥
+    (state store cells out : List ℕ) (allowance : ℕ) (sheet : List ℕ) → 16384 ≤ length store
+    → runSheet state store cells out allowance sheet .report .refusal ≡ 10 → ⊥
 
 abbrev pub FewWords : Type 0
 FewWords = (c : Chain) (rows : List ℕ) → judgeChain c rows ≡ Accepted → widthOf (trimmed c rows) ≤ 32

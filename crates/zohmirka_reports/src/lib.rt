@@ -15,7 +15,8 @@ pub struct Sheet {
     pub bytes: usize,
 }
 
-// What a run call answers: a refusal's number or 0; the outcome, 0 Done, 1 Spent, 2 Starved, 3 Stalled, 4 Full, and 5 after a refusal; and the call's counts.
+// What a run call answers: a refusal's number or 0; the outcome, 0 Done, 1 Spent, 2 Starved, 3 Stalled, 4 Full, and 5 after a
+// refusal; and the call's counts.
 #[repr(C)]
 pub struct Report {
     pub refusal: u32,

@@ -26,4 +26,9 @@ module _ (state store cells out : List ℕ) (allowance : ℕ) where
   unfoldable pub runValue : Chain → (rows : List ℕ) → Runs
   runValue c rows =
       let ran = runOf c rows (stateIn state) store cells out allowance in
-      record { report = reportOf (ran .answer); state = stateLeft (ran .answer) (ran .state) state; store = ran .store; out = ran .output }
+      record {
+        report = reportOf (ran .answer);
+        state = stateLeft (ran .answer) (ran .state) state;
+        store = ran .store;
+        out = ran .output;
+      }

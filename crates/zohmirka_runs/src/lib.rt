@@ -20,7 +20,8 @@ pub fn run_value(
     allowance: u32,
 ) -> Report
     ensures { λ r. ⌜ record { report = r; state = now (state .exit); store = now (store .exit); out = now (out .exit) }
-        ≡ runValue (now (state .entry)) (now (store .entry)) (now (cells .entry)) (now (out .entry)) allowance chain (now (rows .entry)) ⌝ }
+        ≡ runValue (now (state .entry)) (now (store .entry)) (now (cells .entry)) (now (out .entry)) allowance chain
+        (now (rows .entry)) ⌝ }
 {
     let before = state_in(state);
     let ran = runner::run(chain, rows, before, store, cells, out, allowance);

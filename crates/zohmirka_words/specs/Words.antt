@@ -50,8 +50,9 @@ stateIn ws =
     (record { passed = replicate 32 (counter 0); fired = record { 0 = 4294967295 } })
     (record { passed = tabulate 32 (λ k. counter (wordAt ws k)); fired = record { 0 = wordAt ws 32 } })
 
--- Chains: dimension count, sizes, number of references, entries, capacities, kernel and factors, whether the author's order stood, its filters, whether the box stood, its lowest
--- indices, its highest, whether the grid is skewed, how many rows it has. The rows are lent beside them.
+-- Chains: dimension count, sizes, number of references, entries, capacities, kernel and factors, whether the author's order
+-- stood, its filters, whether the box stood, its lowest indices, its highest, whether the grid is skewed, how many rows it
+-- has. The rows are lent beside them.
 
 abbrev pub chainSize : ℕ
 chainSize = 212
@@ -114,7 +115,12 @@ unfoldable pub chainIn : List ℕ → Chain
 chainIn ws =
     cond (ltb (length ws) chainSize) blankChain
     (record {
-      grid = record { skewed = not (eqb (wordAt ws 210) 0); rows = wordAt ws 211; dims = countIn (wordAt ws 0); sizes = wordAt ws 1 ∷ wordAt ws 2 ∷ wordAt ws 3 ∷ wordAt ws 4 ∷ [] };
+      grid = record {
+        skewed = not (eqb (wordAt ws 210) 0);
+        rows = wordAt ws 211;
+        dims = countIn (wordAt ws 0);
+        sizes = wordAt ws 1 ∷ wordAt ws 2 ∷ wordAt ws 3 ∷ wordAt ws 4 ∷ [];
+      };
       window = record { count = countIn (wordAt ws 5); offsets = tabulate 128 (λ i. signed (wordAt ws (6 + i) % 65536)) };
       bounds = boundsIn ws;
       capacities = tabulate 31 (λ k. wordAt ws (134 + k));

@@ -9,12 +9,15 @@ use model::Kernel;
 use model::Order;
 use model::State;
 use model::Window;
+use values::number_at;
 ghost use mathlib.Core.Path.{_≡_};
 ghost use Prim.Native.Nat.{_+_, _%_, _≤_, _<_};
 ghost use lib.ListN.{length};
 ghost use Rattle.model.specs.Lists.{tabulate};
 ghost use Rattle.model_sheet.specs.Numbers.{signed};
-ghost use Rattle.zohmirka_words.specs.Words.{wordAt, stateIn, stateInto, kernelWords, boxWord, chainWord, chainInto, countIn, kernelIn, orderIn, indicesIn, boundsIn, chainIn, rowPlaces, rowsInto};
+ghost use Rattle.zohmirka_words.specs.Words.{wordAt, stateIn, stateInto, kernelWords, boxWord, chainWord, chainInto};
+ghost use Rattle.zohmirka_words.specs.Words.{countIn, kernelIn, orderIn, indicesIn, boundsIn, chainIn, rowPlaces};
+ghost use Rattle.zohmirka_words.specs.Words.{rowsInto};
 
 // The state of its words.
 pub fn state_in(words: &[u32]) -> State
@@ -81,15 +84,15 @@ fn kernel_in(which: u32, a: u32, b: u32) -> Kernel
         return Kernel::Difference;
     }
     if which == 2 {
-        return Kernel::Scaled(kernel::float_of(a));
+        return Kernel::Scaled(kernel_words::float_of(a));
     }
     if which == 3 {
         return Kernel::Blend(Factors {
-            a: kernel::float_of(a),
-            b: kernel::float_of(b),
+            a: kernel_words::float_of(a),
+            b: kernel_words::float_of(b),
         });
     }
-    Kernel::Scaled(kernel::float_of(0x7FC00000))
+    Kernel::Scaled(kernel_words::float_of(0x7FC00000))
 }
 
 fn offsets_in(words: &[u32]) -> [i16; 128]
@@ -192,8 +195,8 @@ fn kernel_words(k: Kernel) -> [u32; 3]
     match k {
         Kernel::Raw => [0, 0, 0],
         Kernel::Difference => [1, 0, 0],
-        Kernel::Scaled(f) => [2, kernel::word_of(f), 0],
-        Kernel::Blend(g) => [3, kernel::word_of(g.a), kernel::word_of(g.b)],
+        Kernel::Scaled(f) => [2, kernel_words::word_of(f), 0],
+        Kernel::Blend(g) => [3, kernel_words::word_of(g.a), kernel_words::word_of(g.b)],
     }
 }
 
@@ -283,15 +286,6 @@ pub fn row_places(g: Grid) -> usize
     let rows = g.rows;
     if g.skewed {
         return 2 * (rows as usize);
-    }
-    0
-}
-
-fn number_at(numbers: &[u32], i: usize) -> u32
-    ensures { λ r. ⌜ r ≡ wordAt (now (numbers .entry)) i ⌝ }
-{
-    if i < numbers.len() {
-        return numbers[i];
     }
     0
 }

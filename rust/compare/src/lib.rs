@@ -6,7 +6,6 @@ pub mod dice;
 pub mod draft;
 pub mod ground;
 pub mod limits;
-pub mod native;
 pub mod plans;
 pub mod round;
 pub mod rounds;

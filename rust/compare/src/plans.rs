@@ -1,7 +1,7 @@
 //! What the library alone answers to random requests, as counts and digests: where they are the same for two builds of it, so are the plans.
 use crate::dice::Dice;
 use crate::draft::Draft;
-use crate::native;
+use zohmirka::native;
 use crate::words::{CHAIN_WORDS, ROW_WORDS};
 use zohmirka::SHEET_BYTES;
 

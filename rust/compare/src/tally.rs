@@ -1,5 +1,5 @@
 use crate::limits::Limits;
-use crate::native::Report;
+use zohmirka::native::Report;
 use straight::{Chain, Grid, Shape};
 
 /// How often each number (0: accepted) and each outcome came up, by function.

@@ -1,5 +1,5 @@
 //! Chains, states and answers of `straight` as words, in the layout of c/zohmirka.h.
-use crate::native::Report;
+use zohmirka::native::Report;
 use straight::grid::MOST_ROWS;
 use straight::{Answer, Chain, Factors, Grid, Kernel, Rectangle, Row, Rows, State};
 

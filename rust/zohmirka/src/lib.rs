@@ -27,7 +27,7 @@
 //! assert_eq!(outcome, zohmirka::Outcome::Done(zohmirka::Counts { cells: 4, firings: 2, clocks: 5 }));
 //! assert_eq!(out, [3, 1, 4, 3]);
 //! ```
-mod native;
+pub mod native;
 
 use std::sync::Once;
 
@@ -46,8 +46,7 @@ pub const ROW_NUMBERS: usize = 1024;
 
 /// The version of the library that is linked.
 pub fn version() -> u32 {
-    // SAFETY: it takes nothing.
-    unsafe { native::zohmirka_version() }
+    native::version()
 }
 
 fn require(version: u32) {
@@ -175,8 +174,7 @@ pub fn plan(request: &[u8]) -> Result<Vec<u8>, Refusal> {
 /// The same into a lent slice; answers how many bytes were written.
 pub fn plan_into(request: &[u8], sheet: &mut [u8]) -> Result<usize, Refusal> {
     checked();
-    // SAFETY: pointers and lengths are those of slices.
-    let answer = unsafe { native::zohmirka_plan(request.as_ptr(), request.len(), sheet.as_mut_ptr(), sheet.len()) };
+    let answer = native::plan(request, sheet);
     accepted(answer.refusal)?;
     Ok(answer.bytes)
 }
@@ -184,8 +182,7 @@ pub fn plan_into(request: &[u8], sheet: &mut [u8]) -> Result<usize, Refusal> {
 /// Judges a chain sheet.
 pub fn judge(sheet: &[u8]) -> Result<(), Refusal> {
     checked();
-    // SAFETY: pointer and length are those of a slice.
-    accepted(unsafe { native::zohmirka_judge(sheet.as_ptr(), sheet.len()) })
+    accepted(native::judge(sheet))
 }
 
 /// What one call did.
@@ -258,22 +255,7 @@ impl Default for State {
 /// writes (raw: a word for each reference, at most `FIRING_WORDS`) ends Full, and so will every later one that is lent no more.
 pub fn run(sheet: &[u8], state: &mut State, store: &mut [u32], cells: &[u32], out: &mut [u32], allowance: u32) -> Result<Outcome, Refusal> {
     checked();
-    // SAFETY: pointers and lengths are those of slices, and what is written is lent as `&mut`.
-    outcome_of(unsafe {
-        native::zohmirka_run(
-            sheet.as_ptr(),
-            sheet.len(),
-            state.words.as_mut_ptr(),
-            STATE_WORDS,
-            store.as_mut_ptr(),
-            store.len(),
-            cells.as_ptr(),
-            cells.len(),
-            out.as_mut_ptr(),
-            out.len(),
-            allowance,
-        )
-    })
+    outcome_of(native::run(sheet, &mut state.words, store, cells, out, allowance))
 }
 
 /// A chain as words, in the layout of c/zohmirka.h. Beside them stand the rows of a skewed grid: the start of row i at 2 * i, its length behind it; a rectangle has
@@ -290,8 +272,7 @@ impl Chain {
         checked();
         let mut chain = Chain { words: [0; CHAIN_WORDS], rows: Vec::new() };
         let mut rows = [0; ROW_NUMBERS];
-        // SAFETY: pointers and lengths are those of slices, and what is written is lent as `&mut`.
-        accepted(unsafe { native::zohmirka_read_chain(sheet.as_ptr(), sheet.len(), chain.words.as_mut_ptr(), CHAIN_WORDS, rows.as_mut_ptr(), ROW_NUMBERS) })?;
+        accepted(native::read_chain(sheet, &mut chain.words, &mut rows))?;
         if chain.is_skewed() {
             chain.rows = rows[..2 * chain.words[211] as usize].to_vec();
         }
@@ -356,24 +337,7 @@ impl Chain {
     /// A run call, with the rules of `run`; `width` says how many places a firing needs.
     pub fn run(&self, state: &mut State, store: &mut [u32], cells: &[u32], out: &mut [u32], allowance: u32) -> Result<Outcome, Refusal> {
         checked();
-        // SAFETY: pointers and lengths are those of slices, and what is written is lent as `&mut`.
-        outcome_of(unsafe {
-            native::zohmirka_run_chain(
-                self.words.as_ptr(),
-                CHAIN_WORDS,
-                self.rows.as_ptr(),
-                self.rows.len(),
-                state.words.as_mut_ptr(),
-                STATE_WORDS,
-                store.as_mut_ptr(),
-                store.len(),
-                cells.as_ptr(),
-                cells.len(),
-                out.as_mut_ptr(),
-                out.len(),
-                allowance,
-            )
-        })
+        outcome_of(native::run_chain(&self.words, &self.rows, &mut state.words, store, cells, out, allowance))
     }
 }
 
@@ -381,8 +345,7 @@ impl Chain {
     /// Judges the chain.
     pub fn judge(&self) -> Result<(), Refusal> {
         checked();
-        // SAFETY: pointers and lengths are those of slices.
-        accepted(unsafe { native::zohmirka_judge_chain(self.words.as_ptr(), CHAIN_WORDS, self.rows.as_ptr(), self.rows.len()) })
+        accepted(native::judge_chain(&self.words, &self.rows))
     }
 
     /// The chain's sheet.
@@ -396,9 +359,7 @@ impl Chain {
     /// The same into a lent slice; answers how many bytes were written.
     pub fn write_into(&self, sheet: &mut [u8]) -> Result<usize, Refusal> {
         checked();
-        // SAFETY: pointers and lengths are those of slices, and what is written is lent as `&mut`.
-        let answer =
-            unsafe { native::zohmirka_write_chain(self.words.as_ptr(), CHAIN_WORDS, self.rows.as_ptr(), self.rows.len(), sheet.as_mut_ptr(), sheet.len()) };
+        let answer = native::write_chain(&self.words, &self.rows, sheet);
         accepted(answer.refusal)?;
         Ok(answer.bytes)
     }
@@ -413,47 +374,19 @@ mod tests {
     const SKEWED: &[u8] = b"090003000200020002000100020001\n0200000000\n02FFFF0000\n0300000002\n060001\n0400\n";
     const ROWS: [u32; 6] = [2, 2, 2, 1, 2, 1];
 
-    /// A sheet read into slices.
-    fn read(sheet: &[u8], chain: &mut [u32], rows: &mut [u32]) -> u32 {
-        // SAFETY: pointers and lengths are those of slices.
-        unsafe { native::zohmirka_read_chain(sheet.as_ptr(), sheet.len(), chain.as_mut_ptr(), chain.len(), rows.as_mut_ptr(), rows.len()) }
-    }
-
     /// A call on a chain and its rows, and on the first `state_len` words of a state: its refusal, its outcome and the state's words.
     fn call(chain: &[u32], rows: &[u32], state_len: usize) -> (u32, u32, [u32; 40]) {
         let (mut state, mut store, cells, mut out) = ([0; 40], [0; 3], [1, 2, 3, 4, 5], [0; 4]);
         state[33..].fill(6);
-        // SAFETY: the lengths are at most those of the slices.
-        let report = unsafe {
-            native::zohmirka_run_chain(
-                chain.as_ptr(),
-                chain.len(),
-                rows.as_ptr(),
-                rows.len(),
-                state[..state_len].as_mut_ptr(),
-                state_len,
-                store.as_mut_ptr(),
-                3,
-                cells.as_ptr(),
-                5,
-                out.as_mut_ptr(),
-                4,
-                100,
-            )
-        };
+        let report = native::run_chain(chain, rows, &mut state[..state_len], &mut store, &cells, &mut out, 100);
         (report.refusal, report.outcome, state)
     }
 
     /// What turns a chain and its rows back in judging and in writing, and what is written to a sheet of 100 bytes.
     fn judged_and_written(chain: &[u32], rows: &[u32]) -> (u32, u32, Vec<u8>) {
         let mut sheet = [0; 100];
-        // SAFETY: pointers and lengths are those of slices.
-        let (judged, wrote) = unsafe {
-            (
-                native::zohmirka_judge_chain(chain.as_ptr(), chain.len(), rows.as_ptr(), rows.len()),
-                native::zohmirka_write_chain(chain.as_ptr(), chain.len(), rows.as_ptr(), rows.len(), sheet.as_mut_ptr(), 100),
-            )
-        };
+        let judged = native::judge_chain(chain, rows);
+        let wrote = native::write_chain(chain, rows, &mut sheet);
         assert!(sheet[wrote.bytes..].iter().all(|&b| b == 0));
         (judged, wrote.refusal, sheet[..wrote.bytes].to_vec())
     }
@@ -476,11 +409,11 @@ mod tests {
     fn slices_of_other_lengths() {
         let mut chain = [7; 240];
         for len in [0, 168, 201, 210, 211] {
-            assert_eq!(read(SHEET, &mut chain[..len], &mut []), 12);
+            assert_eq!(native::read_chain(SHEET, &mut chain[..len], &mut []), 12);
         }
         assert_eq!(chain, [7; 240]);
         let mut rows = [5; 4];
-        assert_eq!((read(SHEET, &mut chain, &mut rows), rows), (0, [5; 4]));
+        assert_eq!((native::read_chain(SHEET, &mut chain, &mut rows), rows), (0, [5; 4]));
         assert!(chain[212..].iter().all(|&w| w == 7));
 
         let mut untouched = [0; 40];
@@ -501,13 +434,13 @@ mod tests {
     fn rows_of_other_lengths() {
         let (mut chain, mut rows) = ([7; 240], [5; 9]);
         for len in 0..6 {
-            assert_eq!(read(SKEWED, &mut chain, &mut rows[..len]), 12);
+            assert_eq!(native::read_chain(SKEWED, &mut chain, &mut rows[..len]), 12);
         }
-        assert_eq!(read(SKEWED, &mut chain[..211], &mut rows), 12);
+        assert_eq!(native::read_chain(SKEWED, &mut chain[..211], &mut rows), 12);
         assert_eq!((chain, rows), ([7; 240], [5; 9]));
-        assert_eq!(read(SKEWED, &mut chain, &mut rows[..6]), 0);
+        assert_eq!(native::read_chain(SKEWED, &mut chain, &mut rows[..6]), 0);
         assert_eq!((&rows[..6], &rows[6..]), (ROWS.as_slice(), [5; 3].as_slice()));
-        assert_eq!((read(SKEWED, &mut chain, &mut rows), &rows[6..]), (0, [5; 3].as_slice()));
+        assert_eq!((native::read_chain(SKEWED, &mut chain, &mut rows), &rows[6..]), (0, [5; 3].as_slice()));
 
         let mut done = [0; 40];
         (done[0], done[1], done[32]) = (4, 3, 2);

@@ -1,12 +1,14 @@
-//! The functions of the library, as c/zohmirka.h declares them.
+//! The functions of c/zohmirka.h, on slices of any length. The library takes any bytes, words and lengths.
 
 #[repr(C)]
+#[derive(Clone, Copy, Debug, PartialEq, Eq)]
 pub struct Sheet {
     pub refusal: u32,
     pub bytes: usize,
 }
 
 #[repr(C)]
+#[derive(Clone, Copy, Debug, PartialEq, Eq)]
 pub struct Report {
     pub refusal: u32,
     pub outcome: u32,
@@ -16,10 +18,23 @@ pub struct Report {
 }
 
 extern "C" {
-    pub fn zohmirka_version() -> u32;
-    pub fn zohmirka_plan(request: *const u8, request_len: usize, sheet: *mut u8, sheet_len: usize) -> Sheet;
-    pub fn zohmirka_judge(sheet: *const u8, sheet_len: usize) -> u32;
-    pub fn zohmirka_run(
+    fn zohmirka_version() -> u32;
+    fn zohmirka_plan(
+        request: *const u8,
+        request_len: usize,
+        sheet: *mut u8,
+        sheet_len: usize,
+    ) -> Sheet;
+    fn zohmirka_judge(sheet: *const u8, sheet_len: usize) -> u32;
+    fn zohmirka_read_chain(
+        sheet: *const u8,
+        sheet_len: usize,
+        chain: *mut u32,
+        chain_len: usize,
+        rows: *mut u32,
+        rows_len: usize,
+    ) -> u32;
+    fn zohmirka_run(
         sheet: *const u8,
         sheet_len: usize,
         state: *mut u32,
@@ -32,8 +47,7 @@ extern "C" {
         out_len: usize,
         allowance: u32,
     ) -> Report;
-    pub fn zohmirka_read_chain(sheet: *const u8, sheet_len: usize, chain: *mut u32, chain_len: usize, rows: *mut u32, rows_len: usize) -> u32;
-    pub fn zohmirka_run_chain(
+    fn zohmirka_run_chain(
         chain: *const u32,
         chain_len: usize,
         rows: *const u32,
@@ -48,6 +62,122 @@ extern "C" {
         out_len: usize,
         allowance: u32,
     ) -> Report;
-    pub fn zohmirka_judge_chain(chain: *const u32, chain_len: usize, rows: *const u32, rows_len: usize) -> u32;
-    pub fn zohmirka_write_chain(chain: *const u32, chain_len: usize, rows: *const u32, rows_len: usize, sheet: *mut u8, sheet_len: usize) -> Sheet;
+    fn zohmirka_judge_chain(
+        chain: *const u32,
+        chain_len: usize,
+        rows: *const u32,
+        rows_len: usize,
+    ) -> u32;
+    fn zohmirka_write_chain(
+        chain: *const u32,
+        chain_len: usize,
+        rows: *const u32,
+        rows_len: usize,
+        sheet: *mut u8,
+        sheet_len: usize,
+    ) -> Sheet;
+}
+
+pub fn version() -> u32 {
+    // SAFETY: it takes nothing.
+    unsafe { zohmirka_version() }
+}
+
+pub fn plan(request: &[u8], sheet: &mut [u8]) -> Sheet {
+    // SAFETY: pointers and lengths are those of slices, and what is written is lent as `&mut`; so in every function below.
+    unsafe {
+        zohmirka_plan(
+            request.as_ptr(),
+            request.len(),
+            sheet.as_mut_ptr(),
+            sheet.len(),
+        )
+    }
+}
+
+pub fn judge(sheet: &[u8]) -> u32 {
+    unsafe { zohmirka_judge(sheet.as_ptr(), sheet.len()) }
+}
+
+pub fn read_chain(sheet: &[u8], chain: &mut [u32], rows: &mut [u32]) -> u32 {
+    unsafe {
+        zohmirka_read_chain(
+            sheet.as_ptr(),
+            sheet.len(),
+            chain.as_mut_ptr(),
+            chain.len(),
+            rows.as_mut_ptr(),
+            rows.len(),
+        )
+    }
+}
+
+pub fn run(
+    sheet: &[u8],
+    state: &mut [u32],
+    store: &mut [u32],
+    cells: &[u32],
+    out: &mut [u32],
+    allowance: u32,
+) -> Report {
+    unsafe {
+        zohmirka_run(
+            sheet.as_ptr(),
+            sheet.len(),
+            state.as_mut_ptr(),
+            state.len(),
+            store.as_mut_ptr(),
+            store.len(),
+            cells.as_ptr(),
+            cells.len(),
+            out.as_mut_ptr(),
+            out.len(),
+            allowance,
+        )
+    }
+}
+
+pub fn run_chain(
+    chain: &[u32],
+    rows: &[u32],
+    state: &mut [u32],
+    store: &mut [u32],
+    cells: &[u32],
+    out: &mut [u32],
+    allowance: u32,
+) -> Report {
+    unsafe {
+        zohmirka_run_chain(
+            chain.as_ptr(),
+            chain.len(),
+            rows.as_ptr(),
+            rows.len(),
+            state.as_mut_ptr(),
+            state.len(),
+            store.as_mut_ptr(),
+            store.len(),
+            cells.as_ptr(),
+            cells.len(),
+            out.as_mut_ptr(),
+            out.len(),
+            allowance,
+        )
+    }
+}
+
+pub fn judge_chain(chain: &[u32], rows: &[u32]) -> u32 {
+    unsafe { zohmirka_judge_chain(chain.as_ptr(), chain.len(), rows.as_ptr(), rows.len()) }
+}
+
+pub fn write_chain(chain: &[u32], rows: &[u32], sheet: &mut [u8]) -> Sheet {
+    unsafe {
+        zohmirka_write_chain(
+            chain.as_ptr(),
+            chain.len(),
+            rows.as_ptr(),
+            rows.len(),
+            sheet.as_mut_ptr(),
+            sheet.len(),
+        )
+    }
 }

@@ -3,8 +3,8 @@ use borrow.Author.Needs.{needs}
 use Rattle.case_runs.proofs.after.Statement.{statement}
 use Rattle.case_runs.proofs.after.Tie as tie
 
-counts-requires : tie.Need-counts-requires
-counts-requires c κs = search needs
+counts-of-requires : tie.Need-counts-of-requires
+counts-of-requires c κs = search needs
 
 end-of-requires : tie.Need-end-of-requires
 end-of-requires c κs = search needs
@@ -30,13 +30,13 @@ returns c =
     let e = w .before .before .before .before .before in
     let s = e .before .before .before in
     after-call (s .args .r) (s .args .ran .state) (s .args .ran .answer) (s .args .width) _ _ _ _ _ _ _
-    (e .before .counts .ensures) (e .end-of .ensures) (w .before .before .before .before .plus .ensures) (w .before .before .before .plus2 .ensures) (w .before .before .plus3 .ensures) (w .before .plus4 .ensures) (w .words-of .ensures)
+    (e .before .counts-of .ensures) (e .end-of .ensures) (w .before .before .before .before .plus .ensures) (w .before .before .before .plus2 .ensures) (w .before .before .plus3 .ensures) (w .before .plus4 .ensures) (w .words-of .ensures)
 
 pub after-spec : {M : Type 1} → statement M
 after-spec =
     tie.close
     (tie.spec
-    counts-requires
+    counts-of-requires
     end-of-requires
     plus-requires
     plus-requires-2

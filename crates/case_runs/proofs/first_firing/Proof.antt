@@ -9,8 +9,8 @@ fresh-requires c κs = search needs
 lend-requires : tie.Need-lend-requires
 lend-requires c κs = search needs
 
-counts-requires : tie.Need-counts-requires
-counts-requires c κs = search needs
+counts-of-requires : tie.Need-counts-of-requires
+counts-of-requires c κs = search needs
 
 wide-usize-requires : tie.Need-wide-usize-requires
 wide-usize-requires c κs = search needs
@@ -18,8 +18,8 @@ wide-usize-requires c κs = search needs
 lend-requires-2 : tie.Need-lend-requires-2
 lend-requires-2 c κs = search needs
 
-counts-requires-2 : tie.Need-counts-requires-2
-counts-requires-2 c κs = search needs
+counts-of-requires-2 : tie.Need-counts-of-requires-2
+counts-of-requires-2 c κs = search needs
 
 same-length : tie.Need-same-length
 same-length c = search needs
@@ -35,8 +35,8 @@ returns c =
     let l = n .before .before .before .before .before in
     let f = l .before .before .before in
     let s = f .before .before .before .before .before in
-    first-clocks (s .args .chain) (s .args .rows .now) _ (s .args .cells .now) (s .args .store .now) (s .args .out .now) (l .lend .result) _ _ (n .counts .result) _ (m .lend2 .result) _ _ (c .counts2 .result)
-    (f .fresh .ensures) (l .lend .ensures) (n .counts .ensures) (w .wide-usize .ensures .0) (m .lend2 .ensures) (c .counts2 .ensures)
+    first-clocks (s .args .chain) (s .args .rows .now) _ (s .args .cells .now) (s .args .store .now) (s .args .out .now) (l .lend .result) _ _ (n .counts-of .result) _ (m .lend2 .result) _ _ (c .counts-of2 .result)
+    (f .fresh .ensures) (l .lend .ensures) (n .counts-of .ensures) (w .wide-usize .ensures .0) (m .lend2 .ensures) (c .counts-of2 .ensures)
 
 pub first-firing-spec : {M : Type 1} → statement M
 first-firing-spec =
@@ -44,10 +44,10 @@ first-firing-spec =
     (tie.spec
     fresh-requires
     lend-requires
-    counts-requires
+    counts-of-requires
     wide-usize-requires
     lend-requires-2
-    counts-requires-2
+    counts-of-requires-2
     same-length
     same-length-2
     returns)

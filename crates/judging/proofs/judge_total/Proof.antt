@@ -1,5 +1,4 @@
 use mathlib.Core.Path.{sym, _∙_}
-use borrow.Author.Tests.{lt-ltb, le-ltb}
 use Rattle.model.specs.Answers.{firstOf}
 use Rattle.model.specs.Judging.{kernelChecks, judgeBehind}
 use borrow.Author.Needs.{needs}
@@ -22,20 +21,26 @@ returns-2 c =
     let e = c .before .before in
     rw (sym (e .before .lacks-centre .ensures) ∙ e .if1 .left, sym (c .before .bad-factor .ensures) ∙ c .if2 .taken)
 
+too-large-requires : tie.Need-too-large-requires
+too-large-requires c κs = search needs
+
 returns-3 : tie.Need-returns-3
 unfolding judgeBehind kernelChecks firstOf
 returns-3 c =
-    let f = c .before in
+    let l = c .before in
+    let f = l .before in
     let e = f .before .before in
-    rw (sym (e .before .lacks-centre .ensures) ∙ e .if1 .left, sym (f .before .bad-factor .ensures) ∙ f .if2 .left, lt-ltb 16384 _ (c .if3 .taken))
+    rw (sym (e .before .lacks-centre .ensures) ∙ e .if1 .left, sym (f .before .bad-factor .ensures) ∙ f .if2 .left, sym (l .too-large .ensures) ∙ c .if3 .taken)
 
 returns-4 : tie.Need-returns-4
 unfolding judgeBehind kernelChecks firstOf
 returns-4 c =
-    let f = c .before in
+    let l = c .before in
+    let f = l .before in
     let e = f .before .before in
-    rw (sym (e .before .lacks-centre .ensures) ∙ e .if1 .left, sym (f .before .bad-factor .ensures) ∙ f .if2 .left, le-ltb 16384 _ (c .if3 .left))
+    rw (sym (e .before .lacks-centre .ensures) ∙ e .if1 .left, sym (f .before .bad-factor .ensures) ∙ f .if2 .left, sym (l .too-large .ensures) ∙ c .if3 .left)
 
 pub judge-total-spec : {M : Type 1} → statement M
 judge-total-spec =
-    tie.close (tie.spec lacks-centre-requires returns bad-factor-requires returns-2 returns-3 returns-4)
+    tie.close
+    (tie.spec lacks-centre-requires returns bad-factor-requires returns-2 too-large-requires returns-3 returns-4)

@@ -1,5 +1,4 @@
 -- `apply` writes what the kernel writes, where it fits. Assumes nothing.
-use mathlib.Core.Path.{_∙_}
 use native.Mathlib.Omega.{arith}
 use borrow.Author.Needs.{needs}
 use Rattle.model_run.specs.Kernels.{written, width}
@@ -85,7 +84,7 @@ unfolding written
 returns-3 c =
     let k = c .before .before .before .before in
     let e = k .before .before in
-    c .before .before .copy .ensures ∙ all-words _ _ _ _ _ _ _ (e .before .width .ensures) (e .before .before .if1 .left) (e .if2 .left) (rw (k .enum-told .given .1))
+    rw (c .before .before .copy .ensures) (all-words _ _ _ _ _ _ _ (e .before .width .ensures) (e .before .before .if1 .left) (e .if2 .left) (rw (k .enum-told .given .1)))
 
 same-length-2 : tie.Need-same-length-2
 same-length-2 c = search needs

@@ -1,6 +1,6 @@
 -- `result` gives the word of a value. Assumes nothing.
 use borrow.Author.Needs.{needs}
-use Rattle.kernel.proofs.FloatLaws.{nan-bits, no-nan}
+use Rattle.kernel_words.proofs.FloatLaws.{nan-bits, no-nan}
 use Rattle.nested.proofs.result.Statement.{statement}
 use Rattle.nested.proofs.result.Tie as tie
 

@@ -1,6 +1,6 @@
 -- `value` gives the value of a word. Assumes nothing.
 use borrow.Author.Needs.{needs}
-use Rattle.kernel.proofs.FloatLaws.{nan-word, number-word}
+use Rattle.kernel_words.proofs.FloatLaws.{nan-word, number-word}
 use Rattle.nested.proofs.value.Statement.{statement}
 use Rattle.nested.proofs.value.Tie as tie
 

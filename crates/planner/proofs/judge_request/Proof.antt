@@ -4,7 +4,7 @@ use borrow.Author.Needs.{needs}
 use Rattle.model.specs.Answers.{byVerdict}
 use Rattle.model.specs.Judging.{judgeBehind}
 use Rattle.model.specs.declared.Verdict.the-variants as verdict
-use Rattle.geometry.specs.Windows.{hasCentre}
+use Rattle.windows.specs.Windows.{hasCentre}
 use Rattle.planner.proofs.PlanLaws.{verdict-is}
 use Rattle.planner.proofs.judge_request.Statement.{statement}
 use Rattle.planner.proofs.judge_request.Tie as tie

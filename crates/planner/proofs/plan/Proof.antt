@@ -8,7 +8,7 @@ use Rattle.model.specs.declared.Request.{Request}
 use Rattle.model.specs.declared.Steps.{Steps}
 use Rattle.model.specs.declared.Verdict.{Verdict}
 use Rattle.model.specs.declared.Verdict.the-variants as verdict
-use Rattle.geometry.specs.Windows.{hasCentre}
+use Rattle.windows.specs.Windows.{hasCentre}
 use Rattle.planner.proofs.PlanLaws.{few-dimensions, refused-plan, planned-by}
 use Rattle.planner.proofs.plan.Statement.{statement}
 use Rattle.planner.proofs.plan.Tie as tie

@@ -4,7 +4,7 @@ use lib.IntN.{pos}
 use lib.ListN.{getD}
 use native.Mathlib.Omega.{arith}
 use Rattle.geometry.specs.Parts.{Filled}
-use Rattle.shape.proofs.BoxingLaws.{index-back}
+use Rattle.windows.proofs.IndexLaws.{index-back}
 use Rattle.geometry.proofs.FillLaws.{filled-none, filled-more, filled-up-to}
 use Rattle.planner.proofs.trimmed_indices.Statement.{statement}
 use Rattle.planner.proofs.trimmed_indices.Tie as tie

@@ -1,6 +1,5 @@
 use borrow.Author.Needs.{needs}
-use Rattle.program_stages.proofs.StageLaws.{wants-line, wants-none}
-use Rattle.program_stages.specs.Stages.{wantsBy, wantsInput}
+use Rattle.program_stages.specs.Stages.{wantsBy}
 use Rattle.program_stages.proofs.wants_input.Statement.{statement}
 use Rattle.program_stages.proofs.wants_input.Tie as tie
 
@@ -29,29 +28,31 @@ enum-told-8 : tie.Need-enum-told-8
 enum-told-8 c = search needs
 
 returns : tie.Need-returns
-unfolding wantsInput wantsBy
+unfolding wantsBy
 returns c = rw (c .enum-told .given .1)
 
 returns-2 : tie.Need-returns-2
-returns-2 c = wants-line _ (c .before .before .before .enum-told2 .given .1) (c .enum-told3 .given .1)
+unfolding wantsBy
+returns-2 c = rw (c .before .before .enum-told2 .given .1, c .enum-told3 .given .1)
 
 returns-3 : tie.Need-returns-3
-returns-3 c = wants-none _ _ (c .before .before .before .enum-told2 .given .1) (c .enum-told4 .given .1)
+unfolding wantsBy
+returns-3 c = rw (c .before .before .enum-told2 .given .1, c .enum-told4 .given .1)
 
 returns-4 : tie.Need-returns-4
-unfolding wantsInput wantsBy
+unfolding wantsBy
 returns-4 c = rw (c .enum-told5 .given .1)
 
 returns-5 : tie.Need-returns-5
-unfolding wantsInput wantsBy
+unfolding wantsBy
 returns-5 c = rw (c .enum-told6 .given .1)
 
 returns-6 : tie.Need-returns-6
-unfolding wantsInput wantsBy
+unfolding wantsBy
 returns-6 c = rw (c .enum-told7 .given .1)
 
 returns-7 : tie.Need-returns-7
-unfolding wantsInput wantsBy
+unfolding wantsBy
 returns-7 c = rw (c .enum-told8 .given .1)
 
 pub wants-input-spec : {M : Type 1} → statement M

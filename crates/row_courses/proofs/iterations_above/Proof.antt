@@ -20,6 +20,9 @@ abbrev μ-loop : tie.MeasureT-loop
 wide-usize-requires : tie.Need-wide-usize-requires Inv-loop μ-loop
 wide-usize-requires c κs = search needs
 
+cast-lesser : tie.Need-cast-lesser Inv-loop μ-loop
+cast-lesser c = search needs
+
 lesser-requires : tie.Need-lesser-requires Inv-loop μ-loop
 lesser-requires c κs = search needs
 
@@ -80,6 +83,7 @@ iterations-above-spec =
     Inv-loop
     μ-loop
     wide-usize-requires
+    cast-lesser
     lesser-requires
     cast-n
     loop-holds

@@ -15,6 +15,9 @@ abbrev μ-loop : tie.MeasureT-loop
 wide-usize-requires : tie.Need-wide-usize-requires Inv-loop μ-loop
 wide-usize-requires c κs = search needs
 
+cast-lesser : tie.Need-cast-lesser Inv-loop μ-loop
+cast-lesser c = search needs
+
 lesser-requires : tie.Need-lesser-requires Inv-loop μ-loop
 lesser-requires c κs = search needs
 
@@ -72,6 +75,7 @@ row-of-spec =
     Inv-loop
     μ-loop
     wide-usize-requires
+    cast-lesser
     lesser-requires
     loop-holds
     add-loop

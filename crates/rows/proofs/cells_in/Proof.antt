@@ -23,14 +23,14 @@ loop-holds c = let a = c .before .before .args in (omega arith, omega arith, ome
 sub-i : tie.Need-sub-i Inv-loop μ-loop
 sub-i c = omega arith
 
-mul-number : tie.Need-mul-number Inv-loop μ-loop
-mul-number c = omega arith
+mul-number-at : tie.Need-mul-number-at Inv-loop μ-loop
+mul-number-at c = omega arith
 
-add-number : tie.Need-add-number Inv-loop μ-loop
-add-number c = omega arith
+add-number-at : tie.Need-add-number-at Inv-loop μ-loop
+add-number-at c = omega arith
 
-number-requires : tie.Need-number-requires Inv-loop μ-loop
-number-requires c κs = search needs
+number-at-requires : tie.Need-number-at-requires Inv-loop μ-loop
+number-at-requires c κs = search needs
 
 wide-usize-requires-2 : tie.Need-wide-usize-requires-2 Inv-loop μ-loop
 wide-usize-requires-2 c κs = search needs
@@ -49,7 +49,7 @@ loop-again c =
     let l = c .before .before .before .before in
     let a = l .before .before .before .args in
     let i = l .loop .i - 1 in
-    let here : c .capped .result ≡ min (numberAt (a .rows .now) (2 * i + 1)) 1024 = c .capped .ensures ∙ ap (λ (x : ℕ). min x 1024) (c .before .wide-usize2 .ensures .0 ∙ c .before .before .number .ensures) in (
+    let here : c .capped .result ≡ min (numberAt (a .rows .now) (2 * i + 1)) 1024 = c .capped .ensures ∙ ap (λ (x : ℕ). min x 1024) (c .before .wide-usize2 .ensures .0 ∙ c .before .before .number-at .ensures) in (
       omega arith,
       l .loop .inv .1,
       omega (arith, l .loop .inv .2),
@@ -71,9 +71,9 @@ cells-in-spec =
     wide-usize-requires
     loop-holds
     sub-i
-    mul-number
-    add-number
-    number-requires
+    mul-number-at
+    add-number-at
+    number-at-requires
     wide-usize-requires-2
     capped-requires
     add-cells

@@ -14,22 +14,22 @@ returns c = let a = c .before .before .args in omega (arith, ap (λ (r : Row). r
 wide-usize-requires : tie.Need-wide-usize-requires
 wide-usize-requires c κs = search needs
 
-mul-number : tie.Need-mul-number
-mul-number c = search needs
+mul-number-at : tie.Need-mul-number-at
+mul-number-at c = search needs
 
-add-number : tie.Need-add-number
-add-number c = search needs
+add-number-at : tie.Need-add-number-at
+add-number-at c = search needs
 
-number-requires : tie.Need-number-requires
-number-requires c κs = search needs
+number-at-requires : tie.Need-number-at-requires
+number-at-requires c κs = search needs
 
 returns-2 : tie.Need-returns-2
 returns-2 c =
     let a = c .before .before .before .before .args in
-    c .number .ensures ∙ ap (λ (i : ℕ). numberAt (a .rows .now) (2 * i + 1)) (c .before .wide-usize .ensures .0)
+    c .number-at .ensures ∙ ap (λ (i : ℕ). numberAt (a .rows .now) (2 * i + 1)) (c .before .wide-usize .ensures .0)
     ∙ sym (ap (λ (r : Row). r .length) (row-lent (a .count) (a .rows .now) (a .i) (c .before .before .if1 .left)))
 
 pub length-of-spec : {M : Type 1} → statement M
 length-of-spec =
     tie.close
-    (tie.spec returns wide-usize-requires mul-number add-number number-requires returns-2)
+    (tie.spec returns wide-usize-requires mul-number-at add-number-at number-at-requires returns-2)

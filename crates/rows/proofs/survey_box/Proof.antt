@@ -1,12 +1,11 @@
 use mathlib.Core.Bool.{Bool, true, false, not, true≢false}
 use mathlib.Core.Path.{_≡_, refl, sym, _∙_, ap₂}
-use native.Mathlib.Omega.{arith}
 use lib.IntN.{ℤ}
 use borrow.Author.Needs.{needs}
 use Rattle.model.specs.Courses.{lowRow, lowColumn}
 use Rattle.model.specs.Values.{offsetsOf}
 use Rattle.geometry.proofs.EntryLaws.{entry-back}
-use Rattle.geometry.proofs.GridLaws.{some-references, few-references}
+use Rattle.geometry.proofs.GridLaws.{few-references}
 use Rattle.rows.specs.Boxing.{placedIn}
 use Rattle.rows.proofs.WindowLaws.{low-row, low-column}
 use Rattle.rows.proofs.SurveyLaws.{box-refused, box-sizes, box-accepted}
@@ -17,10 +16,10 @@ cast-n : tie.Need-cast-n
 cast-n c = search needs
 
 low-in-requires : tie.Need-low-in-requires
-low-in-requires c κs = let s = c .before .before .before in (some-references (s .args .window) (s .pre .1 .count-pass), few-references (s .args .window) (s .pre .1 .count-pass), omega arith)
+low-in-requires c κs = search needs
 
 low-in-requires-2 : tie.Need-low-in-requires-2
-low-in-requires-2 c κs = let s = c .before .before .before .before .before in (some-references (s .args .window) (s .pre .1 .count-pass), few-references (s .args .window) (s .pre .1 .count-pass), omega arith)
+low-in-requires-2 c κs = search needs
 
 placed-at-requires : tie.Need-placed-at-requires
 placed-at-requires c κs = search needs
@@ -36,13 +35,15 @@ at-is : (p : tie.After-placed-at) →
     let a = start p .args in
     p .placed-at .result ≡ placedIn (a .count) (a .bounds .lowest) (a .bounds .highest) (lowRow (offsetsOf 2 (a .window))) (lowColumn (offsetsOf 2 (a .window)))
 at-is p =
-    let a = start p .args in
+    let s = start p in
+    let a = s .args in
+    let few = few-references (a .window) (s .pre .1 .count-pass) in
     let first = p .before .before .before in
     let second = p .before in
     p .placed-at .ensures
     ∙ ap₂ (λ (x y : ℤ). placedIn (a .count) (a .bounds .lowest) (a .bounds .highest) x y)
-    (entry-back (first .low-in .result) (first .low-in .ok) ∙ first .low-in .ensures ∙ sym (low-row (a .window)))
-    (entry-back (second .low-in2 .result) (second .low-in2 .ok) ∙ second .low-in2 .ensures ∙ sym (low-column (a .window)))
+    (entry-back (first .low-in .result) (first .low-in .ok) ∙ first .low-in .ensures ∙ low-row (a .window) few)
+    (entry-back (second .low-in2 .result) (second .low-in2 .ok) ∙ second .low-in2 .ensures ∙ low-column (a .window) few)
 
 -- What was tested.
 is-placed : (b : Bool) → not b ≡ false → b ≡ true

@@ -5,7 +5,7 @@ use native.Mathlib.Omega.{arith}
 use lib.ListN.{length}
 use lib.Seq.{length-take-le}
 use borrow.Author.Needs.{needs}
-use Rattle.kernel.proofs.TableLaws.{table-fits, table-terms}
+use Rattle.kernel_terms.proofs.TableLaws.{table-fits, table-terms}
 use Rattle.run_glide.specs.Glides.{Sound}
 use Rattle.run_glide.proofs.SlideLaws.{row-left, row-some, by-wait}
 use Rattle.run_glide.proofs.GlidingLaws.{named, sound}

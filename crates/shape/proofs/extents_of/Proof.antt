@@ -1,14 +1,15 @@
 -- The loop's invariant: the first d places are filled.
 use Prim.Native.Nat.{_-_, _≤_}
-use mathlib.Core.Path.{_≡_, _∙_, ap}
+use mathlib.Core.Path.{_∙_, ap}
 use native.Mathlib.Omega.{arith}
-use lib.IntN.{ℤ, pos}
+use lib.IntN.{pos}
 use lib.ListN.{getD}
 use borrow.Author.Needs.{needs}
-use Rattle.model.specs.Geometry.{least, extent}
+use Rattle.model.specs.Geometry.{extent}
 use Rattle.geometry.specs.Parts.{numberAt, entriesIn, Filled}
 use Rattle.geometry.proofs.FillLaws.{filled-none, filled-more, filled-up-to}
-use Rattle.shape.proofs.SpanLaws.{spanAbove, extent-is}
+use Rattle.shape.proofs.ShapeLaws.{extent-is}
+use Rattle.windows.specs.Lows.{spanIn}
 use Rattle.geometry.proofs.EntryLaws.{entry-back}
 use Rattle.shape.proofs.extents_of.Statement.{statement}
 use Rattle.shape.proofs.extents_of.Tie as tie
@@ -58,13 +59,13 @@ loop-again c =
     let l = c .before .before .before .before .before in
     let a = l .before .args in
     let d = l .loop .d in
-    let es = entriesIn (a .count) (a .offsets .now) d in
     let low = getD (a .lows .now) d (pos 0) in
-    let span = c .before .before .span-in .ensures ∙ ap (λ (z : ℤ). spanAbove z es) (entry-back low (c .before .before .before .low .given)) in
-    let is-low : low ≡ least es = l .before .pre .2 .done d (omega arith) in (
+    let span = c .before .before .span-in .ensures ∙ ap (spanIn (a .count) (a .offsets .now) d) (entry-back low (c .before .before .before .low .given)) in
+    let is-low = l .before .pre .2 .done d (omega arith) in (
       omega arith,
       filled-more 4 0 (λ i. extent (numberAt (a .sizes .now) i) (entriesIn (a .count) (a .offsets .now) i)) d (l .loop .extents) _ (omega arith)
-          (c .less .ensures ∙ ap (_-_ (numberAt (a .sizes .now) d)) span ∙ extent-is (numberAt (a .sizes .now) d) es low is-low) (l .loop .inv .1),
+          (c .less .ensures ∙ ap (_-_ (numberAt (a .sizes .now) d)) span ∙ extent-is (numberAt (a .sizes .now) d) (a .count) (a .offsets .now) d low (omega arith) (omega arith) is-low)
+          (l .loop .inv .1),
     )
 
 returns : tie.Need-returns Inv-loop μ-loop

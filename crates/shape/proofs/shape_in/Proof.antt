@@ -5,7 +5,9 @@ use borrow.Author.Needs.{needs}
 use Rattle.model.specs.Values.{sizesOf, offsetsOf}
 use Rattle.model.specs.declared.Window.{Window}
 use Rattle.grid_laws.proofs.Rectangles.{iterationCount}
-use Rattle.geometry.proofs.GridLaws.{few-dimensions, some-references, few-references}
+use Rattle.geometry.proofs.GridLaws.{few-dimensions, few-references}
+use Rattle.geometry.specs.Parts.{Lows}
+use Rattle.windows.proofs.LowLaws.{lows-there}
 use Rattle.shape.proofs.ShapeLaws.{
   small-sizes,
   cells-are,
@@ -40,15 +42,20 @@ cast-dims : tie.Need-cast-dims
 cast-dims c = search needs
 
 lows-of-requires : tie.Need-lows-of-requires
-lows-of-requires c κs =
-    let s = c .before .before in
-    (some-references (window s) (s .pre .1), few-references (window s) (s .pre .1), few-dimensions (s .args .grid) (s .pre .0))
+lows-of-requires c κs = search needs
+
+-- The lows that were found.
+lows-are : (l : tie.After-lows-of) → let a = from-lows l .args in Lows (a .grid .dims) (a .count) (a .offsets .now) (l .lows-of .result)
+lows-are l =
+    let s = from-lows l in
+    lows-there (s .args .grid .dims) (s .args .count) (s .args .offsets .now) (l .lows-of .result) (l .lows-of .ensures)
+    (few-dimensions (s .args .grid) (s .pre .0)) (few-references (window s) (s .pre .1))
 
 extents-of-requires : tie.Need-extents-of-requires
 extents-of-requires c κs =
     let l = c .before .before in
     let s = from-lows l in
-    (few-references (window s) (s .pre .1), few-dimensions (s .args .grid) (s .pre .0), l .lows-of .ensures)
+    (few-references (window s) (s .pre .1), few-dimensions (s .args .grid) (s .pre .0), lows-are l)
 
 product-requires : tie.Need-product-requires
 product-requires c κs =
@@ -98,7 +105,7 @@ places-of-requires c κs =
     let s = from-lows l in (
       few-references (window s) (s .pre .1),
       few-dimensions (s .args .grid) (s .pre .0),
-      place-small (s .args .grid) (window s) (s .pre .0) (s .pre .1) (t .strides-of .result) (t .strides-of .ensures) (l .lows-of .result) (l .lows-of .ensures) (some e),
+      place-small (s .args .grid) (window s) (s .pre .0) (s .pre .1) (t .strides-of .result) (t .strides-of .ensures) (l .lows-of .result) (lows-are l) (some e),
     )
 
 returns-2 : tie.Need-returns-2
@@ -113,7 +120,7 @@ returns-2 c =
     (is-count (e .before))
     (extents-are (s .args .grid) (window s) (s .pre .0) (s .pre .1) (x .extents-of .result) (x .extents-of .ensures))
     (strides-are (s .args .grid) (window s) (s .pre .0) (s .pre .1) (t .strides-of .result) (t .strides-of .ensures))
-    (places-are (s .args .grid) (window s) (s .pre .0) (s .pre .1) (t .strides-of .result) (t .strides-of .ensures) (l .lows-of .result) (l .lows-of .ensures) (some e)
+    (places-are (s .args .grid) (window s) (s .pre .0) (s .pre .1) (t .strides-of .result) (t .strides-of .ensures) (l .lows-of .result) (lows-are l) (some e)
     (c .places-of .result) (c .places-of .ensures))
     ∙ whole-shape (s .args .grid) (window s) (s .pre .0) (s .pre .1) (λ z. e .if1 .left (is-count (e .before) ∙ z))
 

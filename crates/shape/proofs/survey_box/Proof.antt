@@ -2,7 +2,9 @@ use mathlib.Core.Bool.{Bool, true, false, not, true≢false}
 use mathlib.Core.Path.{_≡_, refl, sym, _∙_}
 use native.Mathlib.Omega.{arith}
 use borrow.Author.Needs.{needs}
-use Rattle.geometry.proofs.GridLaws.{few-dimensions, some-references, few-references}
+use Rattle.geometry.proofs.GridLaws.{few-dimensions, few-references}
+use Rattle.geometry.specs.Parts.{Lows}
+use Rattle.windows.proofs.LowLaws.{lows-there}
 use Rattle.shape.proofs.BoxingLaws.{refused-box, small-widths, reads-small, behind-small, accepted-box, extents-there}
 use Rattle.shape.proofs.survey_box.Statement.{statement}
 use Rattle.shape.proofs.survey_box.Tie as tie
@@ -14,9 +16,7 @@ cast-n : tie.Need-cast-n
 cast-n c = search needs
 
 lows-of-requires : tie.Need-lows-of-requires
-lows-of-requires c κs =
-    let s = c .before .before .before .before in
-    (some-references (s .args .window) (s .pre .1 .count), few-references (s .args .window) (s .pre .1 .count), few-dimensions (s .args .grid) (s .pre .1 .grid))
+lows-of-requires c κs = search needs
 
 place-box-requires : tie.Need-place-box-requires
 place-box-requires c κs = let s = c .before .before .before .before .before .before .before .before in few-dimensions (s .args .grid) (s .pre .1 .grid)
@@ -30,6 +30,12 @@ start p = p .before .before .before .before .before .before .before .before .bef
 
 abbrev lows : tie.After-place-box → tie.After-lows-of
 lows p = p .before .before .before .before
+
+lows-are : (p : tie.After-place-box) → let a = start p .args in Lows (a .grid .dims) (a .window .count) (a .window .offsets) (lows p .lows-of .result)
+lows-are p =
+    let s = start p in
+    lows-there (s .args .grid .dims) (s .args .window .count) (s .args .window .offsets) (lows p .lows-of .result) (lows p .lows-of .ensures)
+    (few-dimensions (s .args .grid) (s .pre .1 .grid)) (few-references (s .args .window) (s .pre .1 .count))
 
 -- What was tested.
 placed : (b : Bool) → not b ≡ false → b ≡ true
@@ -46,7 +52,7 @@ returns c =
     let s = start p in
     let a = s .args in
     c .unsurveyed .ensures
-    ∙ refused-box (a .grid) (a .window) (a .bounds) (s .pre .1 .grid) (s .pre .1 .count) (lows p .lows-of .result) (lows p .lows-of .ensures) (a .whole .extents)
+    ∙ refused-box (a .grid) (a .window) (a .bounds) (s .pre .1 .grid) (s .pre .1 .count) (lows p .lows-of .result) (lows-are p) (a .whole .extents)
     (extents-there (a .grid) (a .window) (a .centre) (a .whole) (s .pre .1)) (a .centre) (a .whole) (p .place-box .result) (s .pre .1) (s .pre .0) (p .place-box .ensures)
     (not-placed (p .place-box .result .fits) (c .before .if1 .taken))
 
@@ -56,7 +62,7 @@ cells-behind-requires c κs =
     let s = start p in
     let a = s .args in (
       few-dimensions (a .grid) (s .pre .1 .grid),
-      behind-small (a .grid) (a .window) (a .bounds) (s .pre .1 .grid) (s .pre .1 .count) (lows p .lows-of .result) (lows p .lows-of .ensures) (a .whole .extents)
+      behind-small (a .grid) (a .window) (a .bounds) (s .pre .1 .grid) (s .pre .1 .count) (lows p .lows-of .result) (lows-are p) (a .whole .extents)
           (extents-there (a .grid) (a .window) (a .centre) (a .whole) (s .pre .1)) (a .centre) (a .whole) (p .place-box .result) (s .pre .1) (s .pre .0) (p .place-box .ensures)
           (placed (p .place-box .result .fits) (c .before .before .before .before .before .if1 .left)),
     )
@@ -68,7 +74,7 @@ further-requires c κs =
     let a = s .args in (
       few-references (a .window) (s .pre .1 .count),
       λ k h. rw (c .before .before .cells-behind .ensures)
-          (reads-small (a .grid) (a .window) (a .bounds) (s .pre .1 .grid) (s .pre .1 .count) (lows p .lows-of .result) (lows p .lows-of .ensures) (a .whole .extents)
+          (reads-small (a .grid) (a .window) (a .bounds) (s .pre .1 .grid) (s .pre .1 .count) (lows p .lows-of .result) (lows-are p) (a .whole .extents)
           (extents-there (a .grid) (a .window) (a .centre) (a .whole) (s .pre .1)) (a .centre) (a .whole) (p .place-box .result) (s .pre .1) (s .pre .0) (p .place-box .ensures)
           (placed (p .place-box .result .fits) (c .before .before .before .before .before .before .before .before .if1 .left)) k h),
     )
@@ -80,7 +86,7 @@ product-requires c κs =
     let a = s .args in (
       omega arith,
       few-dimensions (a .grid) (s .pre .1 .grid),
-      small-widths (a .grid) (a .window) (a .bounds) (s .pre .1 .grid) (s .pre .1 .count) (lows p .lows-of .result) (lows p .lows-of .ensures) (a .whole .extents)
+      small-widths (a .grid) (a .window) (a .bounds) (s .pre .1 .grid) (s .pre .1 .count) (lows p .lows-of .result) (lows-are p) (a .whole .extents)
           (extents-there (a .grid) (a .window) (a .centre) (a .whole) (s .pre .1)) (a .centre) (a .whole) (p .place-box .result) (s .pre .1) (s .pre .0) (p .place-box .ensures)
           (placed (p .place-box .result .fits) (c .before .before .before .before .before .before .before .before .before .before .if1 .left)),
     )
@@ -90,7 +96,7 @@ returns-2 c =
     let p = c .before .before .before .before .before .before .before .before .before .before .before .before .before in
     let s = start p in
     let a = s .args in
-    accepted-box (a .grid) (a .window) (a .bounds) (s .pre .1 .grid) (s .pre .1 .count) (lows p .lows-of .result) (lows p .lows-of .ensures) (a .whole .extents)
+    accepted-box (a .grid) (a .window) (a .bounds) (s .pre .1 .grid) (s .pre .1 .count) (lows p .lows-of .result) (lows-are p) (a .whole .extents)
     (extents-there (a .grid) (a .window) (a .centre) (a .whole) (s .pre .1)) (a .centre) (a .whole) (p .place-box .result) (s .pre .1) (s .pre .0) (p .place-box .ensures)
     (placed (p .place-box .result .fits) (c .before .before .before .before .before .before .before .before .before .before .before .if1 .left)) _ _ (c .product .ensures) (rw (c .before .before .before .before .before .cells-behind .ensures) at (c .before .before .further .ensures))
 

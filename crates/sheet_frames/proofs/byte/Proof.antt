@@ -16,23 +16,29 @@ returns c =
     let a = c .before .before .args in
     (sym (byte-none (a .line .now) (a .i) (c .if1 .taken)), omega arith)
 
-shared-slice-read-counts : tie.Need-shared-slice-read-counts
-shared-slice-read-counts c = search needs
+shared-slice-read-value-of : tie.Need-shared-slice-read-value-of
+shared-slice-read-value-of c = search needs
 
-counts-requires : tie.Need-counts-requires
-counts-requires c κs = search needs
+value-of-requires : tie.Need-value-of-requires
+value-of-requires c κs = search needs
+
+cast-result : tie.Need-cast-result
+cast-result c = search needs
 
 mul-result : tie.Need-mul-result
 mul-result c = search needs
 
-add-counts : tie.Need-add-counts
-add-counts c = search needs
+add-value-of : tie.Need-add-value-of
+add-value-of c = search needs
 
-shared-slice-read-counts-2 : tie.Need-shared-slice-read-counts-2
-shared-slice-read-counts-2 c = search needs
+shared-slice-read-value-of-2 : tie.Need-shared-slice-read-value-of-2
+shared-slice-read-value-of-2 c = search needs
 
-counts-requires-2 : tie.Need-counts-requires-2
-counts-requires-2 c κs = search needs
+value-of-requires-2 : tie.Need-value-of-requires-2
+value-of-requires-2 c κs = search needs
+
+cast-result-2 : tie.Need-cast-result-2
+cast-result-2 c = search needs
 
 add-result : tie.Need-add-result
 add-result c = search needs
@@ -42,7 +48,7 @@ returns-2 c =
     let h = c .before .before in
     let e = h .before .before in
     let a = e .before .before .args in
-    (rw (h .counts .ensures .0, c .counts2 .ensures .0) (sym (byte-some (a .line .now) (a .i) (e .if1 .left))), omega (arith, h .counts .ensures .1, c .counts2 .ensures .1))
+    (rw (h .value-of .ensures .0, c .value-of2 .ensures .0) (sym (byte-some (a .line .now) (a .i) (e .if1 .left))), omega (arith, h .value-of .ensures .1, c .value-of2 .ensures .1))
 
 pub byte-spec : {M : Type 1} → statement M
 byte-spec =
@@ -51,11 +57,13 @@ byte-spec =
     mul-at
     add-if1
     returns
-    shared-slice-read-counts
-    counts-requires
+    shared-slice-read-value-of
+    value-of-requires
+    cast-result
     mul-result
-    add-counts
-    shared-slice-read-counts-2
-    counts-requires-2
+    add-value-of
+    shared-slice-read-value-of-2
+    value-of-requires-2
+    cast-result-2
     add-result
     returns-2)

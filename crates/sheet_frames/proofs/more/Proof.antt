@@ -57,7 +57,7 @@ loop-again c =
     (search needs, goes-on a _ (fed-other _ _ (sym (a .is-digit .ensures) ∙ not-true _ (c .if1 .taken))))
 
 value-of-requires : tie.Need-value-of-requires Inv-loop μ-loop
-value-of-requires c κs = digit c
+value-of-requires c κs = search needs
 
 loop-less-2 : tie.Need-loop-less-2 Inv-loop μ-loop
 loop-less-2 c = search needs
@@ -67,11 +67,8 @@ loop-again-2 c =
     let v = c .before in
     (search needs, goes-on (v .before .before) _ (fed-high _ _ (digit (v .before)) _ (v .value-of .ensures .0) (not-true _ (c .if2 .taken))))
 
-mul-first : tie.Need-mul-first Inv-loop μ-loop
-mul-first c = search needs
-
-add-first : tie.Need-add-first Inv-loop μ-loop
-add-first c = search needs
+byte-of-requires : tie.Need-byte-of-requires Inv-loop μ-loop
+byte-of-requires c κs = search needs
 
 array-write-first : tie.Need-array-write-first Inv-loop μ-loop
 array-write-first c = search needs
@@ -84,10 +81,10 @@ loop-less-3 c = search needs
 
 loop-again-3 : tie.Need-loop-again-3 Inv-loop μ-loop
 loop-again-3 c =
-    let v = c .before .before in (
+    let v = c .before .before .before in (
       search needs,
       goes-on (v .before .before) _
-          (fed-kept _ _ (digit (v .before)) _ (v .value-of .ensures .0) (not-false _ (c .before .if2 .left)) (c .if3 .taken)),
+          (fed-kept _ _ (digit (v .before)) _ (v .value-of .ensures .0) _ (c .byte-of .ensures) (not-false _ (c .before .before .if2 .left)) (c .before .if3 .taken)),
     )
 
 add-len-2 : tie.Need-add-len-2 Inv-loop μ-loop
@@ -132,8 +129,7 @@ more-spec =
     value-of-requires
     loop-less-2
     loop-again-2
-    mul-first
-    add-first
+    byte-of-requires
     array-write-first
     add-len
     add-len-2

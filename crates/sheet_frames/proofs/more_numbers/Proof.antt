@@ -52,7 +52,7 @@ loop-again c =
     )
 
 value-of-requires : tie.Need-value-of-requires Inv-loop μ-loop
-value-of-requires c κs = digit c
+value-of-requires c κs = search needs
 
 loop-less-2 : tie.Need-loop-less-2 Inv-loop μ-loop
 loop-less-2 c = search needs
@@ -68,11 +68,8 @@ loop-again-2 c =
           ∙ l .loop .inv .2,
     )
 
-mul-put-byte : tie.Need-mul-put-byte Inv-loop μ-loop
-mul-put-byte c = search needs
-
-add-put-byte : tie.Need-add-put-byte Inv-loop μ-loop
-add-put-byte c = search needs
+byte-of-requires : tie.Need-byte-of-requires Inv-loop μ-loop
+byte-of-requires c κs = search needs
 
 put-byte-requires : tie.Need-put-byte-requires Inv-loop μ-loop
 put-byte-requires c κs = search needs
@@ -86,13 +83,14 @@ loop-less-3 c = search needs
 loop-again-3 : tie.Need-loop-again-3 Inv-loop μ-loop
 loop-again-3 c =
     let p = c .before .before .before in
-    let e = p .before .before in
+    let b = p .before in
+    let e = b .before .before in
     let v = e .before in
     let t = v .before .before .before .before in
     let l = t .before in (
       omega arith,
       p .put-byte .kept .0 ∙ l .loop .inv .1,
-      past-counted (l .loop .numbers) (piece l) (l .loop .i) (t .loop-test .taken) (digit (v .before)) (v .value-of .result) (v .value-of .ensures .0) _ _ _ (not-false _ (e .if2 .left)) _ (p .put-byte .ensures) (c .if3 .taken)
+      past-counted (l .loop .numbers) (piece l) (l .loop .i) (t .loop-test .taken) (digit (v .before)) (v .value-of .result) (v .value-of .ensures .0) _ _ _ (not-false _ (e .if2 .left)) _ (b .byte-of .ensures) _ (p .put-byte .ensures) (c .if3 .taken)
           ∙ l .loop .inv .2,
     )
 
@@ -102,13 +100,14 @@ loop-less-4 c = search needs
 loop-again-4 : tie.Need-loop-again-4 Inv-loop μ-loop
 loop-again-4 c =
     let p = c .before .before .before in
-    let e = p .before .before in
+    let b = p .before in
+    let e = b .before .before in
     let v = e .before in
     let t = v .before .before .before .before in
     let l = t .before in (
       omega arith,
       p .put-byte .kept .0 ∙ l .loop .inv .1,
-      past-uncounted (l .loop .numbers) (piece l) (l .loop .i) (t .loop-test .taken) (digit (v .before)) (v .value-of .result) (v .value-of .ensures .0) _ _ _ (not-false _ (e .if2 .left)) _ (p .put-byte .ensures) (c .if3 .left)
+      past-uncounted (l .loop .numbers) (piece l) (l .loop .i) (t .loop-test .taken) (digit (v .before)) (v .value-of .result) (v .value-of .ensures .0) _ _ _ (not-false _ (e .if2 .left)) _ (b .byte-of .ensures) _ (p .put-byte .ensures) (c .if3 .left)
           ∙ l .loop .inv .2,
     )
 
@@ -137,8 +136,7 @@ more-numbers-spec =
     value-of-requires
     loop-less-2
     loop-again-2
-    mul-put-byte
-    add-put-byte
+    byte-of-requires
     put-byte-requires
     add-len
     loop-less-3

@@ -66,7 +66,7 @@ loop-again c =
     let h = c .before in
     let l = h .before .before .before in (
       omega arith,
-      ap (λ ns. set ns (l .loop .k) (h .byte .result * 256 + c .byte2 .result)) (l .loop .inv .1)
+      ap (λ numbers. set numbers (l .loop .k) (h .byte .result * 256 + c .byte2 .result)) (l .loop .inv .1)
           ∙ first-more (bytesOf (l .before .before .args .line .now)) (l .loop .k) (h .byte .result) (c .byte2 .result) (h .byte .ensures .0) (c .byte2 .ensures .0),
     )
 

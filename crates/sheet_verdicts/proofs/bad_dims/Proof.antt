@@ -1,19 +1,16 @@
+use borrow.Author.Needs.{needs}
 use borrow.Author.Tests.{eq-eqb, ne-eqb}
-use Rattle.model.specs.Judging.{badDims}
 use Rattle.sheet_verdicts.proofs.bad_dims.Statement.{statement}
 use Rattle.sheet_verdicts.proofs.bad_dims.Tie as tie
 
 returns : tie.Need-returns
-unfolding badDims
 returns c = simp (ne-eqb _ _ (c .if1 .taken))
 
-returns-2 : tie.Need-returns-2
-unfolding badDims
-returns-2 c = simp (eq-eqb _ _ (c .before .if1 .left), eq-eqb _ _ (c .if2 .taken))
+bad-dims-requires : tie.Need-bad-dims-requires
+bad-dims-requires c κs = search needs
 
-returns-3 : tie.Need-returns-3
-unfolding badDims
-returns-3 c = simp (eq-eqb _ _ (c .before .if1 .left), ne-eqb _ _ (c .if2 .left))
+returns-2 : tie.Need-returns-2
+returns-2 c = simp (eq-eqb _ _ (c .before .if1 .left)) (c .bad-dims .ensures)
 
 pub bad-dims-spec : {M : Type 1} → statement M
-bad-dims-spec = tie.close (tie.spec returns returns-2 returns-3)
+bad-dims-spec = tie.close (tie.spec returns bad-dims-requires returns-2)

@@ -2,7 +2,7 @@ use super::call::{call, Given, Lengths, Lent, BEHIND};
 use super::sheets::number;
 use crate::dice::Dice;
 use crate::draft::Draft;
-use crate::native;
+use zohmirka::native;
 use crate::round::{Differs, Round};
 use crate::tally::Function;
 use crate::words::{

@@ -1,6 +1,6 @@
 use crate::dice::Dice;
 use crate::draft::Draft;
-use crate::native;
+use zohmirka::native;
 use crate::round::{Differs, Round};
 use crate::words::{CHAIN_WORDS, ROW_WORDS, STATE_WORDS};
 use straight::judge::capacity_sum;

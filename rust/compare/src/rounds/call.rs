@@ -1,4 +1,4 @@
-use crate::native::{self, Report};
+use zohmirka::native::{self, Report};
 use crate::round::{Differs, Round};
 use crate::tally::Function;
 use crate::words::{put_state, report_of, state_of, CHAIN_WORDS, STATE_WORDS};

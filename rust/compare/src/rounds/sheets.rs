@@ -1,7 +1,7 @@
 use crate::damage::damage;
 use crate::dice::Dice;
 use crate::draft::Draft;
-use crate::native;
+use zohmirka::native;
 use crate::round::{Differs, Round};
 use crate::tally::Function;
 use crate::words::{chain_words, row_words, CHAIN_WORDS, ROW_WORDS};

@@ -2,7 +2,7 @@ use super::sheets::number;
 use crate::dice::Dice;
 use crate::draft::{offsets_of, Draft};
 use crate::ground::{Ground, Span};
-use crate::native;
+use zohmirka::native;
 use crate::round::{Differs, Round};
 use crate::tally::Function;
 use crate::words::{chain_of, CHAIN_WORDS, ROW_WORDS};

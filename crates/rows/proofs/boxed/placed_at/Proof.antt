@@ -4,7 +4,7 @@ use lib.IntN.{ℤ, pos}
 use lib.ListN.{getD}
 use borrow.Author.Needs.{needs}
 use Rattle.geometry.proofs.EntryLaws.{entry-back}
-use Rattle.shape.proofs.BoxingLaws.{index-back}
+use Rattle.windows.proofs.IndexLaws.{index-back}
 use Rattle.rows.specs.Boxing.{spanBetween}
 use Rattle.rows.proofs.FitLaws.{placed-from}
 use Rattle.rows.proofs.boxed.placed_at.Statement.{statement}

@@ -3,8 +3,8 @@ use mathlib.Core.Path.{_∙_, ap₂}
 use lib.IntN.{ℤ}
 use borrow.Author.Needs.{needs}
 use Rattle.geometry.proofs.EntryLaws.{entry-back}
-use Rattle.shape.specs.Boxing.{indexIn}
-use Rattle.shape.proofs.BoxingLaws.{index-back}
+use Rattle.windows.specs.Lows.{indexIn}
+use Rattle.windows.proofs.IndexLaws.{index-back}
 use Rattle.rows.specs.Boxing.{spanIn}
 use Rattle.rows.proofs.boxed.span_between.Statement.{statement}
 use Rattle.rows.proofs.boxed.span_between.Tie as tie

@@ -24,23 +24,23 @@ returns-2 c =
     let a = c .before .before .before .before .before .args in
     (omega (arith, start-past (a .count) (a .rows .now) (a .down + a .u) (omega arith)), omega (arith, end-past (a .count) (a .rows .now) (a .down + a .u) (omega arith)))
 
-mul-number : tie.Need-mul-number
-mul-number c = search needs
+mul-number-at : tie.Need-mul-number-at
+mul-number-at c = search needs
 
-number-requires : tie.Need-number-requires
-number-requires c κs = search needs
+number-at-requires : tie.Need-number-at-requires
+number-at-requires c κs = search needs
 
 wide-usize-requires-3 : tie.Need-wide-usize-requires-3
 wide-usize-requires-3 c κs = search needs
 
-mul-number-2 : tie.Need-mul-number-2
-mul-number-2 c = search needs
+mul-number-at-2 : tie.Need-mul-number-at-2
+mul-number-at-2 c = search needs
 
-add-number : tie.Need-add-number
-add-number c = search needs
+add-number-at : tie.Need-add-number-at
+add-number-at c = search needs
 
-number-requires-2 : tie.Need-number-requires-2
-number-requires-2 c κs = search needs
+number-at-requires-2 : tie.Need-number-at-requires-2
+number-at-requires-2 c κs = search needs
 
 wide-usize-requires-4 : tie.Need-wide-usize-requires-4
 wide-usize-requires-4 c κs = search needs
@@ -66,12 +66,12 @@ row-below-spec =
     wide-usize-requires-2
     add-i
     returns-2
-    mul-number
-    number-requires
+    mul-number-at
+    number-at-requires
     wide-usize-requires-3
-    mul-number-2
-    add-number
-    number-requires-2
+    mul-number-at-2
+    add-number-at
+    number-at-requires-2
     wide-usize-requires-4
     add-end
     returns-3)

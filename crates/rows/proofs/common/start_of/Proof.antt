@@ -20,11 +20,11 @@ add-i c = search needs
 returns-2 : tie.Need-returns-2
 returns-2 c = let a = c .before .before .before .before .before .args in omega (arith, start-past (a .count) (a .rows .now) (a .down + a .u) (omega arith))
 
-mul-number : tie.Need-mul-number
-mul-number c = search needs
+mul-number-at : tie.Need-mul-number-at
+mul-number-at c = search needs
 
-number-requires : tie.Need-number-requires
-number-requires c κs = search needs
+number-at-requires : tie.Need-number-at-requires
+number-at-requires c κs = search needs
 
 wide-usize-requires-3 : tie.Need-wide-usize-requires-3
 wide-usize-requires-3 c κs = search needs
@@ -41,7 +41,7 @@ start-of-spec =
     wide-usize-requires-2
     add-i
     returns-2
-    mul-number
-    number-requires
+    mul-number-at
+    number-at-requires
     wide-usize-requires-3
     returns-3)

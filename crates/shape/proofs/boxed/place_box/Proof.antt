@@ -12,9 +12,10 @@ use borrow.Author.Needs.{needs}
 use Rattle.geometry.specs.Parts.{numberAt, Filled}
 use Rattle.geometry.proofs.FillLaws.{filled-none, filled-more, filled-up-to}
 use Rattle.geometry.proofs.EntryLaws.{entry-back}
-use Rattle.shape.specs.Boxing.{indexIn, noPlace, firstAt, lastAt, LiesIn, PlacedIn}
+use Rattle.shape.specs.Boxing.{noPlace, firstAt, lastAt, LiesIn, PlacedIn}
 use Rattle.shape.specs.declared.boxed.Placed.{Placed}
-use Rattle.shape.proofs.BoxingLaws.{index-back}
+use Rattle.windows.proofs.IndexLaws.{index-back}
+use Rattle.windows.specs.Lows.{indexIn}
 use Rattle.shape.proofs.boxed.place_box.Statement.{statement}
 use Rattle.shape.proofs.boxed.place_box.Tie as tie
 

@@ -30,7 +30,7 @@ start l = counted l .before .before .before
 long : (l : tie.At-loop Inv-loop μ-loop) → length (l .loop .out) ≡ length (start l .args .out .now)
 long l = l .loop .inv .2 ∙ ap length (first-put l .put-number .ensures .1) ∙ simp (length-sets, length-set) refl
 
-inside : (c : tie.After-number Inv-loop μ-loop) → c .before .before .loop .i < 2 * start (c .before .before) .args .count
+inside : (c : tie.After-number-at Inv-loop μ-loop) → c .before .before .loop .i < 2 * start (c .before .before) .args .count
 inside c = omega (arith, c .before .loop-test .taken, counted (c .before .before) .wide-usize .ensures .0)
 
 room : (t : tie.In-loop Inv-loop μ-loop) → t .before .loop .at + 4 ≤ length (t .before .loop .out)
@@ -71,8 +71,8 @@ loop-holds c =
     let e = c .before .before .put-number .ensures in
     (omega arith, omega (arith, e .0), refl, rw (e .0))
 
-number-requires : tie.Need-number-requires Inv-loop μ-loop
-number-requires c κs = search needs
+number-at-requires : tie.Need-number-at-requires Inv-loop μ-loop
+number-at-requires c κs = search needs
 
 put-number-requires-2 : tie.Need-put-number-requires-2 Inv-loop μ-loop
 put-number-requires-2 c κs =
@@ -80,7 +80,7 @@ put-number-requires-2 c κs =
     let l = k .before .before in
     let s = start l in
     let r = s .args .rows .now in
-    (omega (arith, k .number .ensures, number-fits (s .args .count) r (no-bad-row (s .args .count) r (s .pre .0)) (l .loop .i) (inside k)), room (k .before))
+    (omega (arith, k .number-at .ensures, number-fits (s .args .count) r (no-bad-row (s .args .count) r (s .pre .0)) (l .loop .i) (inside k)), room (k .before))
 
 add-i : tie.Need-add-i Inv-loop μ-loop
 add-i c = omega arith
@@ -99,7 +99,7 @@ loop-again c =
       omega (arith, t .loop-test .taken),
       omega (arith, e .0, l .loop .inv .1),
       ap length (e .1) ∙ simp length-sets (l .loop .inv .2),
-      rw (e .0, e .1, k .number .ensures) (number-on (s .args .rows .now) (l .loop .out) (2 * counted l .wide-usize .result) (l .loop .at) (l .loop .i) (t .loop-test .taken)) ∙ l .loop .inv .3,
+      rw (e .0, e .1, k .number-at .ensures) (number-on (s .args .rows .now) (l .loop .out) (2 * counted l .wide-usize .result) (l .loop .at) (l .loop .i) (t .loop-test .taken)) ∙ l .loop .inv .3,
     )
 
 slice-write-out-3 : tie.Need-slice-write-out-3 Inv-loop μ-loop
@@ -135,7 +135,7 @@ put-rows-spec =
     mul-n
     put-number-requires
     loop-holds
-    number-requires
+    number-at-requires
     put-number-requires-2
     add-i
     loop-less

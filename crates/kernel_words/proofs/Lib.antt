@@ -1,0 +1,2 @@
+pub mod FloatLaws
+pub mod SumLaws

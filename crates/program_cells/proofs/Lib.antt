@@ -1,0 +1,2 @@
+pub mod CellLaws
+pub mod RoomLaws

@@ -1,0 +1,4 @@
+pub mod OffsetLaws
+pub mod LowLaws
+pub mod IndexLaws
+pub mod SumLaws
