@@ -1,6 +1,6 @@
 // Skewed grids for the cases: rows as their starts and lengths, at most 200 of them, and their cells laid into the rectangle
 // around them, where the nested loop reads.
-use values::wide_usize;
+use numbers::wide_usize;
 
 // The rectangle around every map has so many columns.
 pub(crate) const COLUMNS: usize = 300;

@@ -21,8 +21,8 @@ use nested::windows::flat;
 use nested::windows::over_box;
 use nested::windows::small;
 use nested::windows::solid;
+use numbers::wide_usize;
 use std::num::wrapping_add_usize;
-use values::wide_usize;
 
 fn text(s: &[u8]) {
     io::write_all(STDOUT_FILENO, s);

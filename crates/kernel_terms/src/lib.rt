@@ -1,7 +1,7 @@
 // The filters whose words a kernel adds, and how many words it writes (document 01, "Kernels").
 use model::Kernel;
 use model::Order;
-use values::lesser;
+use numbers::lesser;
 ghost use mathlib.Core.Bool.{cond};
 ghost use mathlib.Core.Path.{_≡_};
 ghost use Prim.Native.Nat.{ℕ, _≤_, _<_, min};

@@ -1,5 +1,5 @@
 // Document 003, section 3.3.3: the sum of the FIFOs' sizes.
-use values::wide;
+use numbers::wide;
 ghost use mathlib.Core.Path.{_≡_};
 ghost use Prim.Native.Nat.{_-_, _≤_, _<_};
 ghost use Rattle.model.specs.Lists.{tabulate, sum};

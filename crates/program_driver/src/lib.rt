@@ -2,10 +2,10 @@
 use model::Chain;
 use model::Ran;
 use model::State;
+use numbers::lesser;
 use program_jobs::Job;
 use program_stages::Stage;
 use values::counts_of;
-use values::lesser;
 ghost use mathlib.Core.Path.{_≡_};
 ghost use Prim.Native.Nat.{_+_, _≤_};
 ghost use lib.ListN.{length};

@@ -2,7 +2,7 @@
 use hexadecimal::high_digit;
 use hexadecimal::low_digit;
 use model::Refusal;
-use values::lesser;
+use numbers::lesser;
 use values::number_of;
 ghost use mathlib.Core.Path.{_≡_};
 ghost use Prim.Native.Nat.{_+_, _*_, _≤_, _<_};

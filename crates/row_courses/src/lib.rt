@@ -4,9 +4,11 @@ use model::Bounds;
 use model::MOST_ROWS;
 use model::Verdict;
 use model::Window;
+use numbers::greater_u32;
+use numbers::less;
+use numbers::lesser;
+use numbers::wide_usize;
 use rows::RowCourse;
-use values::lesser;
-use values::wide_usize;
 ghost use mathlib.Core.Path.{_≡_};
 ghost use Prim.Native.Nat.{ℕ, _+_, _-_, _≤_, _<_, min, max};
 ghost use Rattle.model.specs.Grounds.{row, cellsAbove};
@@ -72,16 +74,6 @@ pub fn row_of(above: &[u32; 513], height: u32, j: u32) -> u32
     from as u32
 }
 
-// x less y; 0 where y is greater.
-fn less(x: usize, y: usize) -> usize
-    ensures { λ r. ⌜ r ≡ x - y ⌝ }
-{
-    if x < y {
-        return 0;
-    }
-    x - y
-}
-
 // Entry i of a table; 0 past its last.
 fn entry(above: &[u32; 513], i: usize) -> usize
     ensures { λ r. ⌜ (r ≡ entryOf (now (above .entry)) i) × (r < 4294967296) ⌝ }
@@ -138,15 +130,6 @@ pub fn reads(
     }
 }
 
-fn greater(x: u32, y: u32) -> u32
-    ensures { λ r. ⌜ r ≡ max x y ⌝ }
-{
-    if x < y {
-        return y;
-    }
-    x
-}
-
 // How far position x lies behind y.
 fn distance(x: usize, y: usize) -> u32
     requires { ⌜ x ≤ mostCells ⌝ }
@@ -166,7 +149,7 @@ fn farther(at: &[usize; 32], r: &[u32; 31], n: usize) -> [u32; 31]
     let mut k: usize = 0;
     while k + 1 < n {
         let far = distance(at[k], at[k + 1]);
-        let most = greater(far, r[k]);
+        let most = greater_u32(far, r[k]);
         to[k] = most;
         k += 1;
     }

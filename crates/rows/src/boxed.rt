@@ -2,7 +2,7 @@
 // begins and how many indices it has, and 15 by the box's rows.
 use super::common;
 use model::Bounds;
-use values::wide_usize;
+use numbers::wide_usize;
 use windows::lows::index_in;
 ghost use mathlib.Core.Path.{_≡_};
 ghost use mathlib.Core.Bool.{true, false};

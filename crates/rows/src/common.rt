@@ -1,9 +1,11 @@
 // Rows of cells, and rows of iterations: the columns that keep each reference inside the row that it reads.
-use values::lesser;
-use values::number_at;
-use values::wide_usize;
+use numbers::greater;
+use numbers::less;
+use numbers::lesser;
+use numbers::number_at;
+use numbers::wide_usize;
 ghost use mathlib.Core.Path.{_≡_};
-ghost use Prim.Native.Nat.{_+_, _-_, _*_, _≤_, _<_, min, max};
+ghost use Prim.Native.Nat.{_+_, _-_, _≤_, min};
 ghost use Rattle.model.specs.Grounds.{Row, row, end as endOf};
 ghost use Rattle.model.specs.Values.{rowsOf};
 ghost use Rattle.rows.specs.Courses.{startIn, endIn, lengthIn};
@@ -16,25 +18,6 @@ pub(crate) fn capped(x: usize) -> u32
         return x as u32;
     }
     1024
-}
-
-// x less y; 0 where y is greater.
-fn less(x: usize, y: usize) -> usize
-    ensures { λ r. ⌜ r ≡ x - y ⌝ }
-{
-    if x < y {
-        return 0;
-    }
-    x - y
-}
-
-fn greater(x: usize, y: usize) -> usize
-    ensures { λ r. ⌜ r ≡ max x y ⌝ }
-{
-    if x < y {
-        return y;
-    }
-    x
 }
 
 // The start of the row that lies so far below row u; 0 past the last row.

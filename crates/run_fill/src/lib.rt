@@ -107,7 +107,7 @@ fn bounded(t: usize, g: usize, d: usize) -> usize
     ensures { λ r. ⌜ (r ≤ t) × (g ≡ 0 → r ≤ d) × (0 < t → (g ≡ 0 → 0 < d) → 0 < r) ⌝ }
 {
     if g == 0 {
-        return values::lesser(t, d);
+        return numbers::lesser(t, d);
     }
     t
 }
@@ -140,7 +140,7 @@ fn keeps(
         }
         return 1;
     }
-    let t = values::lesser(most, w - p);
+    let t = numbers::lesser(most, w - p);
     let u = bounded(t, sg, s - p);
     bounded(u, bg, b - p)
 }
@@ -333,7 +333,7 @@ fn reach(first: usize, cells: usize, allowance: usize) -> usize
     if first == 0 {
         return allowance;
     }
-    values::lesser(cells, allowance)
+    numbers::lesser(cells, allowance)
 }
 
 // The clocks of a call until its filters are found aligned. None of them fires: in each a filter moves that is not where it

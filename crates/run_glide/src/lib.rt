@@ -218,9 +218,9 @@ fn firings_in(a: usize, b: usize, c: usize, room: usize, width: usize) -> usize
     ensures { λ r. ⌜ (r ≤ a) × (r ≤ b) × (r ≤ c) × (r * width ≤ room) × (0 < a → 0 < b → 0 < c → width ≤ room → 0 < r) ⌝ }
 {
     let most = room / width;
-    let few = values::lesser(a, b);
-    let fewer = values::lesser(few, c);
-    values::lesser(fewer, most)
+    let few = numbers::lesser(a, b);
+    let fewer = numbers::lesser(few, c);
+    numbers::lesser(fewer, most)
 }
 
 // ---- where the cells of the next iteration are
@@ -436,9 +436,9 @@ fn slide(
                 firings: fired - fired0,
             };
         }
-        let lent = values::lesser(allowance, cells.len()) - taken;
+        let lent = numbers::lesser(allowance, cells.len()) - taken;
         if 0 < wait {
-            let waits = values::lesser(wait, lent);
+            let waits = numbers::lesser(wait, lent);
             pass_all(
                 full,
                 n,

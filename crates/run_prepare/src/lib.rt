@@ -6,6 +6,7 @@ use model::Chain;
 use model::Refusal;
 use model::State;
 use model::Verdict;
+use numbers::wide_usize;
 use shape::Shape;
 ghost use mathlib.Core.Bool.{false};
 ghost use mathlib.Core.List.{List, []};
@@ -28,12 +29,6 @@ ghost use Rattle.run_prepare.specs.Prepared.{numberAt, blank, Filled, Wi
 ghost use Rattle.run_prepare.specs.Prepared.{counterAt, Laid, TakenUp};
 ghost use Rattle.run_prepare.specs.Ready.{flattened, Capable, Stored, Readied};
 
-fn wide(x: u32) -> usize
-    ensures { λ r. ⌜ (r ≡ x) × (r < 4294967296) ⌝ }
-{
-    x as usize
-}
-
 // Numbers of 32 bits as wider ones.
 fn widen4(from: &[u32; 4], to: &mut [usize; 4])
     ensures { λ _. ⌜ Widened 4 (now (from .entry)) 4 (now (to .exit)) ⌝ }
@@ -41,7 +36,7 @@ fn widen4(from: &[u32; 4], to: &mut [usize; 4])
     *to = [0usize; 4];
     let mut k: usize = 0;
     while k < 4 {
-        to[k] = wide(from[k]);
+        to[k] = wide_usize(from[k]);
         k += 1;
     }
 }
@@ -52,7 +47,7 @@ fn widen31(from: &[u32; 31], to: &mut [usize; 32])
     *to = [0usize; 32];
     let mut k: usize = 0;
     while k < 31 {
-        to[k] = wide(from[k]);
+        to[k] = wide_usize(from[k]);
         k += 1;
     }
 }
@@ -63,7 +58,7 @@ fn widen32(from: &[u32; 32], to: &mut [usize; 32])
     *to = [0usize; 32];
     let mut k: usize = 0;
     while k < 32 {
-        to[k] = wide(from[k]);
+        to[k] = wide_usize(from[k]);
         k += 1;
     }
 }
@@ -189,7 +184,7 @@ fn passed_of(state: State, n: usize, to: &mut [usize; 32])
     let mut k: usize = 0;
     while k < n {
         let p = passed[k];
-        to[k] = wide(p.0);
+        to[k] = wide_usize(p.0);
         k += 1;
     }
 }
@@ -294,7 +289,7 @@ fn take_up(
     *passed = [0usize; 32];
     *wants = [0usize; 32];
     let made = state.fired;
-    let fired = wide(made.0);
+    let fired = wide_usize(made.0);
     passed_of(state, n, passed);
     wants_of(
         n,

@@ -7,12 +7,12 @@ use super::one_less;
 use super::passed_of;
 use super::set_each;
 use super::short;
-use super::wide;
 use super::widen31;
 use model::Chain;
 use model::Refusal;
 use model::State;
 use model::Verdict;
+use numbers::wide_usize;
 use rows::RowCourse;
 use rows::RowSurvey;
 ghost use mathlib.Core.Bool.{true};
@@ -49,8 +49,8 @@ fn reads_at(
     let v = row_courses::row_of(iterations, course.height, j);
     let mut at = [0usize; 32];
     row_courses::reads(count, rows, above, course, v, &mut at);
-    let before = wide(iterations[wide(v)]);
-    let from = wide(j);
+    let before = wide_usize(iterations[wide_usize(v)]);
+    let from = wide_usize(j);
     add_to_each(n, &at, from - before, to);
 }
 
@@ -105,7 +105,7 @@ fn take_up_rows(
     let mut wants = [0usize; 32];
     let mut last = [0usize; 32];
     let made = state.fired;
-    let fired = wide(made.0);
+    let fired = wide_usize(made.0);
     passed_of(state, n, passed);
     wants_in(
         n,

@@ -1,6 +1,6 @@
 // What the programs write of an input that is at hand whole, cut into pieces.
+use numbers::lesser;
 use program_jobs::Job;
-use values::lesser;
 ghost use Prim.Native.Nat.{_≤_};
 ghost use lib.ListN.{length};
 ghost use Rattle.program_writer.specs.Texts.{Within};

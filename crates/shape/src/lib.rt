@@ -7,6 +7,7 @@ use model::Grid;
 use model::Refusal;
 use model::Verdict;
 use model::Window;
+use numbers::less_u32;
 use windows::lows::height;
 use windows::lows::lows_of;
 use windows::lows::span_in;
@@ -32,16 +33,6 @@ pub struct Shape {
     pub at: [u32; 32],
 }
 
-// x less y; 0 where y is greater.
-fn less(x: u32, y: u32) -> u32
-    ensures { λ r. ⌜ r ≡ x - y ⌝ }
-{
-    if x < y {
-        return 0;
-    }
-    x - y
-}
-
 // How many indices the iterations have in each dimension.
 fn extents_of(
     sizes: &[u32; 4],
@@ -59,7 +50,7 @@ fn extents_of(
     while d < dims {
         let low = lows[d];
         let span = span_in(offsets, count, d, low);
-        extents[d] = less(sizes[d], span);
+        extents[d] = less_u32(sizes[d], span);
         d += 1;
     }
     extents

@@ -3,7 +3,7 @@
 use model::Factors;
 use model::KEPT;
 use model::Kernel;
-use values::lesser;
+use numbers::lesser;
 ghost use mathlib.Core.Path.{_≡_};
 ghost use Prim.Native.Nat.{_+_, _*_};
 ghost use lib.Ieee.{ofBits, toBits, binary32};

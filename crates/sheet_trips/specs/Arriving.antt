@@ -1,4 +1,5 @@
--- Reading a sheet in fixed memory, as its characters arrive, in however many pieces (the definitions: `model/specs/Arriving`).
+-- Reading a sheet in fixed memory, as its characters arrive, in however many pieces (the definitions:
+-- `model_sheet/specs/Arriving`).
 use Prim.Native.Nat.{ℕ}
 use mathlib.Core.Bool.{Bool}
 use mathlib.Core.List.{List, _++_}

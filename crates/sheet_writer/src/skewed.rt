@@ -2,8 +2,8 @@
 use hexadecimal::high_digit;
 use hexadecimal::low_digit;
 use model::Grid;
-use values::number_at;
-use values::wide_usize;
+use numbers::number_at;
+use numbers::wide_usize;
 ghost use mathlib.Core.Bool.{false, _&&_};
 ghost use mathlib.Core.Path.{_≡_};
 ghost use Prim.Native.Nat.{_+_, _*_, _≤_, _<_};

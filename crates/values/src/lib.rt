@@ -1,4 +1,4 @@
-// Small functions on the values of document 01 and on numbers.
+// The values of document 01: the blank chain, a chain with a field set, its request; what an answer and a refusal hold.
 use model::Answer;
 use model::Bounds;
 use model::Chain;
@@ -11,8 +11,6 @@ use model::Refusal;
 use model::Request;
 use model::Window;
 ghost use mathlib.Core.Path.{_≡_};
-ghost use Prim.Native.Nat.{_<_, min};
-ghost use lib.ListN.{getD};
 ghost use Rattle.model.specs.Answers.{numberOf, answerCounts};
 ghost use Rattle.model.specs.Values.{dimsOf, blankChain, requestOf, setGrid, setWindow, setBounds, setCapacities, setOrder};
 ghost use Rattle.model.specs.Values.{setKernel};
@@ -174,36 +172,4 @@ pub fn dims_of(grid: Grid) -> u8
         return 2;
     }
     grid.dims
-}
-
-// A number of 32 bits as a wider one.
-pub fn wide(x: u32) -> u64
-    ensures { λ r. ⌜ (r ≡ x) × (r < 4294967296) ⌝ }
-{
-    x as u64
-}
-
-pub fn wide_usize(x: u32) -> usize
-    ensures { λ r. ⌜ (r ≡ x) × (r < 4294967296) ⌝ }
-{
-    x as usize
-}
-
-pub fn lesser(a: usize, b: usize) -> usize
-    ensures { λ r. ⌜ r ≡ min a b ⌝ }
-{
-    if a < b {
-        return a;
-    }
-    b
-}
-
-// Number i; 0 where there are too few.
-pub fn number_at(numbers: &[u32], i: usize) -> u32
-    ensures { λ r. ⌜ r ≡ getD (now (numbers .entry)) i 0 ⌝ }
-{
-    if i < numbers.len() {
-        return numbers[i];
-    }
-    0
 }

@@ -4,7 +4,7 @@ pub mod lows;
 
 use model::MOST_REFERENCES;
 use model::Window;
-use values::lesser;
+use numbers::lesser;
 ghost use mathlib.Core.Path.{_≡_};
 ghost use Prim.Native.Nat.{_+_, _≤_, _<_};
 ghost use Rattle.model.specs.Lists.{tabulate, any};

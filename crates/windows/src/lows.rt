@@ -1,9 +1,9 @@
 // The least entry of each dimension of a window, how far entries lie above it, and the index of an iteration counted from it.
-use values::lesser as fewer;
+use numbers::greater_u32;
+use numbers::lesser as fewer;
 ghost use mathlib.Core.Path.{_≡_};
 ghost use mathlib.Core.Bool.{cond};
 ghost use lib.Signed.{ltZ};
-ghost use Prim.Native.Nat.{max};
 ghost use Rattle.model.specs.Vectors.{above};
 ghost use Rattle.windows.specs.Lows.{lowIn, lowsIn, spanIn, heightsIn, indexIn};
 
@@ -21,15 +21,6 @@ fn lesser(x: i16, y: i16) -> i16
     ensures { λ r. ⌜ r ≡ cond (ltZ y x) y x ⌝ }
 {
     if y < x {
-        return y;
-    }
-    x
-}
-
-fn greater(x: u32, y: u32) -> u32
-    ensures { λ r. ⌜ r ≡ max x y ⌝ }
-{
-    if x < y {
         return y;
     }
     x
@@ -87,7 +78,7 @@ pub fn span_in(offsets: &[i16; 128], count: usize, d: usize, low: i16) -> u32
     let mut k: usize = 0;
     while k < count {
         let x = offsets[4 * k + d];
-        span = greater(span, height(x, low));
+        span = greater_u32(span, height(x, low));
         k += 1;
     }
     span

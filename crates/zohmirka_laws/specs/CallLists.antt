@@ -1,5 +1,5 @@
 -- States as words, and lists of run calls: a list of calls with these functions is a list that demands 2 and 3 speak of
--- (`model/specs/CallLists`).
+-- (`model_run/specs/CallLists`).
 use Prim.Native.Nat.{ℕ, _+_, _≤_, _<_}
 use mathlib.Core.List.{List, [], _∷_, _++_, map}
 use mathlib.Core.Path.{_≡_}

@@ -9,7 +9,7 @@ use model::Kernel;
 use model::Order;
 use model::State;
 use model::Window;
-use values::number_at;
+use numbers::number_at;
 ghost use mathlib.Core.Path.{_≡_};
 ghost use Prim.Native.Nat.{_+_, _%_, _≤_, _<_};
 ghost use lib.ListN.{length};

@@ -37,14 +37,14 @@ element-copy-out-distance-2 c = omega arith
 distance-requires : tie.Need-distance-requires Inv-loop μ-loop
 distance-requires c κs = let l = c .before .before .before in l .before .pre .1 (l .loop .k) (omega arith)
 
-mul-greater : tie.Need-mul-greater Inv-loop μ-loop
-mul-greater c = omega arith
+mul-greater-u32 : tie.Need-mul-greater-u32 Inv-loop μ-loop
+mul-greater-u32 c = omega arith
 
-element-copy-out-greater : tie.Need-element-copy-out-greater Inv-loop μ-loop
-element-copy-out-greater c = omega arith
+element-copy-out-greater-u32 : tie.Need-element-copy-out-greater-u32 Inv-loop μ-loop
+element-copy-out-greater-u32 c = omega arith
 
-greater-requires : tie.Need-greater-requires Inv-loop μ-loop
-greater-requires c κs = search needs
+greater-u32-requires : tie.Need-greater-u32-requires Inv-loop μ-loop
+greater-u32-requires c κs = search needs
 
 mul-to : tie.Need-mul-to Inv-loop μ-loop
 mul-to c = omega arith
@@ -63,7 +63,7 @@ loop-again c =
     let l = c .before .before .before .before .before .before in
     let a = l .before .args in (
       omega arith,
-      filled-more 31 0 (λ i. max (numberAt (a .at .now) i - numberAt (a .at .now) (i + 1)) (numberAt (a .r .now) i)) (l .loop .k) (l .loop .to) _ (omega arith) (c .greater .ensures ∙ ap (λ (x : ℕ). max x (numberAt (a .r .now) (l .loop .k))) (c .before .before .distance .ensures)) (l .loop .inv .1),
+      filled-more 31 0 (λ i. max (numberAt (a .at .now) i - numberAt (a .at .now) (i + 1)) (numberAt (a .r .now) i)) (l .loop .k) (l .loop .to) _ (omega arith) (c .greater-u32 .ensures ∙ ap (λ (x : ℕ). max x (numberAt (a .r .now) (l .loop .k))) (c .before .before .distance .ensures)) (l .loop .inv .1),
     )
 
 returns : tie.Need-returns Inv-loop μ-loop
@@ -86,9 +86,9 @@ farther-spec =
     mul-distance-2
     element-copy-out-distance-2
     distance-requires
-    mul-greater
-    element-copy-out-greater
-    greater-requires
+    mul-greater-u32
+    element-copy-out-greater-u32
+    greater-u32-requires
     mul-to
     array-write-to
     add-k

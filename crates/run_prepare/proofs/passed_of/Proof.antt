@@ -24,8 +24,8 @@ mul-p c = omega arith
 array-copy-out-p : tie.Need-array-copy-out-p Inv-loop μ-loop
 array-copy-out-p c = omega arith
 
-wide-requires : tie.Need-wide-requires Inv-loop μ-loop
-wide-requires c κs = omega arith
+wide-usize-requires : tie.Need-wide-usize-requires Inv-loop μ-loop
+wide-usize-requires c κs = omega arith
 
 mul-to : tie.Need-mul-to Inv-loop μ-loop
 mul-to c = omega arith
@@ -45,8 +45,8 @@ loop-again c =
     let a = l .before .before .args in
     let long = l .loop .inv .1 .long in (
       omega arith,
-      filled-more (a .to .now) (counterAt (a .state .passed)) (l .loop .k) (l .loop .to) (c .wide .result) (omega arith) (c .wide .ensures .0) (l .loop .inv .1),
-      small-more 4294967296 (l .loop .k) (l .loop .to) (c .wide .result) (omega arith) (c .wide .ensures .1) (l .loop .inv .2),
+      filled-more (a .to .now) (counterAt (a .state .passed)) (l .loop .k) (l .loop .to) (c .wide-usize .result) (omega arith) (c .wide-usize .ensures .0) (l .loop .inv .1),
+      small-more 4294967296 (l .loop .k) (l .loop .to) (c .wide-usize .result) (omega arith) (c .wide-usize .ensures .1) (l .loop .inv .2),
     )
 
 returns : tie.Need-returns Inv-loop μ-loop
@@ -63,7 +63,7 @@ passed-of-spec =
     loop-holds
     mul-p
     array-copy-out-p
-    wide-requires
+    wide-usize-requires
     mul-to
     element-write-to
     add-k

@@ -5,8 +5,8 @@ use Rattle.run_prepare.proofs.PrepareGuards.{taken-up}
 use Rattle.run_prepare.proofs.take_up.Statement.{statement}
 use Rattle.run_prepare.proofs.take_up.Tie as tie
 
-wide-requires : tie.Need-wide-requires
-wide-requires c κs = omega arith
+wide-usize-requires : tie.Need-wide-usize-requires
+wide-usize-requires c κs = omega arith
 
 passed-of-requires : tie.Need-passed-of-requires
 passed-of-requires c κs = (omega (arith, few-filters (c .before .before .before .before .before .pre .1 .1 .counted)), refl)
@@ -35,14 +35,14 @@ returns c = λ t shaped capped.
     let p = w .before .before in
     let v = p .before .before in
     let s = v .before .before .before .before in
-    taken-up (shaped .counted) capped (s .args .state) (v .wide .result) (o .one-less .result) (c .bad-state .result) _ _ _ _ (v .wide .ensures .0) (o .one-less .ensures)
+    taken-up (shaped .counted) capped (s .args .state) (v .wide-usize .result) (o .one-less .result) (c .bad-state .result) _ _ _ _ (v .wide-usize .ensures .0) (o .one-less .ensures)
     (p .passed-of .ensures .0) (w .wants-of .ensures t shaped) (w2 .wants-of2 .ensures t shaped) (c .bad-state .ensures)
 
 pub take-up-spec : {M : Type 1} → statement M
 take-up-spec =
     tie.close
     (tie.spec
-    wide-requires
+    wide-usize-requires
     passed-of-requires
     wants-of-requires
     one-less-requires

@@ -33,14 +33,14 @@ element-copy-out-low c = omega arith
 span-in-requires : tie.Need-span-in-requires Inv-loop μ-loop
 span-in-requires c κs = search needs
 
-mul-less : tie.Need-mul-less Inv-loop μ-loop
-mul-less c = omega arith
+mul-less-u32 : tie.Need-mul-less-u32 Inv-loop μ-loop
+mul-less-u32 c = omega arith
 
-element-copy-out-less : tie.Need-element-copy-out-less Inv-loop μ-loop
-element-copy-out-less c = omega arith
+element-copy-out-less-u32 : tie.Need-element-copy-out-less-u32 Inv-loop μ-loop
+element-copy-out-less-u32 c = omega arith
 
-less-requires : tie.Need-less-requires Inv-loop μ-loop
-less-requires c κs = search needs
+less-u32-requires : tie.Need-less-u32-requires Inv-loop μ-loop
+less-u32-requires c κs = search needs
 
 mul-extents : tie.Need-mul-extents Inv-loop μ-loop
 mul-extents c = omega arith
@@ -64,7 +64,7 @@ loop-again c =
     let is-low = l .before .pre .2 .done d (omega arith) in (
       omega arith,
       filled-more 4 0 (λ i. extent (numberAt (a .sizes .now) i) (entriesIn (a .count) (a .offsets .now) i)) d (l .loop .extents) _ (omega arith)
-          (c .less .ensures ∙ ap (_-_ (numberAt (a .sizes .now) d)) span ∙ extent-is (numberAt (a .sizes .now) d) (a .count) (a .offsets .now) d low (omega arith) (omega arith) is-low)
+          (c .less-u32 .ensures ∙ ap (_-_ (numberAt (a .sizes .now) d)) span ∙ extent-is (numberAt (a .sizes .now) d) (a .count) (a .offsets .now) d low (omega arith) (omega arith) is-low)
           (l .loop .inv .1),
     )
 
@@ -85,9 +85,9 @@ extents-of-spec =
     mul-low
     element-copy-out-low
     span-in-requires
-    mul-less
-    element-copy-out-less
-    less-requires
+    mul-less-u32
+    element-copy-out-less-u32
+    less-u32-requires
     mul-extents
     array-write-extents
     add-d

@@ -5,8 +5,8 @@ use Rattle.run_prepare.proofs.PrepareGuards.{taken-up}
 use Rattle.run_prepare.proofs.skewed.take_up_rows.Statement.{statement}
 use Rattle.run_prepare.proofs.skewed.take_up_rows.Tie as tie
 
-wide-requires : tie.Need-wide-requires
-wide-requires c κs = omega arith
+wide-usize-requires : tie.Need-wide-usize-requires
+wide-usize-requires c κs = omega arith
 
 passed-of-requires : tie.Need-passed-of-requires
 passed-of-requires c κs = let s = c .before .before .before .before .before in (omega (arith, few-filters (s .pre .1 .1)), refl)
@@ -36,7 +36,7 @@ returns c = λ t counted reads capped.
     let v = p .before .before in
     let s = v .before .before .before .before in (
       _,
-      taken-up counted capped (s .args .state) (v .wide .result) (o .one-less .result) (c .bad-state .result) _ _ _ _ (v .wide .ensures .0) (o .one-less .ensures)
+      taken-up counted capped (s .args .state) (v .wide-usize .result) (o .one-less .result) (c .bad-state .result) _ _ _ _ (v .wide-usize .ensures .0) (o .one-less .ensures)
           (p .passed-of .ensures .0) (w .wants-in .ensures t counted reads) (w2 .wants-in2 .ensures t counted reads) (c .bad-state .ensures),
     )
 
@@ -44,7 +44,7 @@ pub take-up-rows-spec : {M : Type 1} → statement M
 take-up-rows-spec =
     tie.close
     (tie.spec
-    wide-requires
+    wide-usize-requires
     passed-of-requires
     wants-in-requires
     one-less-requires

@@ -46,8 +46,8 @@ element-copy-out-x c = omega arith
 height-requires : tie.Need-height-requires Inv-loop μ-loop
 height-requires c κs = search needs
 
-greater-requires : tie.Need-greater-requires Inv-loop μ-loop
-greater-requires c κs = search needs
+greater-u32-requires : tie.Need-greater-u32-requires Inv-loop μ-loop
+greater-u32-requires c κs = search needs
 
 add-k : tie.Need-add-k Inv-loop μ-loop
 add-k c = omega arith
@@ -61,7 +61,7 @@ loop-again c =
     let a = l .before .before .before .args in
     let low = toZ w16 (ofZ w16 (a .low)) in
     let x = entryAt (a .offsets .now) (l .loop .k) (a .d) in
-    let span = c .greater .ensures ∙ ap (max (l .loop .span)) (c .before .height .ensures ∙ ap (λ (z : ℤ). above z low) (entry-back x (c .before .before .x .given))) in (
+    let span = c .greater-u32 .ensures ∙ ap (max (l .loop .span)) (c .before .height .ensures ∙ ap (λ (z : ℤ). above z low) (entry-back x (c .before .before .x .given))) in (
       omega arith,
       ap (λ (s : ℕ). max s (spanAbove low (part (λ i. entryAt (a .offsets .now) i (a .d)) (l .loop .k + 1) (a .count)))) span
           ∙ span-on (λ i. entryAt (a .offsets .now) i (a .d)) low (l .loop .span) (l .loop .k) (a .count) (c .before .before .before .loop-test .taken) ∙ l .loop .inv .1,
@@ -90,7 +90,7 @@ span-in-spec =
     mul-x-2
     element-copy-out-x
     height-requires
-    greater-requires
+    greater-u32-requires
     add-k
     loop-less
     loop-again
