@@ -173,7 +173,7 @@ module _ (t : Trimmed) (proper : Proper t) (ok : Accepted t) (l : Lent) (rest : 
   looked-means Spent (is-spent f z) = (f, omega arith)
   looked-means Starved (is-starved f r c) = (f, omega arith, le-antisymm taken c)
   looked-means Stalled (is-stalled f r c m) = (f, omega arith, c, m)
-  looked-means Full (is-full f r c m g p) = (f, omega arith, c, g, omega (arith, p))
+  looked-means Full (is-full f r c m g p) = (f, omega arith, omega (arith, c), g, omega (arith, p))
 
   means-look : (e : Ending) → Means t l (end .counters) (end .done) e → look (layout t) (writtenBy t) (widthOf t) (l .cells) rest end ≡ ends e
   unfolding layout look
@@ -188,7 +188,7 @@ module _ (t : Trimmed) (proper : Proper t) (ok : Accepted t) (l : Lent) (rest : 
       rw (
         lt-leb (iterationsOf t) (end .counters .fired) (m .0),
         ne-eqb rest 0 (λ z. omega (arith, m .1)),
-        lt-leb (length (l .cells)) (end .done .cells) (m .2),
+        lt-leb (length (l .cells)) (end .done .cells) (omega (arith, m .2)),
         moving,
         m .3,
         lt-ltb (length (end .output)) (end .done .firings * widthOf t + widthOf t) (omega (arith, m .4)),

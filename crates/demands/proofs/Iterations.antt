@@ -30,12 +30,12 @@ use Rattle.grid_laws.proofs.WholeLaws.{whole-iterations, whole-complete}
 use Rattle.grid_laws.proofs.BoxLaws.{none-whole, each-of-box}
 use Rattle.grid_laws.proofs.RectangleBoxes.{corners}
 use Rattle.grid_laws.proofs.Listed as run
-use Rattle.grid_laws.proofs.Iterations.{fitting, distance-most, distance-reached, same-distance}
+use Rattle.grid_laws.proofs.Iterations.{fitting, distance-most, distance-reached, same-distance, newest-most, newest-read}
 use Rattle.grid_laws.proofs.Iterations.{one-distance as pair-distance}
 use Rattle.grid_laws.proofs.CheckLaws.{some-references}
 use Rattle.run_laws.proofs.Accepts.{trimmed-proper, accepted-chain, fitting-of}
 use Rattle.run_laws.proofs.Plans.{request-proper}
-use Rattle.demands.specs.Iterations.{Enumerated, Placed, Empty, Number6, Number15, Geometry}
+use Rattle.demands.specs.Iterations.{Passes, Enumerated, Placed, Empty, Number6, Number15, Geometry}
 use Rattle.demands.proofs.FullBox.{full-box-runs}
 
 module _ (t : Trimmed) where
@@ -155,16 +155,22 @@ number-15 t proper = record {
         rw (i, e) (corners sizes (t .offsets) (subst (λ (g : Ground). Sized (dims g) (t .offsets)) i (proper .entries)) (omega (arith, proper .references, some-references (t .count) n)) l h
         (subst (Bounded (length sizes)) e (subst (λ (g : Ground). Bounded (dims g) (t .part)) i (proper .bounded))))
 
+passing : (t : Trimmed) → Proper t → Passes t → Fitting t
+passing t proper p = fitting t proper (some-references (t .count) (p .references)) (p .part)
+
 pub geometry : Geometry
-unfolding trimmed
 geometry = record {
-  iterations = λ c rows e. enumerated (trimmed c rows) (fitting-of (trimmed c rows) (trimmed-proper c rows) (accepted-chain c rows e));
+  iterations = λ c rows p. enumerated (trimmed c rows) (passing (trimmed c rows) (trimmed-proper c rows) p);
+  request-iterations = λ r rows p. enumerated (trimmedRequest r rows) (passing (trimmedRequest r rows) (request-proper r rows) p);
+  newest = λ c rows p.
+      let f = passing (trimmed c rows) (trimmed-proper c rows) p in
+      record { none-newer = newest-most (trimmed c rows) f; read = newest-read (trimmed c rows) f };
   largest = λ c rows e.
       let ok = accepted-chain c rows e in
       let f = fitting-of (trimmed c rows) (trimmed-proper c rows) ok in
       record { most = distance-most (trimmed c rows) f; reached = λ k h. distance-reached (trimmed c rows) f k (ok .iterates) };
-  distances = λ c rows sizes i n fits.
-      let f = fitting (trimmed c rows) (trimmed-proper c rows) (some-references (c .window .count) n) fits in
+  distances = λ c rows sizes i p.
+      let f = passing (trimmed c rows) (trimmed-proper c rows) p in
       record { pair = pair-distance (trimmed c rows) f sizes i; neighbours = same-distance (trimmed c rows) f sizes i };
   cells = λ c rows. placed (trimmed c rows);
   chain-6 = λ c rows. number-6 (trimmed c rows) (trimmed-proper c rows);

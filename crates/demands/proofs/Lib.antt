@@ -15,4 +15,5 @@ pub mod AnyState
 pub mod Promised
 pub mod AuthorsOrder
 pub mod PastCounts
+pub mod InTwo
 pub mod Demands

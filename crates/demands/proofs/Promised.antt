@@ -1,32 +1,33 @@
--- The other promises of document 01: the proofs that need no more than a line or two each.
+-- The other promises of document 01: the shorter proofs.
 use Prim.Native.Nat.{ℕ}
 use mathlib.Core.Bool.{true}
-use mathlib.Core.List.{List, map}
+use mathlib.Core.List.{List, [], _∷_, _++_, map}
 use mathlib.Core.Logic.{_⊎_, inl, inr}
 use mathlib.Core.Path.{_≡_, refl, sym, _∙_, ap, ap₂, subst}
 use native.Mathlib.Omega.{arith}
 use lib.ListN.{length, take, drop, length-map}
 use lib.Seq.{drop-at}
 use Rattle.model.specs.Values.{Trimmed, trimmed}
-use Rattle.model.specs.Answers.{noCounts, answerNumber, answerCounts, numberOf, byVerdict}
-use Rattle.model.specs.Judging.{judgeChain, judged}
+use Rattle.model.specs.Answers.{noCounts, answerNumber, answerCounts, numberOf, check, firstOf, byVerdict}
+use Rattle.model.specs.Judging.{valueChecks, judgeChain, judged}
 use Rattle.model_run.specs.Clock.{Counters, fresh}
-use Rattle.model_run.specs.Running.{layout, countersOf, withCounters, outcomeOf, shortStore, judgeRun, ended, runTrimmed, runOf, Run}
+use Rattle.model_run.specs.Running.{layout, countersOf, withCounters, writtenBy, widthOf, outcomeOf, shortStore, badState, judgeRun, begun, call, ended, runTrimmed, runOf, Standing, Ended, Run}
 use Rattle.model_run.specs.CallLists.{clocksMade, firingsMade, firingsAmong, allWords}
 use Rattle.model.specs.declared.CellsPassed.{CellsPassed}
 use Rattle.model.specs.declared.State.{State}
 use Rattle.model.specs.declared.Refusal.{Refusal}
+use Rattle.model.specs.declared.Refusal.the-variants as refusal
 use Rattle.model.specs.declared.Verdict.{Verdict}
 use Rattle.model.specs.declared.Verdict.the-variants as verdict
 use Rattle.model.specs.declared.Answer.the-variants as answer
 use Rattle.flow.proofs.Laws.{few-clocks}
 use Rattle.demands.specs.Demand3.{ListOfCalls, runsOf, eventsOf, handedOn, chainIn}
 use Rattle.model_run.specs.Words.{wordsFrom}
-use Rattle.demands.specs.Promises.{FewClocks, NeverStale, SameRun, Split, RefusedKeeps, PastCount, Alike}
+use Rattle.demands.specs.Promises.{FewClocks, NeverStale, SameRun, Split, RefusedKeeps, RunsAlike, NoPart, PastCount, Alike}
 use Rattle.run_laws.proofs.Layouts.{lawful}
 use Rattle.run_laws.proofs.Lengths.{length-ended}
 use Rattle.run_laws.proofs.Traces.{Traced, traced-ran, traced-same}
-use Rattle.run_laws.proofs.Between.{refused, ran, by-call}
+use Rattle.run_laws.proofs.Between.{refused, ran, by-call, counters-back}
 use Rattle.demands.proofs.Finishing.{setting, reached, numbered}
 use Rattle.demands.proofs.Again.{enough-over}
 use Rattle.demands.proofs.SameHandedOn.{same-handed}
@@ -113,6 +114,50 @@ past-count c rows s store lent output allowance =
 
     n : length (last .passed) ≡ c .window .count
     n = length-ended (trimmed c rows) s store lent output allowance
+
+-- Judging and the call go by the counters of the n filters alone.
+judged-by : (t : Trimmed) (store : List ℕ) (s s′ : State) → countersOf (t .count) s ≡ countersOf (t .count) s′ → judgeRun t s store ≡ judgeRun t s′ store
+unfolding judgeRun
+judged-by t store s s′ e =
+    ap (λ (k : Counters). firstOf (valueChecks t ++ (check (shortStore t store) refusal.ShortStore ∷ check (badState (layout t) k) refusal.BadState ∷ []))) e
+
+ended-by : (t : Trimmed) (store lent output : List ℕ) (allowance : ℕ) (s s′ : State) → countersOf (t .count) s ≡ countersOf (t .count) s′
+    → ended t s store lent output allowance ≡ ended t s′ store lent output allowance
+unfolding ended begun
+ended-by t store lent output allowance s s′ e =
+    ap (λ (k : Counters).
+    let from : Standing = record { counters = k; store = store; output = output; done = noCounts } in call (layout t) (writtenBy t) (widthOf t) lent allowance from) e
+
+no-part-of : (t : Trimmed) (s s′ : State) (store lent output : List ℕ) (allowance : ℕ) → countersOf (t .count) s ≡ countersOf (t .count) s′
+    → RunsAlike (t .count) (runTrimmed t s store lent output allowance) (runTrimmed t s′ store lent output allowance)
+unfolding runTrimmed
+no-part-of t s s′ store lent output allowance e =
+    subst (λ (v : Verdict). RunsAlike (t .count) (runTrimmed t s store lent output allowance) (by-verdict s′ v)) same-verdict (go (judgeRun t s store))
+  where
+    by-verdict : State → Verdict → Run
+    by-verdict x v = byVerdict v (accepted-run t x store lent output allowance) (λ y. record { answer = answer.Refused y; state = x; store = store; output = output })
+
+    same-verdict : judgeRun t s store ≡ judgeRun t s′ store
+    same-verdict = judged-by t store s s′ e
+
+    same-end : ended t s store lent output allowance ≡ ended t s′ store lent output allowance
+    same-end = ended-by t store lent output allowance s s′ e
+
+    back : (x : State) → countersOf (t .count) (withCounters x (ended t x store lent output allowance .standing .counters)) ≡ ended t x store lent output allowance .standing .counters
+    back x = counters-back (t .count) x (ended t x store lent output allowance .standing .counters) (length-ended t x store lent output allowance)
+
+    go : (v : Verdict) → RunsAlike (t .count) (by-verdict s v) (by-verdict s′ v)
+    go verdict.Accepted = record {
+      answer = ap (λ (x : Ended). answer.Ended (outcomeOf (x .ending) (x .standing .done))) same-end;
+      store = ap (λ (x : Ended). x .standing .store) same-end;
+      output = ap (λ (x : Ended). x .standing .output) same-end;
+      counters = back s ∙ ap (λ (x : Ended). x .standing .counters) same-end ∙ sym (back s′);
+    }
+    go (verdict.Refused y) = record { answer = refl; store = refl; output = refl; counters = e }
+
+pub no-part : NoPart
+unfolding runOf trimmed
+no-part c rows s s′ store lent output allowance e = no-part-of (trimmed c rows) s s′ store lent output allowance e
 
 pub alike : Alike
 unfolding judgeChain runOf

@@ -163,6 +163,20 @@ module _ (S : Setting) where
       ∙ ap (λ (y : State). withCounters y (now S (afterAll t stream ls x))) e
       ∙ counters-twice (b .state) (now S x) (now S (afterAll t stream ls x)) (counters-length (t .count) (x .state) ∙ sym (counters-length (t .count) (afterAll t stream ls x .state)))
 
+  -- The state that is handed on has no fewer counters.
+  pub long-after : (ls : List Lending) (b : Between) (es : List Bool) → Reached S b es → t .count ≤ length (b .state .passed)
+      → t .count ≤ length (afterAll t stream ls b .state .passed)
+  long-after ls b es r h =
+      rw (list-state ls b es r h) (omega (arith, counters-fit (b .state) (now S (afterAll t stream ls b)), counters-length (t .count) (afterAll t stream ls b .state)))
+
+  -- Two lists from one standing that made the same clocks and come to the same counters hand on the same.
+  pub same-after : (ls ms : List Lending) (b : Between) (es : List Bool) → Reached S b es → t .count ≤ length (b .state .passed) → allEvents t stream ls b ≡ allEvents t stream ms b
+      → now S (afterAll t stream ls b) ≡ now S (afterAll t stream ms b) → afterAll t stream ls b ≡ afterAll t stream ms b
+  same-after ls ms b es r h events counters =
+      ap₂ (λ (s : State) (w : List ℕ). let z : Between = record { state = s; store = w } in z)
+      (list-state ls b es r h ∙ ap (withCounters (b .state)) counters ∙ sym (list-state ms b es r h))
+      (list-store ls b es r ∙ ap (λ (es : List Bool). storeAfter (layout t) stream es (now S b) (b .store)) events ∙ sym (list-store ms b es r))
+
   -- Two lists from one start that made equally many clocks.
   same-end : (ls ms : List Lending) (b : Between) → Reached S b [] → t .count ≤ length (b .state .passed)
       → clocksMade (runs t stream ls b) ≡ clocksMade (runs t stream ms b) → afterAll t stream ls b ≡ afterAll t stream ms b
@@ -170,9 +184,7 @@ module _ (S : Setting) where
       let x = list-reached S ls b [] r in
       let y = list-reached S ms b [] r in
       let same = traced-same (layout t) (x .traced) (y .traced) (list-clocks S ls b [] r ∙ e ∙ sym (list-clocks S ms b [] r)) in
-      ap₂ (λ (s : State) (w : List ℕ). let z : Between = record { state = s; store = w } in z)
-      (list-state ls b [] r h ∙ ap (withCounters (b .state)) (same .1) ∙ sym (list-state ms b [] r h))
-      (list-store ls b [] r ∙ ap (λ (es : List Bool). storeAfter (layout t) stream es (now S b) (b .store)) (same .0) ∙ sym (list-store ms b [] r))
+      same-after ls ms b [] r h (same .0) (same .1)
 
 pub same-handed : (p q : ListOfCalls) → SameRun p q → SameStart p q → clocksMade (runsOf p) ≡ clocksMade (runsOf q) → handedOn p ≡ handedOn q
 same-handed p q same begin e =

@@ -7,7 +7,7 @@ use mathlib.Core.Path.{_≡_}
 use lib.ListN.{length, getD}
 use Rattle.model.specs.Grounds.Ground.{rectangle}
 use Rattle.model.specs.Values.{Trimmed, trimmed}
-use Rattle.model.specs.Iterations.{iterationsOf, iterationOf, newestOf}
+use Rattle.model.specs.Iterations.{iterationsOf, iterationOf, newestOf, clockOf}
 use Rattle.model.specs.Judging.{judgeChain}
 use Rattle.model_run.specs.Running.{Run}
 use Rattle.model_run.specs.CallLists.{Lending, Between, Fresh, LentEnough, FiresIn, firingsAmong, callRun, afterAll, runs}
@@ -101,6 +101,16 @@ module _ (q : ListOfCalls) where
   abbrev pub Indexed : Type 0
   Indexed = (j u : ℕ) → FiresIn eventsOf u j → j < iterationsOf (chainIn q)
 
+  -- An iteration has one clock, on every grid: whatever order, capacities and calls are, the list fires it in that clock or
+  -- never; where order and capacities are right it has fired exactly those whose clock was made; and on a rectangle that
+  -- clock is the newest cell's position.
+  pub record InItsClock : Type 0 where
+    pub clock : (j u : ℕ) → FiresIn eventsOf u j → u ≡ clockOf (chainIn q) j
+    pub fired : Right (chainIn q) → (j : ℕ) → j < iterationsOf (chainIn q)
+        → ((u : ℕ) × FiresIn eventsOf u j) ↔ (clockOf (chainIn q) j < clocksMade runsOf)
+    pub newest : (sizes : List ℕ) → chainIn q .ground ≡ rectangle sizes → (j : ℕ) → j < iterationsOf (chainIn q)
+        → clockOf (chainIn q) j ≡ newestOf (chainIn q) j
+
   -- "The firing clocks are promised for rectangles only": there, on a planned chain the iterations fired by the list are
   -- exactly those whose newest cell has a position below the clocks made, and each fires in the clock that equals this
   -- position.
@@ -108,6 +118,10 @@ module _ (q : ListOfCalls) where
     pub fired : Planned (chainIn q) → (j : ℕ) → j < iterationsOf (chainIn q)
         → ((u : ℕ) × FiresIn eventsOf u j) ↔ (newestOf (chainIn q) j < clocksMade runsOf)
     pub clock : Planned (chainIn q) → (j u : ℕ) → FiresIn eventsOf u j → u ≡ newestOf (chainIn q) j
+
+-- Chains of the same grid, box and window have the same clocks.
+abbrev pub SameClocks : (p q : ListOfCalls) → Type 0
+SameClocks p q = SameWindow (chainIn p) (chainIn q) → (j : ℕ) → clockOf (chainIn p) j ≡ clockOf (chainIn q) j
 
 -- No chain of the same grid, box and window fires an iteration earlier than the planned one: "in that clock, later or never".
 -- Streams and calls of the two lists are as they like.
@@ -130,5 +144,7 @@ pub record Demand3 : Type 0 where
   pub numbered : (q : ListOfCalls) → Numbered q
   pub hands-on : (q : ListOfCalls) → HandsOn q
   pub indexed : (q : ListOfCalls) → Indexed q
+  pub in-its-clock : (q : ListOfCalls) → InItsClock q
+  pub same-clocks : (p q : ListOfCalls) → SameClocks p q
   pub on-time : (q : ListOfCalls) (sizes : List ℕ) (is : chainIn q .ground ≡ rectangle sizes) → OnTime q sizes is
   pub not-earlier : (p q : ListOfCalls) → NotEarlier p q

@@ -11,7 +11,7 @@ use Rattle.model.specs.Boxes.{between, crossed, badBox, fullBox}
 use Rattle.model.specs.Boxes.Part.{whole, box}
 use Rattle.model.specs.Values.{Trimmed, dimsOf, offsetsOf, partOf, trimmed, setBounds}
 use Rattle.model.specs.Iterations.{cellsOf, isCellOf, positionOf, isIterationOf, coversOf, iterationsOf, iterationOf, readsOf}
-use Rattle.model.specs.Iterations.{distanceIn, distanceOf}
+use Rattle.model.specs.Iterations.{distanceIn, distanceOf, newestOf}
 use Rattle.model.specs.Answers.{verdictNumber}
 use Rattle.model.specs.Judging.{badGround, badCount, repeats, noIteration, judged, judgeChain}
 use Rattle.model.specs.Planning.{trimmedRequest}
@@ -23,6 +23,11 @@ use Rattle.model.specs.declared.State.{State}
 use Rattle.model.specs.declared.Verdict.the-variants as verdict
 
 module _ (t : Trimmed) where
+  -- 4 and 15 let the value pass.
+  pub record Passes : Type 0 where
+    pub references : badCount (t .count) ≡ false
+    pub part : badBox (t .ground) (t .offsets) (t .part) ≡ false
+
   -- Iterations 0, 1, 2, .. of a run are exactly the vectors that "added to each offset stay inside the grid" and, where there
   -- is a box, lie in it, each once, "in lexicographic order".
   pub record Enumerated : Type 0 where
@@ -35,6 +40,11 @@ module _ (t : Trimmed) where
   pub record Largest : Type 0 where
     pub most : (j k : ℕ) → j < iterationsOf t → suc k < t .count → distanceIn t j k ≤ distanceOf t k
     pub reached : (k : ℕ) → suc k < t .count → (j : ℕ) × (j < iterationsOf t) × (distanceIn t j k ≡ distanceOf t k)
+
+  -- "An iteration's newest cell is the one of highest position that its references read": no read is newer, and one is it.
+  pub record Newest : Type 0 where
+    pub none-newer : (j k : ℕ) → k < t .count → readsOf t j k ≤ newestOf t j
+    pub read : (j : ℕ) → (k : ℕ) × (k < t .count) × (readsOf t j k ≡ newestOf t j)
 
   -- On a rectangle "This is the same in all iterations": of any two references, whichever reads further on, and of neighbours
   -- by the name of their distance.
@@ -94,14 +104,15 @@ FullBoxRuns = (c : Chain) (rows sizes : List ℕ) → trimmed c rows .ground ≡
     × ((s : State) (store lent output : List ℕ) (allowance : ℕ)
     → runOf (setBounds b c) rows s store lent output allowance ≡ runOf c rows s store lent output allowance)
 
--- Iterations and largest distances of every accepted chain, one distance on every rectangle that 4 and 15 let pass, cells of
--- every chain, numbers 6 and 15 of every chain and every request.
+-- Iterations of every chain and every request that 4 and 15 let pass, and there the newest cells and, on a rectangle, one
+-- distance; largest distances of every accepted chain; cells of every chain; numbers 6 and 15 of every chain and every request.
 pub record Geometry : Type 0 where
-  pub iterations : (c : Chain) (rows : List ℕ) → judgeChain c rows ≡ verdict.Accepted → Enumerated (trimmed c rows)
+  pub iterations : (c : Chain) (rows : List ℕ) → Passes (trimmed c rows) → Enumerated (trimmed c rows)
+  pub request-iterations : (r : Request) (rows : List ℕ) → Passes (trimmedRequest r rows) → Enumerated (trimmedRequest r rows)
+  pub newest : (c : Chain) (rows : List ℕ) → Passes (trimmed c rows) → Newest (trimmed c rows)
   pub largest : (c : Chain) (rows : List ℕ) → judgeChain c rows ≡ verdict.Accepted → Largest (trimmed c rows)
-  pub distances : (c : Chain) (rows sizes : List ℕ) → trimmed c rows .ground ≡ rectangle sizes
-      → badCount (c .window .count) ≡ false
-      → badBox (trimmed c rows .ground) (trimmed c rows .offsets) (trimmed c rows .part) ≡ false → SameDistance (trimmed c rows)
+  pub distances : (c : Chain) (rows sizes : List ℕ) → trimmed c rows .ground ≡ rectangle sizes → Passes (trimmed c rows)
+      → SameDistance (trimmed c rows)
   pub cells : (c : Chain) (rows : List ℕ) → Placed (trimmed c rows)
   pub chain-6 : (c : Chain) (rows : List ℕ) → Number6 (trimmed c rows)
   pub request-6 : (r : Request) (rows : List ℕ) → Number6 (trimmedRequest r rows)

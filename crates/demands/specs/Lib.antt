@@ -7,3 +7,4 @@ pub mod Promises
 pub mod AnyState
 pub mod AuthorsOrder
 pub mod PastCounts
+pub mod Witnesses

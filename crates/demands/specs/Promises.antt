@@ -1,5 +1,5 @@
 -- The other promises of document 01, "Running" and "Turned back".
-use Prim.Native.Nat.{ℕ, _+_, _*_, _≤_, _<_}
+use Prim.Native.Nat.{ℕ, _+_, _-_, _*_, _≤_, _<_}
 use mathlib.Core.Bool.{true, false}
 use mathlib.Core.List.{List, [], _∷_}
 use mathlib.Core.Logic.{_⊎_}
@@ -9,7 +9,8 @@ use Rattle.model.specs.Values.{Trimmed, Same}
 use Rattle.model.specs.Answers.{noCounts, answerNumber, answerCounts}
 use Rattle.model.specs.Judging.{judgeChain}
 use Rattle.model_run.specs.Running.{layout, countersOf, widthOf, shortStore, Ending, outcomeOf, Run, runOf}
-use Rattle.model_run.specs.CallLists.{Lending, Between, LentEnough, callRun, after, allWords, clocksMade, firingsMade}
+use Rattle.model_run.specs.CallLists.{Lending, Between, LentEnough, callRun, after, afterAll, allWords, clocksMade}
+use Rattle.model_run.specs.CallLists.{firingsMade}
 use Rattle.model.specs.declared.Chain.{Chain}
 use Rattle.model.specs.declared.State.{State}
 use Rattle.model.specs.declared.Refusal.{Refusal}
@@ -102,6 +103,31 @@ pub record Split (p q : ListOfCalls) : Type 0 where
   pub ends : SameRun p q → (l m : Lending) → LentEnough (chainIn p) l (handedOn p) → LentEnough (chainIn q) m (handedOn q)
       → EndAlike p q l m
 
+-- In place of the call l first m, which is lent no more of anything, then n, which is lent what m left over; none of the
+-- three is refused.
+pub record InPlaceOf (q : ListOfCalls) (l m n : Lending) : Type 0 where
+  pub cells : m .cells ≤ l .cells
+  pub places : length (m .output) ≤ length (l .output)
+  pub clocks : m .allowance ≤ l .allowance
+  pub other-cells : n .cells ≡ l .cells - answerCounts (oneMore q m .answer) .cells
+  pub other-places : length (n .output) ≡ length (l .output) - firingsOf (oneMore q m) * widthOf (chainIn q)
+  pub other-clocks : n .allowance ≡ l .allowance - clocksOf (oneMore q m)
+  pub store : shortStore (chainIn q) (take (l .front) (handedOn q .store)) ≡ false
+  pub first-store : shortStore (chainIn q) (take (m .front) (handedOn q .store)) ≡ false
+  pub second-store : shortStore (chainIn q) (againStore q m n) ≡ false
+
+-- The same sentence of a single call, whatever it is lent and ends with: the two make its clocks and firings, come to its
+-- counters, report its outcome, write its words and, where the state has a counter for each filter, hand on its state and its
+-- store.
+pub record InTwo (q : ListOfCalls) (l m n : Lending) : Type 0 where
+  pub clocks : clocksOf (oneMore q l) ≡ clocksOf (oneMore q m) + clocksOf (again q m n)
+  pub firings : firingsOf (oneMore q l) ≡ firingsOf (oneMore q m) + firingsOf (again q m n)
+  pub counters : countersOf (chainIn q .count) (oneMore q l .state) ≡ countersOf (chainIn q .count) (again q m n .state)
+  pub outcome : SameOutcome (oneMore q l) (again q m n)
+  pub words : allWords (chainIn q) (q .stream) (l ∷ []) (handedOn q) ≡ allWords (chainIn q) (q .stream) (m ∷ n ∷ []) (handedOn q)
+  pub handed-on : chainIn q .count ≤ length (q .start .state .passed)
+      → afterAll (chainIn q) (q .stream) (l ∷ []) (handedOn q) ≡ afterAll (chainIn q) (q .stream) (m ∷ n ∷ []) (handedOn q)
+
 module _ (t : Trimmed) (stream : ℕ → ℕ) where
   -- Each call of a list has such a lending.
   abbrev pub Pieces : List Lending → Between → Type 0
@@ -125,7 +151,20 @@ RefusedKeeps = (c : Chain) (rows : List ℕ) (s : State) (store lent output : Li
     × (runOf c rows s store lent output allowance .output ≡ output)
     × (answerCounts (runOf c rows s store lent output allowance .answer) ≡ noCounts)
 
--- "input counters past n play no part and are handed back as they came"
+-- Two runs with the same answer, store and output, which hand back the same counters of n filters.
+pub record RunsAlike (n : ℕ) (r x : Run) : Type 0 where
+  pub answer : r .answer ≡ x .answer
+  pub store : r .store ≡ x .store
+  pub output : r .output ≡ x .output
+  pub counters : countersOf n (r .state) ≡ countersOf n (x .state)
+
+-- "input counters past n play no part": states with the same firings and the same counters of the n filters are run alike,
+abbrev pub NoPart : Type 0
+NoPart = (c : Chain) (rows : List ℕ) (s s′ : State) (store lent output : List ℕ) (allowance : ℕ)
+    → countersOf (c .window .count) s ≡ countersOf (c .window .count) s′
+    → RunsAlike (c .window .count) (runOf c rows s store lent output allowance) (runOf c rows s′ store lent output allowance)
+
+-- "and are handed back as they came"
 abbrev pub PastCount : Type 0
 PastCount = (c : Chain) (rows : List ℕ) (s : State) (store lent output : List ℕ) (allowance : ℕ)
     → drop (c .window .count) (runOf c rows s store lent output allowance .state .passed) ≡ drop (c .window .count) (s .passed)
@@ -144,7 +183,9 @@ pub record Promises : Type 0 where
   pub makes-clock : (q : ListOfCalls) → MakesClock q
   pub again : (q : ListOfCalls) (l m : Lending) → Again q l m
   pub split : (p q : ListOfCalls) → Split p q
+  pub in-two : (q : ListOfCalls) (l m n : Lending) → InPlaceOf q l m n → InTwo q l m n
   pub small-pieces : SmallPieces
   pub refused-keeps : RefusedKeeps
+  pub no-part : NoPart
   pub past-count : PastCount
   pub alike : Alike

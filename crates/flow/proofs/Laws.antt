@@ -1,18 +1,17 @@
 -- The laws of the chain of filters. `Ran L (fresh L) t s`: t clocks made from fresh counters lead to s.
-use Prim.Native.Nat.{ℕ, zero, suc, _+_, _*_, _≤_, _<_}
+use Prim.Native.Nat.{ℕ, _+_, _*_, _≤_, _<_}
 use mathlib.Core.Bool.{true, false, false≢true}
-use mathlib.Core.Logic.{_↔_}
 use mathlib.Core.Path.{_≡_, sym, _∙_}
 use native.Mathlib.Omega.{arith}
 use Rattle.model.specs.Lists.{sum}
 use Rattle.model_run.specs.Clock.{Layout, Counters, fires, moves, fresh}
 use Rattle.flow.specs.Machine.{first, live, run, made, Ran, Lawful, Flows, FlowsUpTo, Planned, Invariant}
-use Rattle.flow.proofs.Tests.{fires-yes, yes-fires, yes-moves}
+use Rattle.flow.proofs.Tests.{fires-yes, yes-moves}
 use Rattle.flow.proofs.Invariant.{fresh-invariant, ran-keeps, first-below}
 use Rattle.flow.proofs.Progress.{next-rises, fires-flows}
 use Rattle.flow.proofs.Bounds.{ran-sum, sum-within, sum-below, ran-most}
-use Rattle.flow.proofs.Timing.{fresh-first, ran-slow, fired-passed, passed-fired, ran-last, fires-first}
-use Rattle.flow.proofs.Planned.{all-flow, first-fires, ran-first}
+use Rattle.flow.proofs.Timing.{fresh-first, ran-slow, fired-passed}
+use Rattle.flow.proofs.Planned.{all-flow, ran-first}
 -- What `live` and `clock` say, and how runs are put together.
 pub use Rattle.flow.proofs.Tests.{live-yes, yes-live, clock-live}
 pub use Rattle.flow.proofs.Runs.{still, step, join, made-ran, stopped-same}
@@ -23,11 +22,6 @@ module _ (L : Layout) where
   -- Each clock made raises the sum of the counters.
   pub made-sum : (t : ℕ) (s : Counters) → made L t s + sum (s .passed) ≤ sum (run L t s .passed)
   made-sum t s = ran-sum L (made-ran L t s)
-
-  -- Where an iteration's condition holds, reference 0 reads its newest cell.
-  pub newest-first : (f : ℕ) → Flows L f → (k : ℕ) → k < filters → wants f k ≤ wants f 0
-  newest-first f flows zero filter = omega arith
-  newest-first f flows (suc k) filter = omega (arith, newest-first f flows k (omega arith), flows k filter)
 
   -- On a planned layout no condition fails.
   pub planned-flows : Planned L → FlowsUpTo L iterations
@@ -80,26 +74,6 @@ module _ (L : Layout) where
         pub stopped : live L s ≡ false → s .fired ≡ B
         stopped dead = let no-less : ¬ (s .fired < B) = λ fewer. false≢true (sym dead ∙ goes-on fewer) in omega (arith, no-more)
 
-      -- Of every such run on a planned layout; there reference 0 reads the newest cell (`newest-first`).
-      module _ (planned : Planned L) where
-        -- Filter 0 takes a cell in every clock.
-        pub planned-first : first (s .passed) ≡ t
-        planned-first = omega (arith, ran-first L planned lawful ran (fresh-invariant L), fresh-first L)
-
-        -- An iteration has fired just if its newest cell's position is below t.
-        pub just-in-time : (j : ℕ) → j < iterations → (j < s .fired) ↔ (wants j 0 < t)
-        just-in-time j iteration =
-            (λ fired. not-early j 0 fired (lawful .some), λ below. passed-fired L lawful s ran-invariant j iteration (omega (arith, planned-first)))
-
-        -- The coming clock, number t, fires just if the next iteration's newest cell has position t.
-        pub fires-when : s .fired < iterations → (fires L s ≡ true) ↔ (wants (s .fired) 0 ≡ t)
-        fires-when left = (
-          λ e. omega (arith, planned-first, fires-first L lawful s ran-invariant (fires-yes L s e)),
-          λ e. yes-fires L s (first-fires L planned lawful s ran-invariant left (omega (arith, planned-first))),
-        )
-
-        -- Where there is no clock to make, the last one made was the last iteration's.
-        pub finish-clocks : {m : ℕ} → iterations ≡ suc m → live L s ≡ false → t ≡ suc (wants m 0)
-        finish-clocks {m} e dead =
-            let all-fired = stopped (planned-flows planned) dead in
-            omega (arith, planned-first, not-early m 0 (omega arith) (lawful .some), ran-last L lawful e ran (fresh-invariant L) (omega (arith, fresh-first L)))
+      -- On a planned layout filter 0 takes a cell in every clock.
+      pub planned-first : Planned L → first (s .passed) ≡ t
+      planned-first planned = omega (arith, ran-first L planned lawful ran (fresh-invariant L), fresh-first L)

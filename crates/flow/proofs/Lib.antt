@@ -8,4 +8,5 @@ pub mod Timing
 pub mod Planned
 pub mod Laws
 pub mod Blocked
-pub mod Capacities
+pub mod Pace
+pub mod OneClock

@@ -6,11 +6,11 @@ use native.Mathlib.Omega.{arith}
 use native.Mathlib.Decide.{ℕ-discrete, le-ind}
 use lib.ListN.{replicate}
 use Rattle.model_run.specs.Clock.{Layout, Counters, turns, next, fresh}
-use Rattle.flow.specs.Machine.{first, Ran, Lawful, past, Holds, Invariant, Ready, Fires}
-use Rattle.flow.proofs.Tests.{live-yes, by-next}
+use Rattle.flow.specs.Machine.{first, Ran, Lawful, past, Holds, Invariant}
+use Rattle.flow.proofs.Tests.{by-next}
 use Rattle.flow.proofs.Runs.{along}
 use Rattle.flow.proofs.Turns.{moved-turned}
-use Rattle.flow.proofs.Invariant.{ran-keeps, first-wanted}
+use Rattle.flow.proofs.Invariant.{first-wanted}
 
 module _ (L : Layout) where
   open Layout L using (wants, capacity, filters, cells, iterations)
@@ -73,17 +73,3 @@ module _ (L : Layout) where
     passed-fired s inv j iteration passed =
         let contrary : ¬ (s .fired ≤ j) = λ unfired. omega (arith, unfired-first s inv j unfired (omega arith)) in
         omega arith
-
-    -- It stops behind the last cell that it reads.
-    pub ran-last : {m : ℕ} {s s′ : Counters} {t : ℕ} → iterations ≡ suc m → Ran L s t s′ → Invariant L s
-        → first (s .passed) ≤ suc (wants m 0) → first (s′ .passed) ≤ suc (wants m 0)
-    ran-last {m} e ran inv start = along L (λ _ x. first (x .passed) ≤ suc (wants m 0)) start
-        (λ t x r alive _. omega (arith, next-slow x, unfired-first x (ran-keeps L lawful r inv) m (omega (arith, live-yes L x alive .0)) (omega arith))) ran
-
-    -- Before a firing it is at its wanted cell.
-    pub fires-first : (s : Counters) → Invariant L s → Fires L s → first (s .passed) ≡ wants (s .fired) 0
-    fires-first s inv ready = go (s .passed) (inv .all) ready
-      where
-        go : (ps : List ℕ) → Holds L (s .fired) 0 cells ps → Ready L (s .fired) 0 cells ps → first ps ≡ wants (s .fired) 0
-        go [] held ready = omega (arith, lawful .some)
-        go (p ∷ ps) held ready = ready .1

@@ -27,3 +27,4 @@ pub mod TermLaws
 pub mod ChainLaws
 pub mod CheckLaws
 pub mod StepLaws
+pub mod ClockLaws

@@ -1,5 +1,5 @@
 -- Values of the same grid, window and box: the same iterations, and which of them is right with the fewest places.
-use Prim.Native.Nat.{ℕ, suc, _-_, _≤_, _<_}
+use Prim.Native.Nat.{ℕ, zero, suc, _+_, _-_, _≤_, _<_}
 use mathlib.Core.Bool.{Bool, true, false, and-eq-true-iff}
 use mathlib.Core.List.{List, [], _∷_, map}
 use mathlib.Core.Path.{_≡_, refl, sym, _∙_, ap, ap₂}
@@ -18,7 +18,7 @@ use Rattle.model.specs.Boxes.Part.{whole, box}
 use Rattle.model.specs.Windows.{Among, Members}
 use Rattle.model.specs.Values.{Trimmed}
 use Rattle.model.specs.Sized.{Sized, Bounded, Proper, Fitting}
-use Rattle.model.specs.Iterations.{positionOf, courseOf, iterationsOf, iterationOf, readsOf, firsts, distanceIn, distanceOf, newestOf}
+use Rattle.model.specs.Iterations.{positionOf, courseOf, iterationsOf, iterationOf, readsOf, firsts, distanceIn, distanceOf, newestOf, clockOf}
 use Rattle.grid_laws.specs.Right.{Falls, Right, Planned}
 use Rattle.grid_laws.proofs.ListLaws.{length-tabulate, getD-tabulate, all-each, each-all, greatest-same}
 use Rattle.grid_laws.proofs.BoxLaws.{box-passes, passes-box}
@@ -54,21 +54,27 @@ module _ (t u : Trimmed) (e : t .ground ≡ u .ground) (m : Members (t .offsets)
   unfolding iterationOf
   same-iteration j = ap (λ (c : Course). vector c j) same-courses
 
-  -- What a reference reads of the one, a reference reads of the other.
-  read-too : (j k : ℕ) → k < length (t .offsets) → (l : ℕ) × (l < length (u .offsets)) × (readsOf u j l ≡ readsOf t j k)
+  -- What a reference reads of the one, a reference reads of the other, in every iteration.
+  pub read-too : (k : ℕ) → k < length (t .offsets) → (l : ℕ) × (l < length (u .offsets)) × ((j : ℕ) → readsOf u j l ≡ readsOf t j k)
   unfolding readsOf positionOf
-  read-too j k b =
-      let (l, c, f) = m k b in
-      let cell = plus (iterationOf t j) (getD (t .offsets) k []) in
-      (l, c, ap₂ (λ (v o : List ℤ). position (u .ground) (plus v o)) (sym (same-iteration j)) f ∙ ap (λ (g : Ground). position g cell) (sym e))
+  read-too k b =
+      let (l, c, f) = m k b in (
+        l,
+        c,
+        λ j. ap₂ (λ (v o : List ℤ). position (u .ground) (plus v o)) (sym (same-iteration j)) f
+            ∙ ap (λ (g : Ground). position g (plus (iterationOf t j) (getD (t .offsets) k []))) (sym e),
+      )
 
   -- And the other way round.
-  read-back : (j k : ℕ) → k < length (u .offsets) → (l : ℕ) × (l < length (t .offsets)) × (readsOf t j l ≡ readsOf u j k)
+  read-back : (k : ℕ) → k < length (u .offsets) → (l : ℕ) × (l < length (t .offsets)) × ((j : ℕ) → readsOf t j l ≡ readsOf u j k)
   unfolding readsOf positionOf
-  read-back j k b =
-      let (l, c, f) = n k b in
-      let cell = plus (iterationOf u j) (getD (u .offsets) k []) in
-      (l, c, ap₂ (λ (v o : List ℤ). position (t .ground) (plus v o)) (same-iteration j) f ∙ ap (λ (g : Ground). position g cell) e)
+  read-back k b =
+      let (l, c, f) = n k b in (
+        l,
+        c,
+        λ j. ap₂ (λ (v o : List ℤ). position (t .ground) (plus v o)) (same-iteration j) f
+            ∙ ap (λ (g : Ground). position g (plus (iterationOf u j) (getD (u .offsets) k []))) e,
+      )
 
   -- Where the one's box passes 15, so does the other's.
   pub fitting-too : Fitting t → length (u .offsets) ≡ u .count → Sized (dims (u .ground)) (u .offsets) → Bounded (dims (u .ground)) (u .part) → Fitting u
@@ -97,16 +103,16 @@ module _ (t u : Trimmed) (e : t .ground ≡ u .ground) (m : Members (t .offsets)
         ub k h = falls u fu 0 k (suc k) (omega (arith, same-count)) (omega (arith, fu .references)) (omega (arith, fu .references)) .0 (b k (omega (arith, fu .references)))
 
         there : Stands (length (t .offsets)) (length (u .offsets)) (readsOf t 0) (readsOf u 0)
-        there k h = read-too 0 k h
+        there k h = let (l, b, f) = read-too k h in (l, b, f 0)
 
         back : Stands (length (u .offsets)) (length (t .offsets)) (readsOf u 0) (readsOf t 0)
-        back = read-back 0
+        back k h = let (l, b, f) = read-back k h in (l, b, f 0)
 
         entry : (k : ℕ) → k < length (t .offsets) → getD (t .offsets) k [] ≡ getD (u .offsets) k []
         entry k h =
             let (l, i, f) = m k h in
             sym f ∙ ap (λ (l : ℕ). getD (u .offsets) l [])
-            (same-index (length (t .offsets)) (length (u .offsets)) (readsOf t 0) (readsOf u 0) ta ub there back k l h i (read-too 0 k h .2))
+            (same-index (length (t .offsets)) (length (u .offsets)) (readsOf t 0) (readsOf u 0) ta ub there back k l h i (read-too k h .2 0))
 
     -- So each pair has the same distance.
     pub same-distances : (k : ℕ) → distanceOf t k ≡ distanceOf u k
@@ -143,16 +149,32 @@ fewest-places t u e m n d pt pu ft some planned right =
     same-counts : t .count ≡ u .count
     same-counts = sym (pt .references) ∙ ap (λ (os : List (List ℤ)). length os) (same-order t u e m n d ft fu some falls-t falls-u) ∙ pu .references
 
--- They have the same newest cells.
-pub same-newest : (t u : Trimmed) → t .ground ≡ u .ground → Members (t .offsets) (u .offsets) → Members (u .offsets) (t .offsets) → t .part ≡ u .part → (j : ℕ) → newestOf t j ≡ newestOf u j
-unfolding newestOf
-same-newest t u e m n d j =
-    greatest-same (tabulate (length (t .offsets)) (readsOf t j)) (tabulate (length (u .offsets)) (readsOf u j)) 0
-    (side t u (read-too t u e m n d j)) (side u t (read-too u t (sym e) n m (sym d) j))
+-- What goes by all that is read of the one is the same of the other: a number of each reference, the greatest of them.
+same-greatest : (t u : Trimmed) (f : Trimmed → ℕ → ℕ) → ((k : ℕ) → k < length (t .offsets) → (l : ℕ) × (l < length (u .offsets)) × (f u l ≡ f t k))
+    → ((k : ℕ) → k < length (u .offsets) → (l : ℕ) × (l < length (t .offsets)) × (f t l ≡ f u k))
+    → greatest (tabulate (length (t .offsets)) (f t)) ≡ greatest (tabulate (length (u .offsets)) (f u))
+same-greatest t u f there back =
+    greatest-same (tabulate (length (t .offsets)) (f t)) (tabulate (length (u .offsets)) (f u)) 0 (side t u there) (side u t back)
   where
-    side : (t u : Trimmed) → ((k : ℕ) → k < length (t .offsets) → (l : ℕ) × (l < length (u .offsets)) × (readsOf u j l ≡ readsOf t j k))
-        → Among 0 (tabulate (length (t .offsets)) (readsOf t j)) (tabulate (length (u .offsets)) (readsOf u j))
-    side t u f k h =
+    side : (t u : Trimmed) → ((k : ℕ) → k < length (t .offsets) → (l : ℕ) × (l < length (u .offsets)) × (f u l ≡ f t k))
+        → Among 0 (tabulate (length (t .offsets)) (f t)) (tabulate (length (u .offsets)) (f u))
+    side t u g k h =
         let c = rw length-tabulate at h in
-        let (l, b, x) = f k c in
-        (l, rw length-tabulate b, getD-tabulate (length (u .offsets)) (readsOf u j) l 0 b ∙ x ∙ sym (getD-tabulate (length (t .offsets)) (readsOf t j) k 0 c))
+        let (l, b, x) = g k c in
+        (l, rw length-tabulate b, getD-tabulate (length (u .offsets)) (f u) l 0 b ∙ x ∙ sym (getD-tabulate (length (t .offsets)) (f t) k 0 c))
+
+module _ (t u : Trimmed) (e : t .ground ≡ u .ground) (m : Members (t .offsets) (u .offsets)) (n : Members (u .offsets) (t .offsets)) (d : t .part ≡ u .part) where
+  -- They have the same newest cells
+  pub same-newest : (j : ℕ) → newestOf t j ≡ newestOf u j
+  unfolding newestOf
+  same-newest j = same-greatest t u (λ v k. readsOf v j k)
+      (λ k h. let (l, b, f) = read-too t u e m n d k h in (l, b, f j)) (λ k h. let (l, b, f) = read-back t u e m n d k h in (l, b, f j))
+
+  -- and the same clocks.
+  pub same-clocks : (j : ℕ) → clockOf t j ≡ clockOf u j
+  unfolding clockOf
+  same-clocks zero = same-newest 0
+  same-clocks (suc j) = ap₂ (λ (x y : ℕ). x + y) (same-clocks j)
+      (same-greatest t u (λ v k. readsOf v (suc j) k - readsOf v j k)
+      (λ k h. let (l, b, f) = read-too t u e m n d k h in (l, b, ap₂ (λ (x y : ℕ). x - y) (f (suc j)) (f j)))
+      (λ k h. let (l, b, f) = read-back t u e m n d k h in (l, b, ap₂ (λ (x y : ℕ). x - y) (f (suc j)) (f j))))

@@ -1,6 +1,6 @@
 -- Cells, iterations and what is read, of a request or a chain as a value (document 01, "Grid, window, distances"; document
 -- 02, requests 4 and 5). What is said of a chain goes by these names.
-use Prim.Native.Nat.{ℕ, suc, _+_, _-_}
+use Prim.Native.Nat.{ℕ, zero, suc, _+_, _-_}
 use mathlib.Core.Bool.{Bool, cond, _&&_}
 use mathlib.Core.List.{List, [], _∷_, map}
 use lib.Dec.{eqb}
@@ -75,3 +75,9 @@ module _ (t : Trimmed) where
   -- "An iteration's newest cell is the one of highest position that its references read."
   unfoldable pub newestOf : ℕ → ℕ
   newestOf j = greatest (tabulate (length (t .offsets)) (λ k. readsOf j k))
+
+  -- The clock of iteration j, from 0: that of the first is its newest cell's position, and each later one comes as many clocks
+  -- behind the one before as the reference that has furthest to go.
+  unfoldable pub clockOf : ℕ → ℕ
+  clockOf zero = newestOf zero
+  clockOf (suc j) = clockOf j + greatest (tabulate (length (t .offsets)) (λ k. readsOf (suc j) k - readsOf j k))

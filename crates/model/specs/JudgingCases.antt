@@ -1,25 +1,28 @@
 -- Chains and requests handed over as values, judged (document 01, "Turned back on account of the input", 3 to 9; document 02,
--- requests 2 and 4, 14 and 15): one table, computed.
+-- requests 2, 4 and 5, 14 to 16): one table, computed.
 use Prim.Native.Nat.{ℕ}
 use mathlib.Core.Bool.{Bool, true, false}
 use mathlib.Core.List.{List, [], _∷_, map, flatMap}
 use mathlib.Core.Path.{_≡_, refl}
 use lib.IntN.{ℤ, pos, negsuc}
+use lib.ListN.{length}
 use lib.Ieee.{Float, binary32, ofBits}
 use Rattle.model.specs.Lists.{tabulate, sum, product, greatest, all, any, someBelow}
 use Rattle.model.specs.Vectors.{same, above, plus, equal, before, isZero}
 use Rattle.model.specs.Geometry.{place, natural, firstEntry, otherEntries, leastFrom, least, lows, extent, extents, indices}
 use Rattle.model.specs.Geometry as rectangular
 use Rattle.model.specs.Grounds.{cellCount, inside, cellPlace, position, cellAt, isIteration}
-use Rattle.model.specs.Courses.{count, vector, allIterations}
-use Rattle.model.specs.Boxes.{indexCount, widths, boxShape, boxCourse, course, crossed, readsOutside, badBox}
+use Rattle.model.specs.Grounds.{cellsAbove, rowCells, hasColumn, insideRows, rowPlace, rowAt, columnAt}
+use Rattle.model.specs.Courses.{count, vector, smallest, rowsDown, columnsOn, commonStart, commonEnd, commonRow}
+use Rattle.model.specs.Courses.{allIterations}
+use Rattle.model.specs.Boxes.{indexCount, widths, equalRows, boxShape, boxCourse, course, crossed, readsOutside, badBox}
 use Rattle.model.specs.Values.{sizesOf, offsetOf, offsetsOf, partOf, capacitiesOf, orderOf, trimmed, noBounds, noOrder}
-use Rattle.model.specs.Values.{requestOf, groundOf, dimsOf}
-use Rattle.model.specs.Iterations.{positionOf, courseOf, iterationOf, readsOf, firsts, distanceIn, distanceOf}
+use Rattle.model.specs.Values.{requestOf, groundOf, dimsOf, rowsOf}
+use Rattle.model.specs.Iterations.{positionOf, courseOf, iterationOf, readsOf, firstsFrom, firsts, distanceIn, distanceOf}
 use Rattle.model.specs.Answers.{numberOf, verdictNumber, firstOf}
 use Rattle.model.specs.Judging.{badDims, badSizes, badGrid, badCount, repeats, noIteration, needsCentre, lacksCentre}
 use Rattle.model.specs.Judging.{notFinite, badFactor, tooLarge, twice, badOrder, windowChecks, kernelChecks}
-use Rattle.model.specs.Judging.{chainChecks, valueChecks, judged, judgeChain}
+use Rattle.model.specs.Judging.{chainChecks, valueChecks, judged, judgeChain, badRow, badRowCount, badRows}
 use Rattle.model.specs.Steps.{insert, falling, whichOf, authorsOrder, sorted, distances}
 use Rattle.model.specs.Planning.{trimmedRequest, judgeRequest}
 use Rattle.model.specs.declared.Bounds.{Bounds}
@@ -39,16 +42,20 @@ pub record Numbers : Type 0 where
   pub chain : ℕ
   pub request : ℕ
 
+-- `rows`: the rows that are lent beside it.
 pub record Case : Type 0 where
   pub value : Chain
-  pub rows : Numbers
+  pub rows : List ℕ
+  pub numbers : Numbers
 
 unfoldable pub answered : Case → Numbers
-answered c = record
-    { chain = verdictNumber (judgeChain (c .value) []); request = verdictNumber (judgeRequest (requestOf (c .value)) []) }
+answered c = record {
+  chain = verdictNumber (judgeChain (c .value) (c .rows));
+  request = verdictNumber (judgeRequest (requestOf (c .value)) (c .rows));
+}
 
 unfoldable pub expected : Case → Numbers
-expected c = c .rows
+expected c = c .numbers
 
 -- A value with bounds and an order.
 abbrev valued : Grid → (count : ℕ) (offsets : List ℤ) → Bounds → (capacities : List ℕ) → Order → Kernel → (chain request : ℕ)
@@ -65,7 +72,8 @@ valued g count offsets b capacities o k chain request = record {
     order = o;
     kernel = k;
   };
-  rows = record { chain = chain; request = request };
+  rows = [];
+  numbers = record { chain = chain; request = request };
 }
 
 -- With an order, whose line stood or did not; with bounds, likewise; and without both.
@@ -89,6 +97,57 @@ line size = record { skewed = false; rows = 0; dims = 1; sizes = size ∷ 0 ∷ 
 abbrev grid : ℕ → List ℕ → Grid
 grid dims sizes = record { skewed = false; rows = 0; dims = dims; sizes = sizes }
 
+-- By all entries of its offsets, of which each has four.
+abbrev entries : Grid → List (List ℤ) → (capacities : List ℕ) → Kernel → (chain request : ℕ) → Case
+entries g offsets capacities k chain request = record {
+  value = record {
+    grid = g;
+    window = record { count = length offsets; offsets = flatMap (λ (o : List ℤ). o) offsets };
+    bounds = noBounds;
+    capacities = capacities;
+    order = noOrder;
+    kernel = k;
+  };
+  rows = [];
+  numbers = record { chain = chain; request = request };
+}
+
+abbrev at : ℤ → ℤ → ℤ → ℤ → List ℤ
+at a b c d = a ∷ b ∷ c ∷ d ∷ []
+
+-- On rows, a start and a length each, with offsets that lie in one column; in a box.
+abbrev inColumn : (count : ℕ) (rows : List ℕ) → Bounds → (offsets : List ℤ) → (chain request : ℕ) → Case
+inColumn count rows b offsets chain request = record {
+  value = record {
+    grid = record { skewed = true; rows = count; dims = 2; sizes = [] };
+    window = record {
+      count = length offsets;
+      offsets = flatMap (λ (x : ℤ). let offset : List ℤ = x ∷ pos 0 ∷ pos 0 ∷ pos 0 ∷ [] in offset) offsets;
+    };
+    bounds = b;
+    capacities = [];
+    order = noOrder;
+    kernel = kernel.Raw;
+  };
+  rows = rows;
+  numbers = record { chain = chain; request = request };
+}
+
+-- Rows a to c, columns b to d.
+abbrev rowsAndColumns : (a b c d : ℕ) → Bounds
+rowsAndColumns a b c d = record { stood = true; lowest = pos a ∷ pos b ∷ []; highest = pos c ∷ pos d ∷ [] }
+
+-- 11 rows of 1,024 cells that start at 1,023 and at 0 by turns: they have column 1,023 in common. A cell of it and the one
+-- above are 1 apart or 2,047, by turns. And 10 cells one above the other.
+abbrev zigzag : List ℕ
+zigzag =
+    1023 ∷ 1024 ∷ 0 ∷ 1024 ∷ 1023 ∷ 1024 ∷ 0 ∷ 1024 ∷ 1023 ∷ 1024 ∷ 0 ∷ 1024 ∷ 1023 ∷ 1024 ∷ 0 ∷ 1024 ∷ 1023 ∷ 1024 ∷ 0 ∷ 1024
+    ∷ 1023 ∷ 1024 ∷ []
+
+abbrev ten : List ℤ
+ten =
+    pos 0 ∷ negsuc 0 ∷ negsuc 1 ∷ negsuc 2 ∷ negsuc 3 ∷ negsuc 4 ∷ negsuc 5 ∷ negsuc 6 ∷ negsuc 7 ∷ negsuc 8 ∷ []
+
 abbrev scaledBy : ℕ → Kernel
 scaledBy f = kernel.Scaled (float f)
 
@@ -105,6 +164,9 @@ cases =
     ∷ case (grid 9 (1 ∷ 1 ∷ 1 ∷ 1 ∷ [])) 99 [] [] kernel.Raw 3 3
     -- "a size 0", before 4: n = 0
     ∷ case (line 0) 0 [] [] kernel.Raw 3 3
+    -- in any dimension
+    ∷ case (grid 3 (3 ∷ 4 ∷ 0 ∷ 1 ∷ [])) 1 (pos 0 ∷ []) [] kernel.Raw 3 3
+    ∷ case (grid 4 (3 ∷ 4 ∷ 3 ∷ 0 ∷ [])) 1 (pos 0 ∷ []) [] kernel.Raw 3 3
     -- "too many cells", as whole numbers: 65,536 four times
     ∷ case (grid 4 (65536 ∷ 65536 ∷ 65536 ∷ 65536 ∷ [])) 1 (pos 0 ∷ []) [] kernel.Raw 3 3
     -- 4: "n outside 1 to 32", before 5: the offsets past those given are all 0. With n = 32 it is 5.
@@ -114,6 +176,11 @@ cases =
     ∷ case (line 5) 32 (pos 0 ∷ []) [] kernel.Raw 5 5
     -- 5 before 6: on size 2, offsets 0, 2 and 0
     ∷ case (line 2) 3 (pos 0 ∷ pos 2 ∷ pos 0 ∷ []) (2 ∷ 2 ∷ []) kernel.Raw 5 5
+    -- by all entries, and those of the grid's dimensions alone: the fourth differs
+    ∷ entries (grid 4 (2 ∷ 2 ∷ 2 ∷ 2 ∷ [])) (at (pos 0) (pos 0) (pos 0) (pos 1) ∷ at (pos 0) (pos 0) (pos 0) (pos 0) ∷ [])
+    (1 ∷ []) kernel.Raw 0 0
+    ∷ entries (grid 3 (2 ∷ 2 ∷ 2 ∷ 2 ∷ [])) (at (pos 0) (pos 0) (pos 0) (pos 1) ∷ at (pos 0) (pos 0) (pos 0) (pos 0) ∷ [])
+    (1 ∷ []) kernel.Raw 5 5
     -- 6 before 7: on size 2, offsets 1 and −1, and difference
     ∷ case (line 2) 2 (pos 1 ∷ negsuc 0 ∷ []) (2 ∷ []) kernel.Difference 6 6
     -- 7 before 8: no centre, and an infinite factor; scaled and raw need no centre
@@ -121,6 +188,10 @@ cases =
     ∷ case (line 5) 2 (pos 2 ∷ pos 1 ∷ []) (1 ∷ []) kernel.Difference 7 7
     ∷ case (line 5) 2 (pos 2 ∷ pos 1 ∷ []) (1 ∷ []) (scaledBy 0x3F800000) 0 0
     ∷ case (line 5) 2 (pos 2 ∷ pos 1 ∷ []) (1 ∷ []) kernel.Raw 0 0
+    -- "The centre is the zero offset": by all entries, and those of the grid's dimensions alone
+    ∷ entries (grid 3 (2 ∷ 2 ∷ 2 ∷ 2 ∷ [])) (at (pos 0) (pos 0) (pos 1) (pos 0) ∷ []) [] kernel.Difference 7 7
+    ∷ entries (grid 4 (2 ∷ 2 ∷ 2 ∷ 2 ∷ [])) (at (pos 0) (pos 0) (pos 0) (pos 1) ∷ []) [] kernel.Difference 7 7
+    ∷ entries (grid 3 (2 ∷ 2 ∷ 2 ∷ 2 ∷ [])) (at (pos 0) (pos 0) (pos 0) (pos 1) ∷ []) [] kernel.Difference 0 0
     -- 8: "a factor that is infinite or not a number": of either sign; of a blend, only a or only b
     ∷ case (line 5) 1 (pos 0 ∷ []) [] (scaledBy 0x7F800000) 8 8
     ∷ case (line 5) 1 (pos 0 ∷ []) [] (scaledBy 0xFF800000) 8 8
@@ -136,6 +207,9 @@ cases =
     -- 9: "capacities, given or planned": a chain's are those given, a request's those planned
     ∷ case (line 20000) 2 (pos 16385 ∷ pos 0 ∷ []) (16384 ∷ []) kernel.Raw 0 9
     ∷ case (line 5) 3 (pos 2 ∷ pos 1 ∷ pos 0 ∷ []) (16384 ∷ 1 ∷ []) kernel.Raw 9 0
+    -- on rows those "over the box's" iterations, "where a box is given": nine of 2,047; in one row of them only five
+    ∷ inColumn 11 zigzag noBounds ten 0 9
+    ∷ inColumn 11 zigzag (rowsAndColumns 9 1023 9 1023) ten 0 0
     -- summed as whole numbers: 80000000 twice
     ∷ case (line 5) 3 (pos 2 ∷ pos 1 ∷ pos 0 ∷ []) (0x80000000 ∷ 0x80000000 ∷ []) kernel.Raw 9 0
     -- 14: "not each filter number once": n, a byte twice; what stands past n plays no part
@@ -161,10 +235,15 @@ cases =
     ∷ bounded true (pos 0 ∷ []) (pos 2 ∷ []) (line 5) 2 (pos 3 ∷ pos 0 ∷ []) (3 ∷ []) kernel.Raw 15 15
     ∷ bounded true (negsuc 0 ∷ []) (pos 1 ∷ []) (line 5) 2 (pos 3 ∷ pos 0 ∷ []) (3 ∷ []) kernel.Raw 15 15
     ∷ bounded true (pos 7 ∷ []) (pos 9 ∷ []) (line 5) 2 (pos 3 ∷ pos 0 ∷ []) (3 ∷ []) kernel.Raw 15 15
-    -- in one dimension of two, the second
+    -- each in one dimension of two, the second
     ∷ bounded true (pos 0 ∷ pos 0 ∷ []) (pos 1 ∷ pos 3 ∷ []) (grid 2 (5 ∷ 4 ∷ [])) 2 (pos 3 ∷ pos 0 ∷ []) (12 ∷ []) kernel.Raw 0 0
     ∷ bounded true (pos 0 ∷ pos 0 ∷ []) (pos 1 ∷ pos 4 ∷ []) (grid 2 (5 ∷ 4 ∷ [])) 2 (pos 3 ∷ pos 0 ∷ []) (12 ∷ []) kernel.Raw
     15 15
+    ∷ bounded true (pos 0 ∷ pos 3 ∷ []) (pos 1 ∷ pos 2 ∷ []) (grid 2 (5 ∷ 4 ∷ [])) 2 (pos 3 ∷ pos 0 ∷ []) (12 ∷ []) kernel.Raw
+    15 15
+    -- on rows, between two corners that are iterations: where rows 0 to 2 have column 1, and where row 1 does not
+    ∷ inColumn 3 (0 ∷ 3 ∷ 0 ∷ 3 ∷ 0 ∷ 3 ∷ []) (rowsAndColumns 0 1 2 1) (pos 0 ∷ []) 0 0
+    ∷ inColumn 3 (0 ∷ 3 ∷ 5 ∷ 1 ∷ 0 ∷ 3 ∷ []) (rowsAndColumns 0 1 2 1) (pos 0 ∷ []) 15 15
     -- "4 bytes each, signed": the least and the greatest number
     ∷ bounded true (negsuc 2147483647 ∷ []) (negsuc 2147483647 ∷ []) (line 5) 2 (pos 3 ∷ pos 0 ∷ []) (3 ∷ []) kernel.Raw 15 15
     ∷ bounded true (pos 2147483647 ∷ []) (pos 2147483647 ∷ []) (line 5) 2 (pos 3 ∷ pos 0 ∷ []) (3 ∷ []) kernel.Raw 15 15
@@ -183,8 +262,10 @@ cases =
 pub table : map answered cases ≡ map expected cases
 unfolding answered expected cases flatMap ofBits tabulate sum product greatest all any someBelow same above plus equal before
     isZero
-    rectangular.cellCount cellCount place natural position cellPlace cellAt firstEntry otherEntries leastFrom least lows
-    extent extents indices count vector allIterations rectangular.inside inside isIteration indexCount widths boxShape
+    cellsAbove rowCells hasColumn insideRows rowPlace rowAt columnAt smallest rowsDown columnsOn commonStart commonEnd commonRow
+    equalRows firstsFrom rowsOf badRow badRowCount badRows rectangular.cellCount cellCount place natural position cellPlace cellAt
+    firstEntry otherEntries leastFrom least lows extent extents indices count vector allIterations rectangular.inside
+    inside isIteration indexCount widths boxShape
     boxCourse course crossed readsOutside badBox positionOf courseOf iterationOf readsOf firsts distanceIn distanceOf
     sizesOf groundOf dimsOf offsetOf offsetsOf partOf capacitiesOf orderOf trimmed numberOf verdictNumber firstOf
     badDims badSizes badGrid badCount repeats noIteration needsCentre lacksCentre notFinite badFactor tooLarge twice badOrder

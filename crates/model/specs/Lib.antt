@@ -15,3 +15,4 @@ pub mod Planning
 pub mod GridCases
 pub mod JudgingCases
 pub mod StepCases
+pub mod AnswerCases

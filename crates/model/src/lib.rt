@@ -169,11 +169,12 @@ pub struct Ran {
 
 // The types of the sheet.
 
-// How many bytes of a line are kept: no line that is accepted has as many.
+// How many bytes of a line are kept: of the lines that are accepted only an `09` line has as many.
 pub const KEPT: usize = 40;
 
 // A line decoded as its characters arrive: the bytes that are kept, 0 past its end; how many it has, counted no further than
-// those; whether every character was a digit; and, where `half`, the digit `high` of a byte that is not whole yet.
+// one past the longest `09` line; whether every character was a digit; and, where `half`, the digit `high` of a byte that is
+// not whole yet.
 pub struct Frame {
     pub first: [u8; KEPT],
     pub len: usize,
@@ -182,7 +183,7 @@ pub struct Frame {
     pub high: u8,
 }
 
-// Which of a sheet's lines stood last: none, or an `01`, `02`, `07`, `08`, `03`, `06` or `04` line.
+// Which of a sheet's lines stood last: none, the grid's (`01` or `09`), or an `02`, `07`, `08`, `03`, `06` or `04` line.
 pub enum Last {
     Nothing,
     Grid,

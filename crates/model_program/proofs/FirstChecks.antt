@@ -1,27 +1,31 @@
 -- A number is answered exactly if its condition holds first.
 use Prim.Native.Nat.{ℕ, zero, suc, _<_}
 use mathlib.Core.Bool.{Bool, true, false, not, cond}
-use mathlib.Core.List.{List, [], _∷_, _++_}
-use mathlib.Core.Path.{_≡_, refl, subst}
+use mathlib.Core.List.{List, [], _∷_, _++_, flatMap, append-assoc, map-append}
+use mathlib.Core.Path.{_≡_, refl, sym, _∙_, ap, ap₂, subst}
 use native.Mathlib.Nat.{le-of-suc-le-suc}
 use native.Mathlib.Omega.{arith}
 use lib.Dec.{eqb, ltb}
 use lib.ListN.{length, getD}
 use Rattle.model.specs.Grounds.{Ground}
 use Rattle.model.specs.Grounds.Ground.{rectangle, skewed}
-use Rattle.model.specs.Values.{groundOf, Trimmed, trimmed}
-use Rattle.model.specs.Answers.{numberOf, verdictNumber, Check, check, firstOf}
+use Rattle.model.specs.Values.{groundOf, Trimmed, trimmed, requestOf}
+use Rattle.model.specs.Answers.{numberOf, verdictNumber, Check, check, firstOf, byVerdict}
 use Rattle.model.specs.Judging.{groundRefusal, windowChecks, kernelChecks, chainChecks, valueChecks, judged, judgeChain}
 use Rattle.model.specs.Planning.{trimmedRequest, judgeRequest}
 use Rattle.model_run.specs.Running.{layout, countersOf, shortStore, badState, judgeRun}
-use Rattle.model_sheet.specs.Frames.{Seen}
-use Rattle.model_sheet.specs.Reading.{kindOf, secondOf, malformed, lineChecks, lineVerdict, cellVerdict}
+use Rattle.model_sheet.specs.Lines.{Line, linesOf}
+use Rattle.model_sheet.specs.Frames.{Seen, seenOf}
+use Rattle.model_sheet.specs.Reading.{kindOf, secondOf, malformed, lineChecks, lineVerdict, taken, stepOf, start, complete, readLines, endVerdict, numbersIn, readChain, readRequest, cellVerdict}
 use Rattle.model_sheet.specs.Writing.{sheetOf, writeVerdict}
 use Rattle.model_program.specs.FirstChecks.{HoldsFirst, NoneHolds, AnswersFirst, numbersOf, conditionsOf, valueConditions, gridNumber, valueNumbers, FirstChecks}
+use Rattle.model_program.specs.FirstChecks.{linesChecks, allTaken, valueRead, sheetChecks, lineNumbers, sheetNumbers}
 use Rattle.model.specs.declared.Chain.{Chain}
+use Rattle.model.specs.declared.LineStep.{LineStep}
 use Rattle.model.specs.declared.Reading.{Reading}
 use Rattle.model.specs.declared.Refusal.the-variants as refusal
 use Rattle.model.specs.declared.State.{State}
+use Rattle.model.specs.declared.Verdict.{Verdict}
 use Rattle.model.specs.declared.Verdict.the-variants as verdict
 use Rattle.grid_laws.proofs.CheckLaws.{passes, then-checks}
 
@@ -95,9 +99,78 @@ write c rows room =
     (value-behind (trimmed c rows) last)
 
 line : (chainSheet : Bool) (rows : List ℕ) (r : Reading) (l : Seen)
-    → AnswersFirst (1 ∷ 2 ∷ 3 ∷ 16 ∷ 1 ∷ 3 ∷ 16 ∷ 4 ∷ 13 ∷ []) (conditionsOf (lineChecks chainSheet rows r l)) (lineVerdict chainSheet rows r l)
+    → AnswersFirst lineNumbers (conditionsOf (lineChecks chainSheet rows r l)) (lineVerdict chainSheet rows r l)
 unfolding numbersOf numberOf lineChecks lineVerdict
 line chainSheet rows r l = checks (lineChecks chainSheet rows r l)
+
+-- The checks of a sheet, one after another: the reading goes on where a line's pass, and its verdict is the first that does not.
+lines-first : (chainSheet : Bool) (rows : List ℕ) (checked : Reading → List Check) (r : Reading) (ls : List Line)
+    → endVerdict (readLines chainSheet rows r ls) (firstOf (checked (readLines chainSheet rows r ls .reading)))
+    ≡ firstOf (linesChecks chainSheet rows r ls ++ (check (not (complete (allTaken r ls))) refusal.Misplaced ∷ checked (allTaken r ls)))
+unfolding readLines linesChecks allTaken endVerdict stepOf lineVerdict firstOf
+lines-first chainSheet rows checked r [] = go (complete r)
+  where
+    go : (b : Bool) → cond b (firstOf (checked r)) (verdict.Refused refusal.Misplaced) ≡ cond (not b) (verdict.Refused refusal.Misplaced) (firstOf (checked r))
+    go true = refl
+    go false = refl
+lines-first chainSheet rows checked r (l ∷ ls) =
+    go (firstOf here) (lines-first chainSheet rows checked (taken r (seen .first)) ls) ∙ sym (then-checks here below) ∙ ap firstOf (sym (append-assoc here (linesChecks chainSheet rows (taken r (seen .first)) ls) last))
+  where
+    seen : Seen
+    seen = seenOf (l .ended) (l .chars)
+
+    here : List Check
+    here = lineChecks chainSheet rows r seen
+
+    last : List Check
+    last = check (not (complete (allTaken (taken r (seen .first)) ls))) refusal.Misplaced ∷ checked (allTaken (taken r (seen .first)) ls)
+
+    below : List Check
+    below = linesChecks chainSheet rows (taken r (seen .first)) ls ++ last
+
+    rest : LineStep
+    rest = readLines chainSheet rows (taken r (seen .first)) ls
+
+    -- The step, by the line's verdict.
+    stepped : Verdict → LineStep
+    stepped v = record { verdict = v; reading = byVerdict v (taken r (seen .first)) (λ x. r) }
+
+    further : Verdict → LineStep
+    further v = byVerdict v (readLines chainSheet rows (stepped v .reading) ls) (λ x. stepped v)
+
+    go : (v : Verdict) → endVerdict rest (firstOf (checked (rest .reading))) ≡ firstOf below
+        → endVerdict (further v) (firstOf (checked (further v .reading))) ≡ byVerdict v (firstOf below) verdict.Refused
+    go verdict.Accepted e = e
+    go (verdict.Refused x) e = refl
+
+-- The numbers of the lines.
+lines-numbers : (chainSheet : Bool) (rows : List ℕ) (r : Reading) (ls : List Line) → numbersOf (linesChecks chainSheet rows r ls) ≡ flatMap (λ _. lineNumbers) ls
+unfolding linesChecks numbersOf numberOf lineChecks flatMap
+lines-numbers chainSheet rows r [] = refl
+lines-numbers chainSheet rows r (l ∷ ls) =
+    let seen = seenOf (l .ended) (l .chars) in
+    ap (λ (ns : List ℕ). 1 ∷ 2 ∷ 3 ∷ 16 ∷ 1 ∷ 3 ∷ 16 ∷ 4 ∷ 13 ∷ ns) (lines-numbers chainSheet rows (taken r (seen .first)) ls)
+
+value-numbers : (t : Trimmed) → numbersOf (valueChecks t) ≡ valueNumbers (t .ground)
+unfolding numbersOf numberOf valueChecks windowChecks kernelChecks chainChecks
+value-numbers t = ap (λ (n : ℕ). n ∷ 4 ∷ 5 ∷ 6 ∷ 15 ∷ 7 ∷ 8 ∷ 9 ∷ 14 ∷ []) (grid-number (t .ground))
+
+sheet-numbers : (chainSheet : Bool) (sheet : List ℕ) → numbersOf (sheetChecks chainSheet sheet) ≡ sheetNumbers chainSheet sheet
+unfolding sheetChecks sheetNumbers numbersOf numberOf
+sheet-numbers chainSheet sheet =
+    map-append (λ (c : Check). numberOf (c .refusal)) (linesChecks chainSheet (numbersIn sheet) start (linesOf sheet)) _
+    ∙ ap₂ (λ (a b : List ℕ). a ++ (2 ∷ b)) (lines-numbers chainSheet (numbersIn sheet) start (linesOf sheet)) (value-numbers (valueRead chainSheet sheet))
+
+sheet : (chainSheet : Bool) (s : List ℕ) (v : Verdict) → v ≡ firstOf (sheetChecks chainSheet s) → AnswersFirst (sheetNumbers chainSheet s) (conditionsOf (sheetChecks chainSheet s)) v
+sheet chainSheet s v e = rw (e, sym (sheet-numbers chainSheet s)) (checks (sheetChecks chainSheet s))
+
+chain-first : (s : List ℕ) → readChain s .verdict ≡ firstOf (sheetChecks true s)
+unfolding readChain sheetChecks valueRead judgeChain judged
+chain-first s = lines-first true (numbersIn s) (λ r. valueChecks (trimmed (r .chain) (numbersIn s))) start (linesOf s)
+
+request-first : (s : List ℕ) → readRequest s .verdict ≡ firstOf (sheetChecks false s)
+unfolding readRequest sheetChecks valueRead judgeRequest judged
+request-first s = lines-first false (numbersIn s) (λ r. valueChecks (trimmedRequest (requestOf (r .chain)) (numbersIn s))) start (linesOf s)
 
 cell : (l : Seen) → AnswersFirst (1 ∷ 2 ∷ []) (malformed (l .sound) (l .len) (kindOf l) (secondOf l) ∷ not (eqb (kindOf l) 5) ∷ []) (cellVerdict l)
 unfolding numbersOf conditionsOf numberOf cellVerdict
@@ -112,5 +185,7 @@ first-checks = record {
   run = run;
   write = write;
   line = line;
+  chain-sheet = λ s. sheet true s (readChain s .verdict) (chain-first s);
+  request-sheet = λ s. sheet false s (readRequest s .verdict) (request-first s);
   cell = cell;
 }

@@ -69,8 +69,10 @@ plans =
     (five ++ "020002\n020001\n020000\n0300000001\n0300000001\n06020001\n0400\n")
     ∷ listing "" "1F02\n"
     ∷ listing (five ++ "020000\n020000\n0400\n") "1F05\n"
-    -- rows: the largest distance; 16
+    -- rows: the largest distance, of all iterations and of the box's; 16
     ∷ listing (tapered ++ "0200000000\n02FFFF0000\n0400\n") (tapered ++ "0200000000\n02FFFF0000\n0300000002\n060001\n0400\n")
+    ∷ listing (tapered ++ "0200000000\n02FFFF0000\n0800000002000000020000000200000002\n0400\n")
+    (tapered ++ "0200000000\n02FFFF0000\n0800000002000000020000000200000002\n0300000001\n060001\n0400\n")
     ∷ listing "090201\n" "1F10\n"
     ∷ listing (five ++ "020000\n020000\n0400\n05\n") "1F01\n"
     -- case 6, its window by name; a name of other dimensions

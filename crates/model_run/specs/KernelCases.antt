@@ -13,26 +13,27 @@ use Rattle.model.specs.Grounds.Ground.{rectangle}
 use Rattle.model.specs.Boxes.Part.{whole}
 use Rattle.model.specs.Values.{Trimmed}
 use Rattle.model_run.specs.Kernels.{float, sumFrom, sumOf, wordsAt, terms, squared, difference, scaled, blend, written}
+use Rattle.model_run.specs.Kernels.{width}
 use Rattle.model.specs.Windows.{centreOf}
-use Rattle.model_run.specs.Running.{filtersOf, termsOf, writesOf, writtenBy}
+use Rattle.model_run.specs.Running.{filtersOf, termsOf, writesOf, writtenBy, widthOf}
 use Rattle.model.specs.declared.Kernel.{Kernel}
 use Rattle.model.specs.declared.Kernel.the-variants as kernel
 
--- A kernel, and a window in one dimension; the author's order, where its line stood; the words that the filters are
+-- A kernel and a window; the author's order, where its line stood; the words that the filters are
 -- presented, and what the firing writes.
 pub record Case : Type 0 where
   pub kernel : Kernel
-  pub offsets : List ℤ
+  pub offsets : List (List ℤ)
   pub ordered : Bool
   pub order : List ℕ
   pub words : List ℕ
   pub writes : List ℕ
 
-abbrev case : Kernel → List ℤ → (words writes : List ℕ) → Case
+abbrev case : Kernel → List (List ℤ) → (words writes : List ℕ) → Case
 case k offsets words writes = record
     { kernel = k; offsets = offsets; ordered = false; order = []; words = words; writes = writes }
 
-abbrev inOrder : (order : List ℕ) → Kernel → List ℤ → (words writes : List ℕ) → Case
+abbrev inOrder : (order : List ℕ) → Kernel → List (List ℤ) → (words writes : List ℕ) → Case
 inOrder order k offsets words writes = record
     { kernel = k; offsets = offsets; ordered = true; order = order; words = words; writes = writes }
 
@@ -47,7 +48,7 @@ chain c = record {
   dims = 1;
   ground = rectangle (8 ∷ []);
   count = length (c .offsets);
-  offsets = map (λ (x : ℤ). let offset : List ℤ = x ∷ [] in offset) (c .offsets);
+  offsets = c .offsets;
   part = whole;
   capacities = [];
   ordered = c .ordered;
@@ -62,17 +63,22 @@ unfoldable pub expected : Case → List ℕ
 expected c = c .writes
 
 -- Windows of one, two, three and four references whose centre is number 0, 1, 1 and 1.
-abbrev one : List ℤ
-one = pos 0 ∷ []
+abbrev one : List (List ℤ)
+one = (pos 0 ∷ []) ∷ []
 
-abbrev two : List ℤ
-two = pos 1 ∷ pos 0 ∷ []
+abbrev two : List (List ℤ)
+two = (pos 1 ∷ []) ∷ (pos 0 ∷ []) ∷ []
 
-abbrev three : List ℤ
-three = pos 1 ∷ pos 0 ∷ negsuc 0 ∷ []
+abbrev three : List (List ℤ)
+three = (pos 1 ∷ []) ∷ (pos 0 ∷ []) ∷ (negsuc 0 ∷ []) ∷ []
 
-abbrev four : List ℤ
-four = pos 1 ∷ pos 0 ∷ negsuc 0 ∷ negsuc 1 ∷ []
+abbrev four : List (List ℤ)
+four = (pos 1 ∷ []) ∷ (pos 0 ∷ []) ∷ (negsuc 0 ∷ []) ∷ (negsuc 1 ∷ []) ∷ []
+
+-- One in four dimensions, whose centre is number 2.
+abbrev deep : List (List ℤ)
+deep =
+    (pos 0 ∷ pos 0 ∷ pos 1 ∷ pos 0 ∷ []) ∷ (pos 0 ∷ pos 0 ∷ pos 0 ∷ pos 1 ∷ []) ∷ (pos 0 ∷ pos 0 ∷ pos 0 ∷ pos 0 ∷ []) ∷ []
 
 unfoldable pub cases : List Case
 cases =
@@ -109,6 +115,8 @@ cases =
     ∷ case (blendBy 0x3F800800 0x3F800000) two (0xBF801000 ∷ 0x3F800800 ∷ []) (0x00000000 ∷ [])
     -- "a times the centre plus b times the sum of the others": 2 × 3 + 10 × (1 + 4)
     ∷ case (blendBy 0x40000000 0x41200000) three (0x3F800000 ∷ 0x40400000 ∷ 0x40800000 ∷ []) (0x42600000 ∷ [])
+    -- 2 × 4 + 10 × (1 + 3)
+    ∷ case (blendBy 0x40000000 0x41200000) deep (0x3F800000 ∷ 0x40400000 ∷ 0x40800000 ∷ []) (0x42400000 ∷ [])
     -- "the squares of centre less each other reference": the centre's own term, infinity less itself, is left out; (3 − 1)² +
     -- (3 − 4)²
     ∷ case kernel.Difference two (0x3F800000 ∷ 0x7F800000 ∷ []) (0x7F800000 ∷ [])
@@ -117,8 +125,10 @@ cases =
     ∷ case kernel.Difference one (0x7FC00000 ∷ []) (0x00000000 ∷ [])
     ∷ []
 
-pub table : map answered cases ≡ map expected cases
+-- As many words as the width says.
+pub table : (map answered cases ≡ map expected cases)
+    × (map (λ c. widthOf (chain c)) cases ≡ map (λ c. length (c .writes)) cases)
 unfolding answered expected cases ofBits toBits add sub mul
     tabulate upTo without same isZero sumFrom sumOf centreOf wordsAt terms squared difference scaled blend written filtersOf
-    termsOf writesOf writtenBy
-table = refl
+    termsOf writesOf writtenBy width widthOf
+table = (refl, refl)

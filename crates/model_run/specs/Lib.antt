@@ -9,3 +9,4 @@ pub mod Cases
 pub mod RunCases
 pub mod RowCases
 pub mod KernelCases
+pub mod LentCases

@@ -31,7 +31,7 @@ use Rattle.model_run.specs.Store.{firstPlace, placeIn, presented, stored
 use Rattle.model_run.specs.Running.{layout, countersOf, withCounters, outcomeOf, words, clocked, look, call, events}
 use Rattle.model_run.specs.Running.{shortStore, notPast, badCounter, badFifo, badFilters, badState, judgeRun, begun}
 use Rattle.model_run.specs.Running.{filtersOf, termsOf, writesOf, writtenBy, widthOf, ended, runTrimmed, eventsTrimmed}
-use Rattle.model_run.specs.Cases.{start, endOf, firingClocks}
+use Rattle.model_run.specs.Cases.{start, endOf, firingClocks, cross}
 use Rattle.model.specs.declared.Kernel.the-variants as kernel
 
 -- A raw value on these rows.
@@ -130,6 +130,10 @@ tapered = of 2 2 ∷ of 2 1 ∷ of 2 1 ∷ []
 abbrev widened : List Row
 widened = of 1 1 ∷ of 1 1 ∷ of 0 2 ∷ []
 
+-- Three rows of five, each a column further on.
+abbrev slanted : List Row
+slanted = of 0 5 ∷ of 1 5 ∷ of 2 5 ∷ []
+
 unfoldable pub plans : List Plan
 plans =
     -- "Reuse distances now vary, and a planned capacity is the largest over all iterations": 2 and 1, and 1 and 2,
@@ -138,8 +142,11 @@ plans =
     -- "or over the box's where a box is given"; 15 of a box with a vector that is no iteration
     ∷ record { on = tapered; part = boxOf 1 2 2 2; offsets = down; number = 0; capacities = 2 ∷ [] }
     ∷ record { on = tapered; part = boxOf 2 2 2 2; offsets = down; number = 0; capacities = 1 ∷ [] }
+    ∷ record { on = widened; part = boxOf 1 1 2 1; offsets = down; number = 0; capacities = 2 ∷ [] }
     ∷ record { on = tapered; part = boxOf 1 2 1 3; offsets = down; number = 15; capacities = [] }
     ∷ record { on = tapered; part = boxOf 0 2 1 2; offsets = down; number = 15; capacities = [] }
+    -- the five-point cross, whose columns count: columns 2 to 4 of row 1
+    ∷ record { on = slanted; part = whole; offsets = cross; number = 0; capacities = 3 ∷ 1 ∷ 1 ∷ 3 ∷ [] }
     -- rows without an iteration at either end or between do not count; 6 where none has one
     ∷ record {
       on = of 0 3 ∷ of 5 1 ∷ of 0 3 ∷ of 0 3 ∷ of 9 1 ∷ [];
@@ -195,6 +202,21 @@ runs =
       capacities = 2 ∷ [];
       result = record { number = 0; outcome = 3; cells = 0; clocks = 0; firing = []; words = [] };
     }
+    -- the five-point cross
+    ∷ record {
+      on = slanted;
+      part = whole;
+      offsets = cross;
+      capacities = 3 ∷ 1 ∷ 1 ∷ 3 ∷ [];
+      result = record {
+        number = 0;
+        outcome = 0;
+        cells = 13;
+        clocks = 13;
+        firing = 10 ∷ 11 ∷ 12 ∷ [];
+        words = 10 ∷ 7 ∷ 6 ∷ 5 ∷ 2 ∷ 11 ∷ 8 ∷ 7 ∷ 6 ∷ 3 ∷ 12 ∷ 9 ∷ 8 ∷ 7 ∷ 4 ∷ [];
+      };
+    }
     -- a box on rows
     ∷ record {
       on = tapered;
@@ -215,7 +237,7 @@ runs =
     ∷ []
 
 pub plan-table : map planned plans ≡ map (λ p. (p .number, p .capacities)) plans
-unfolding planned plans down up alone column zigzag
+unfolding planned plans down up alone column zigzag cross
     tabulate upTo sum greatest all any someBelow same above plus equal before isZero natural firstEntry otherEntries leastFrom
     least
     cellsAbove rowCells cellCount hasColumn insideRows inside rowPlace cellPlace position rowAt columnAt cellAt isIteration
@@ -229,7 +251,7 @@ unfolding planned plans down up alone column zigzag
 plan-table = refl
 
 pub run-table : map ran runs ≡ map (λ p. p .result) runs
-unfolding ran runs down up start endOf firingClocks
+unfolding ran runs down up start endOf firingClocks cross
     tabulate upTo sum greatest all any someBelow same above plus equal before isZero natural firstEntry otherEntries leastFrom
     least
     cellsAbove rowCells cellCount hasColumn insideRows inside rowPlace cellPlace position rowAt columnAt cellAt isIteration

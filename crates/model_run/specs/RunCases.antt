@@ -124,6 +124,10 @@ rises = chain 5 (pos 0 ∷ pos 3 ∷ []) (16 ∷ [])
 abbrev triple : Chain
 triple = chain 6 (pos 3 ∷ pos 1 ∷ pos 0 ∷ []) (2 ∷ 1 ∷ [])
 
+-- Size 9, offsets 6, 4 and 0: three iterations, of which the first two read 6, 4 and 0, then 7, 5 and 1.
+abbrev three : (capacity capacity′ : ℕ) → Chain
+three capacity capacity′ = chain 9 (pos 6 ∷ pos 4 ∷ pos 0 ∷ []) (capacity ∷ capacity′ ∷ [])
+
 -- Where words lie.
 unfoldable pub places : List Case
 places =
@@ -194,6 +198,16 @@ refusals =
     ∷ refuses rises (state 0 (0 ∷ 1 ∷ [])) (tabulate 16 (λ k. k)) refusal.BadState
     -- "a FIFO over its capacity"
     ∷ refuses (falls 2) (state 0 (3 ∷ 0 ∷ [])) (90 ∷ 91 ∷ []) refusal.BadState
+    -- with three filters: 10 by the sum of both capacities; 11 by the second FIFO alone, and not where it has a place more
+    ∷ refuses (three 2 4) (state 0 (0 ∷ 0 ∷ 0 ∷ [])) (tabulate 5 (λ k. k)) refusal.ShortStore
+    ∷ refuses (three 2 3) (state 0 (4 ∷ 4 ∷ 0 ∷ [])) (tabulate 5 (λ k. k)) refusal.BadState
+    ∷ atOnce (three 2 4) (state 0 (4 ∷ 4 ∷ 0 ∷ [])) (tabulate 6 (λ k. k)) (11 ∷ []) [] 0 outcome.Spent
+    -- by filter 2 alone: past cell 0, its next wanted one; not past cell 0, its last fired one
+    ∷ refuses (three 2 3) (state 0 (2 ∷ 1 ∷ 1 ∷ [])) (tabulate 5 (λ k. k)) refusal.BadState
+    ∷ refuses (three 2 5) (state 1 (7 ∷ 5 ∷ 0 ∷ [])) (tabulate 7 (λ k. k)) refusal.BadState
+    -- by filter 1 below filter 2: size 5, offsets 3, 0 and 1
+    ∷ refuses (chain 5 (pos 3 ∷ pos 0 ∷ pos 1 ∷ []) (4 ∷ 4 ∷ [])) (state 0 (1 ∷ 0 ∷ 1 ∷ [])) (tabulate 8 (λ k. k))
+    refusal.BadState
     ∷ []
 
 abbrev AsExpected : List Case → Type 0

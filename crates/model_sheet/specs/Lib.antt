@@ -6,3 +6,4 @@ pub mod Reading
 pub mod Writing
 pub mod Arriving
 pub mod SheetCases
+pub mod OrderCases

@@ -120,7 +120,6 @@ requests =
     ∷ case "0900\n" 1
     ∷ case (five ++ "0900\n") 1
     ∷ case (five ++ "090000\n") 2
-    ∷ case (tapered ++ "09000100000001\n") 2
     ∷ case "090000\n" 16
     ∷ case "0900000000\n" 16
     ∷ case "090201\n" 16
@@ -130,6 +129,14 @@ requests =
     ∷ case "09000100000401\n" 16
     ∷ case "09000100000000\n" 16
     ∷ case (tapered ++ "020000\n") 1
+    -- starts and lengths of a later row too
+    ∷ case "0900020000000110000001\n" 16
+    ∷ case "0900020000000100000401\n" 16
+    ∷ case "0900020000000100000000\n" 16
+    -- a name on rows; a box whose corners are iterations, with a row between that has none
+    ∷ case (tapered ++ "0703\n0400\n") 6
+    ∷ case (tapered ++ "0704\n0400\n") 13
+    ∷ case "090003000000030005000100000003\n0200000000\n0800000000000000020000000100000001\n0400\n" 15
     -- unknown first bytes
     ∷ case "100000000000000001\n" 1
     ∷ case "110000000000\n" 1
@@ -143,19 +150,21 @@ requests =
     ∷ case "01050000000100000001000000010000000100000001\n" 3
     ∷ case "0101\n" 1
     ∷ case "0102FFFFFFFF\n" 1
+    ∷ case "01010000000500\n" 1
     ∷ case "010100000000\n" 3
+    ∷ case "0103000000030000000400000000\n" 3
+    ∷ case "010400000003000000040000000300000000\n" 3
     ∷ case "010100100001\n" 3
     ∷ case "010400010000000100000001000000010000\n" 3
     -- an `02` line: its order, at any length, but the frame first; its length; a 33rd one
-    ∷ case "02\n" 2
     ∷ case (times 60 "02" ++ "\n") 2
     ∷ case (times 60 "02" ++ "0\n") 1
     ∷ case (five ++ "0200000000\n") 1
     ∷ case (five ++ times 33 "020000\n") 4
     ∷ case (five ++ (times 32 "020000\n" ++ "0200\n")) 1
     -- `03` and `05` lines, which have no place here; their length comes first
-    ∷ case (five ++ "020000\n0300000003\n") 2
     ∷ case (five ++ "020000\n03000003\n") 1
+    ∷ case (five ++ "020000\n030000000300\n") 1
     ∷ case (five ++ "020000\n0500000003\n") 2
     ∷ case (five ++ "020000\n05000003\n") 1
     ∷ case printed 2
@@ -164,11 +173,15 @@ requests =
     ∷ case "0404\n" 1
     ∷ case "040000\n" 1
     ∷ case "04023F8000\n" 1
+    ∷ case "04023F80000000\n" 1
     ∷ case "04033F800000\n" 1
+    ∷ case "04033F8000003F80000000\n" 1
     ∷ case (five ++ "0400\n") 2
     ∷ case (five ++ "020000\n") 2
-    -- a line after it, before 5
+    -- a line after it, before 5; an `01` after an `02`
     ∷ case (five ++ "020000\n020000\n0400\n0400\n") 2
+    ∷ case (five ++ "020000\n0400\n020001\n0400\n") 2
+    ∷ case (five ++ "020000\n010100000005\n0400\n") 2
     ∷ case (five ++ "020000\n020000\n0400\n04\n") 1
     -- 5 to 9, lowest first
     ∷ case (five ++ (times 32 "020000\n" ++ "0401\n")) 5
@@ -176,6 +189,10 @@ requests =
     ∷ case (five ++ "020001\n04037F80000000000000\n") 7
     ∷ case (five ++ "020000\n04027FC00000\n") 8
     ∷ case "010100004E20\n020000\n024001\n0400\n" 9
+    -- an offset by all its entries: no centre, and one; two that differ in the fourth alone
+    ∷ case (solid ++ "02000000000001\n0401\n") 7
+    ∷ case (solid ++ "02000000000001\n02000000000000\n0401\n") 0
+    ∷ case "010400000002000000020000000200000002\n020000000000000000\n020000000000000001\n0400\n" 0
     -- an `07` line: each name, on a grid of its dimensions
     ∷ case (plane ++ "0701\n0400\n") 0
     ∷ case (plane ++ "0702\n0400\n") 0
@@ -206,7 +223,6 @@ requests =
     ∷ case "01020000000400000000\n0706\n" 3
     -- lines behind it; none
     ∷ case (plane ++ "0701\n0200000000\n0400\n") 2
-    ∷ case (plane ++ "0701\n0300000001\n") 2
     ∷ case (plane ++ "0701\n") 2
     -- 6, 7 and 9 of its offsets
     ∷ case "01020000000200000005\n0701\n0400\n" 6
@@ -215,35 +231,31 @@ requests =
     -- an `06` line, which has no place here, at any length, but the frame first
     ∷ case (five ++ "020000\n0600\n0400\n") 2
     ∷ case (five ++ "020000\n06\n") 2
-    ∷ case (five ++ "020000\n0400\n0600\n") 2
     ∷ case ("06" ++ (times 60 "00" ++ "\n")) 2
     ∷ case "060\n" 1
     -- an `08` line: behind the last `02` or the `07`; of all iterations; of a negative one
     ∷ case (plane ++ "0701\n0800000001000000010000000200000003\n0400\n") 0
     ∷ case (five ++ "020000\n020003\n080000000000000001\n0400\n") 0
     ∷ case (five ++ "020001\n020003\n08FFFFFFFF00000000\n0400\n") 0
-    -- its place, at any length, but the frame first: first, behind the `01`, another, the `04`
-    ∷ case "08\n" 2
+    -- its place, at any length, but the frame first: first, behind another, the `04`
     ∷ case ("08" ++ (times 60 "00" ++ "\n")) 2
     ∷ case "080\n" 1
-    ∷ case (five ++ "080000000000000004\n") 2
     ∷ case (five ++ "020000\n080000000000000004\n08\n") 2
     ∷ case (five ++ "020000\n0400\n08\n") 2
-    -- what stands behind it: an `02`, an `07`, an `03`, nothing
-    ∷ case (five ++ "020000\n080000000000000004\n020001\n") 2
-    ∷ case (plane ++ "0200000000\n0800000000000000030000000000000004\n0701\n") 2
-    ∷ case (five ++ "020000\n080000000000000004\n0300000001\n") 2
+    -- what stands behind it: an `02`, nothing
+    ∷ case (five ++ "020000\n080000000000000004\n020001\n0400\n") 2
     ∷ case (five ++ "020000\n080000000000000004\n") 2
     -- then its length, by the grid's dimensions
     ∷ case (five ++ "020000\n08\n0400\n") 1
     ∷ case (five ++ "020000\n0800000000000000\n0400\n") 1
     ∷ case (five ++ "020000\n08000000000000000400\n0400\n") 1
     ∷ case (plane ++ "0701\n080000000100000001\n0400\n") 1
-    -- 15 at the end: one past the last iteration, one before the first, a lowest above its highest, the least and the
-    -- greatest number
+    -- 15 at the end: one past the last iteration, one before the first, a lowest above its highest, also in the second
+    -- dimension alone, the least and the greatest number
     ∷ case (five ++ "020000\n080000000000000005\n0400\n") 15
     ∷ case (five ++ "020000\n08FFFFFFFF00000004\n0400\n") 15
     ∷ case (five ++ "020000\n080000000300000002\n0400\n") 15
+    ∷ case (plane ++ "0200000000\n0800000000000000030000000400000000\n0400\n") 15
     ∷ case (five ++ "020000\n088000000080000000\n0400\n") 15
     ∷ case (five ++ "020000\n087FFFFFFF7FFFFFFF\n0400\n") 15
     ∷ case (five ++ "020000\n08800000007FFFFFFF\n0400\n") 15
@@ -272,6 +284,8 @@ chains =
     ∷ case (five ++ "020003\n020001\n020000\n0300000002\n0400\n") 2
     ∷ case (five ++ "020003\n020000\n0300000003\n020001\n0300000001\n0400\n") 2
     ∷ case (five ++ "020003\n020000\n0300000003\n") 2
+    -- a 33rd `02` line, on its line
+    ∷ case (five ++ times 33 "020000\n") 4
     -- a line after the `04` line, before 5
     ∷ case (printed ++ "0500000001\n") 2
     ∷ case (five ++ "020000\n020000\n0300000003\n0400\n0500\n") 1
@@ -294,16 +308,13 @@ chains =
     -- of 32, with as many as there are, and one too many
     ∷ case (ruler ++ ("06" ++ (all32 ++ "\n0400\n"))) 0
     ∷ case (ruler ++ ("06" ++ (all32 ++ "20\n0400\n"))) 1
-    -- its place, at any length: before the last `03`, before an `02`, behind another, behind the `04`, first
+    -- its place, at any length: before the last `03`, before an `02`, behind another, behind the `04`
     ∷ case (five ++ "020003\n020000\n060100\n0300000003\n0400\n") 2
     ∷ case (five ++ "020002\n020001\n020000\n0300000001\n06\n") 2
     ∷ case (five ++ "0600\n020000\n0400\n") 2
     ∷ case (five ++ "020000\n0600\n0600\n0400\n") 2
     ∷ case (five ++ "020000\n0400\n06\n") 2
-    ∷ case "06\n" 2
-    -- what stands behind it
-    ∷ case (five ++ "020003\n020000\n0300000003\n060100\n0300000003\n") 2
-    ∷ case (five ++ "020000\n0600\n020001\n") 2
+    -- nothing behind it
     ∷ case (five ++ "020000\n0600\n") 2
     -- then its length
     ∷ case (five ++ "020000\n06\n0400\n") 1
@@ -329,9 +340,8 @@ chains =
     ∷ case (five ++ "020000\n080000000200000003\n080000000200000003\n0400\n") 2
     ∷ case (five ++ "020003\n080000000000000001\n020000\n0300000003\n0400\n") 2
     ∷ case (five ++ "020003\n020000\n0800000001\n0300000003\n0400\n") 1
-    -- the order of FIFOs and `06` as without it
+    -- the order of FIFOs as without it
     ∷ case (five ++ "020003\n020000\n080000000000000001\n0400\n") 2
-    ∷ case (five ++ "020003\n020000\n080000000000000001\n060100\n") 2
     -- 15 before 9 and 14
     ∷ case (five ++ "020003\n020000\n080000000000000002\n0300004001\n060000\n0400\n") 15
     ∷ []
@@ -342,6 +352,7 @@ cells =
     case "0500000001\n" 0
     ∷ case "0500000001" 1
     ∷ case "05000001\n" 1
+    ∷ case "050000000100\n" 1
     ∷ case "0404\n" 1
     ∷ case "0400\n" 2
     ∷ case "0109\n" 2
@@ -389,15 +400,22 @@ unfoldable pub cellRight : Case → Bool
 cellRight c = all (λ l. eqb (verdictNumber (cellVerdict (seenOf (l .ended) (l .chars)))) (c .number))
     (linesOf (bytesIn (c .sheet)))
 
+-- An output of the sheet's own length is long enough.
+unfoldable pub fits : Bool
+fits =
+    let sheet = bytesIn printed in
+    let w = writeOf (readChain sheet .chain) [] (replicate (length sheet) 7) in
+    eqb (verdictNumber (w .answer .verdict)) 0 && (eqb (w .answer .bytes) (length sheet) && sameBytes (w .output) sheet)
+
 -- 3 comes before 12.
 unfoldable pub blankRight : Bool
 blankRight =
     let w = writeOf blankChain [] (7 ∷ []) in
     eqb (verdictNumber (w .answer .verdict)) 3 && (eqb (w .answer .bytes) 0 && sameBytes (w .output) (7 ∷ []))
 
-pub table : (all requestRight requests && (all chainRight chains && (all cellRight cells && blankRight))) ≡ true
-unfolding bytesIn times requests chains cells sameBytes requestRight writesBack chainRight cellRight blankRight flatMap ofBits
-    toBits
+pub table : (all requestRight requests && (all chainRight chains && (all cellRight cells && (fits && blankRight)))) ≡ true
+unfolding bytesIn times requests chains cells sameBytes requestRight writesBack chainRight cellRight fits blankRight flatMap
+    ofBits toBits
     tabulate upTo sum product greatest all any someBelow same above plus equal before isZero
     cellsAbove rowCells hasColumn insideRows rowPlace rowAt columnAt smallest rowsDown columnsOn commonStart commonEnd
     commonRow equalRows firstsFrom rectangular.cellCount cellCount place natural position cellPlace cellAt firstEntry

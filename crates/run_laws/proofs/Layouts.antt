@@ -1,21 +1,22 @@
 -- The layout of an accepted chain: it is lawful, its order and capacities are right exactly if every iteration flows, and its first blocked iteration is the first that needs more.
-use Prim.Native.Nat.{ℕ, suc, _+_, _-_, _≤_, _<_}
+use Prim.Native.Nat.{ℕ, zero, suc, _+_, _-_, _≤_, _<_}
 use mathlib.Core.List.{List}
-use mathlib.Core.Path.{_≡_, refl, sym, _∙_, ap}
+use mathlib.Core.Path.{_≡_, refl, sym, _∙_, ap, ap₂, fun-ext}
 use native.Mathlib.Omega.{arith}
 use native.Mathlib.Decide.{decLt}
 use lib.ListN.{length, getD}
 use borrow.Author.Tests.{lt-ltb, le-ltb}
-use Rattle.model.specs.Lists.{sum, tabulate}
+use Rattle.model.specs.Lists.{sum, tabulate, greatest}
 use Rattle.model.specs.Grounds.Ground.{rectangle}
 use Rattle.model.specs.Values.{Trimmed}
-use Rattle.model.specs.Iterations.{cellsOf, iterationsOf, readsOf, distanceIn}
+use Rattle.model.specs.Iterations.{cellsOf, iterationsOf, readsOf, distanceIn, newestOf, clockOf}
 use Rattle.model_run.specs.Store.{firstPlace}
 use Rattle.model_run.specs.Running.{layout}
 use Rattle.grid_laws.proofs.ListLaws.{tabulate-back}
 use Rattle.grid_laws.proofs.Iterations.{rises, below-cells, falls, same-distance, right-reads, reads-right}
 use Rattle.flow.specs.Machine.{Lawful, Spans, Flows, FlowsUpTo}
 use Rattle.flow.specs.Machine as flow
+use Rattle.flow.specs.Pace.{clockAt}
 use Rattle.grid_laws.specs.Right.{Falls, RightPair, Right, Planned, HeldIn, FirstBlocked}
 use Rattle.model.specs.Sized.{Proper, Fitting}
 use Rattle.run_laws.specs.Accepted.{Accepted}
@@ -25,9 +26,22 @@ module _ (t : Trimmed) (proper : Proper t) (ok : Accepted t) where
   abbrev fit : Fitting t
   fit = fitting-of t proper ok
 
+  -- A number of each reference, and of each filter.
+  table : (f g : ℕ → ℕ) → ((k : ℕ) → f k ≡ g k) → greatest (tabulate (length (t .offsets)) f) ≡ greatest (tabulate (t .count) g)
+  table f g e = ap (λ (n : ℕ). greatest (tabulate n f)) (proper .references) ∙ ap (λ (h : ℕ → ℕ). greatest (tabulate (t .count) h)) (fun-ext e)
+
   pub wants-read : (j k : ℕ) → j < iterationsOf t → layout t .wants j k ≡ readsOf t j k
   unfolding layout
   wants-read j k h = rw (lt-ltb j (iterationsOf t) h)
+
+  -- The clock of an iteration is that of its layout.
+  pub clock-at : (j : ℕ) → j < iterationsOf t → clockOf t j ≡ clockAt (layout t) j
+  unfolding clockOf clockAt newestOf layout
+  clock-at zero h = table (λ k. readsOf t 0 k) (layout t .wants 0) (λ k. sym (wants-read 0 k h))
+  clock-at (suc j) h =
+      ap₂ (λ (x y : ℕ). x + y) (clock-at j (omega arith))
+      (table (λ k. readsOf t (suc j) k - readsOf t j k) (λ k. layout t .wants (suc j) k - layout t .wants j k)
+      (λ k. ap₂ (λ (x y : ℕ). x - y) (sym (wants-read (suc j) k h)) (sym (wants-read j k (omega arith)))))
 
   wants-end : (j k : ℕ) → iterationsOf t ≤ j → layout t .wants j k ≡ cellsOf t
   unfolding layout

@@ -13,3 +13,4 @@ pub mod CallEnds
 pub mod CallSums
 pub mod Words
 pub mod Plans
+pub mod Halves
