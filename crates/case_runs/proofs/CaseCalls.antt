@@ -15,10 +15,9 @@ use Rattle.model.specs.declared.State.{State}
 use Rattle.model.specs.Answers.{answerCounts}
 use Rattle.model_run.specs.Running.{Run as Left, runOf}
 use Rattle.runner.specs.Runs.{ranOf}
-use Rattle.case_runs.specs.declared.FirstFiring.{FirstFiring}
 use Rattle.case_runs.specs.declared.Run.{Run}
 use Rattle.case_runs.specs.declared.Share.{Share}
-use Rattle.case_runs.specs.CaseRuns.{fresh, lent, oneClock, firstFiring, endOf, afterCall, shareOf, Course, course, called, calledOn, stopped}
+use Rattle.case_runs.specs.CaseRuns.{fresh, lent, oneClock, firsts, firstFiring, endOf, afterCall, shareOf, Course, course, called, calledOn, stopped}
 
 take-least : (m n : ℕ) (l : List ℕ) → m ≡ min n (length l) → take m l ≡ take n l
 take-least m n [] e = take-nil m ∙ sym (take-nil n)
@@ -113,7 +112,7 @@ pub first-clocks : (c : Chain) (rows : List ℕ) (s : State) (cells store out : 
     → s ≡ fresh → ranOf r left written ≡ lent c rows s (record { from = 0; count = 1048576; places = 0; clocks = 4294967295 }) cells store out
     → before ≡ answerCounts (r .answer) → from ≡ before .cells
     → ranOf q left2 written2 ≡ lent c rows (r .state) (oneClock from) cells left written → next ≡ answerCounts (q .answer)
-    → (let f : FirstFiring = record { before = before; next = next } in f) ≡ firstFiring c rows cells store out
+    → firsts (record { before = before; next = next }) left2 written2 ≡ firstFiring c rows cells store out
 unfolding firstFiring
 first-clocks c rows s cells store out r left written before from q left2 written2 next e1 e2 e3 e4 e5 e6 =
     rw (sym e1, sym e2, sym e3, sym e4, sym e5, sym e6)

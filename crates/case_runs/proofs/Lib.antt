@@ -1,1 +1,2 @@
 pub mod CaseCalls
+pub mod CompareLaws

@@ -2,8 +2,7 @@
 use Prim.Native.Nat.{ℕ, zero, suc, _+_, _*_, _%_, _^_}
 use mathlib.Core.Bool.{Bool, true, false, cond, _||_}
 use mathlib.Core.List.{List, _++_}
-use mathlib.Core.Path.{_≡_}
-use lib.Dec.{T, eqb, ltb}
+use lib.Dec.{eqb, ltb}
 use lib.ListN.{take, drop, replicate}
 use Rattle.model.specs.declared.Answer.{Answer}
 use Rattle.model.specs.declared.Answer.the-variants as answer
@@ -11,7 +10,6 @@ use Rattle.model.specs.declared.Chain.{Chain}
 use Rattle.model.specs.declared.State.{State}
 use Rattle.model.specs.Answers.{answerCounts, outcomeCase}
 use Rattle.model_run.specs.Running.{Run as Left, runOf}
-use Rattle.case_runs.specs.declared.compare.Compared.{Compared}
 use Rattle.case_runs.specs.declared.FirstFiring.{FirstFiring}
 use Rattle.case_runs.specs.declared.Run.{Run}
 use Rattle.case_runs.specs.declared.Share.{Share}
@@ -47,13 +45,22 @@ lent c rows s h cells store output =
 abbrev pub oneClock : (from : ℕ) → Share
 oneClock from = record { from = from; count = 1; places = 32; clocks = 1 }
 
+-- The counts up to a run's first firing, with the store and the output that its calls leave.
+pub record Firsts : Type 0 where
+  pub counts : FirstFiring
+  pub store : List ℕ
+  pub output : List ℕ
+
+abbrev pub firsts : FirstFiring → (store output : List ℕ) → Firsts
+firsts f store output = record { counts = f; store = store; output = output }
+
 -- The clocks that a fresh run makes without an output place, and one clock more with places.
-unfoldable pub firstFiring : Chain → (rows cells store output : List ℕ) → FirstFiring
+unfoldable pub firstFiring : Chain → (rows cells store output : List ℕ) → Firsts
 firstFiring c rows cells store output =
     let l = lent c rows fresh (record { from = 0; count = 1048576; places = 0; clocks = 4294967295 }) cells store output in
     let before = answerCounts (l .answer) in
     let m = lent c rows (l .state) (oneClock (before .cells)) cells (l .store) (l .output) in
-    record { before = before; next = answerCounts (m .answer) }
+    firsts (record { before = before; next = answerCounts (m .answer) }) (m .store) (m .output)
 
 -- How a call ended: the place of its outcome in document 01's list, 5 where it was refused.
 unfoldable pub endOf : Answer → ℕ
@@ -110,7 +117,3 @@ calledOn zero c rows pieces width cells k = k
 calledOn (suc n) c rows pieces width cells k =
     let l = called c rows pieces width cells k in
     cond (stopped (l .run .words) (l .run .done) (l .run .broken)) l (calledOn n c rows pieces width cells l)
-
--- A run whose words are all the same was compared to the end of what its last call wrote.
-abbrev pub AllCompared : Compared → Type 0
-AllCompared c = T (c .same) → c .at ≡ c .run .words

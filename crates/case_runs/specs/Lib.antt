@@ -1,1 +1,2 @@
 pub mod CaseRuns
+pub mod Comparing

@@ -11,9 +11,12 @@ use nested::width;
 use nested::windows::Loops;
 use nested::windows::references;
 use std::num::wrapping_add_usize;
-ghost use Rattle.case_runs.specs.CaseRuns.{AllCompared};
+ghost use mathlib.Core.Path.{_≡_};
+ghost use Rattle.nested.specs.Nested.{agreed};
+ghost use Rattle.case_runs.specs.Comparing.{beside, loopWords, cellsRead, isIteration, compared};
 
-// How far a run's words were compared, of them in the last call's output, and whether all are the nested loop's.
+// A run beside the nested loop: how many of its words are the loop's, the place of the next in the last call's output, and
+// whether all are.
 pub struct Compared {
     pub run: Run,
     pub words: usize,
@@ -34,7 +37,10 @@ fn agreeing_at(
     out: &[u32],
     at: usize,
     end: usize,
-) -> usize {
+) -> usize
+    ensures { λ r. ⌜ r
+        ≡ agreed (loopWords l kernel (now (window .entry)) (now (cells .entry)) z y x) (now (out .entry)) width at end ⌝ }
+{
     let mut words = [0u32; 32];
     gather(l, window, cells, z, y, x, &mut words);
     apply(kernel, references(window), l.centre, &mut words);
@@ -42,7 +48,9 @@ fn agreeing_at(
 }
 
 // How many of an iteration's references read a cell: `inside` is 1 at each cell.
-fn reads_cells(l: Loops, window: &[u8], inside: &[u32], z: usize, y: usize, x: usize) -> usize {
+fn reads_cells(l: Loops, window: &[u8], inside: &[u32], z: usize, y: usize, x: usize) -> usize
+    ensures { λ r. ⌜ r ≡ cellsRead l (now (window .entry)) (now (inside .entry)) z y x ⌝ }
+{
     let mut cells = [0u32; 32];
     let ones = [1u32; 32];
     gather(l, window, inside, z, y, x, &mut cells);
@@ -50,15 +58,18 @@ fn reads_cells(l: Loops, window: &[u8], inside: &[u32], z: usize, y: usize, x: u
 }
 
 // On a skewed grid the loops go over the rectangle around it, and what reads outside is no iteration.
-fn is_iteration(l: Loops, window: &[u8], inside: &[u32], z: usize, y: usize, x: usize) -> bool {
+fn is_iteration(l: Loops, window: &[u8], inside: &[u32], z: usize, y: usize, x: usize) -> bool
+    ensures { λ r. ⌜ r ≡ isIteration l (now (window .entry)) (now (inside .entry)) z y x ⌝ }
+{
     if inside.len() == 0 {
         return true;
     }
     reads_cells(l, window, inside, z, y, x) == references(window)
 }
 
-// Every word of a run, in order, beside what the nested loop reads: from `field`, which is the stream of a rectangle, or that
-// of a skewed grid laid into the rectangle around it, where `inside` says which places are cells (empty: all).
+// The words of a run, in order, beside the nested loop's, up to the first that differs. The loop reads `field`, which is the
+// stream of a rectangle, or that of a skewed grid laid into the rectangle around it, where `inside` says which places are cells
+// (empty: all).
 pub fn compare(
     l: Loops,
     kernel: Kernel,
@@ -72,7 +83,9 @@ pub fn compare(
     store: &mut [u32],
     out: &mut [u32],
 ) -> Compared
-    ensures { λ r. ⌜ AllCompared r ⌝ }
+    ensures { λ r. ⌜ beside r (now (store .exit)) (now (out .exit))
+        ≡ compared l kernel chain (now (rows .entry)) pieces (now (window .entry)) (now (cells .entry)) (now (field .entry))
+        (now (inside .entry)) (now (store .entry)) (now (out .entry)) ⌝ }
 {
     let width = width(kernel, references(window));
     let mut run = begin();

@@ -15,8 +15,8 @@ use values::counts_of;
 ghost use mathlib.Core.Path.{_≡_};
 ghost use Prim.Native.Nat.{_+_, _*_, _%_, _^_};
 ghost use Rattle.runner.specs.Runs.{ranOf};
-ghost use Rattle.case_runs.specs.CaseRuns.{fresh as freshState, begun, lent, firstFiring, endOf, afterCall, shareOf};
-ghost use Rattle.case_runs.specs.CaseRuns.{course, called, calledOn, stopped};
+ghost use Rattle.case_runs.specs.CaseRuns.{fresh as freshState, begun, lent, firsts, firstFiring, endOf, afterCall};
+ghost use Rattle.case_runs.specs.CaseRuns.{shareOf, course, called, calledOn, stopped};
 
 // A run so far: its state, sums over its calls, how many words the last call wrote, and which outcomes were met; `broken` is
 // a refusal or a stall.
@@ -110,7 +110,8 @@ pub fn first_firing(
     store: &mut [u32],
     out: &mut [u32],
 ) -> FirstFiring
-    ensures { λ r. ⌜ r ≡ firstFiring chain (now (rows .entry)) (now (cells .entry)) (now (store .entry)) (now (out .entry)) ⌝ }
+    ensures { λ r. ⌜ firsts r (now (store .exit)) (now (out .exit))
+        ≡ firstFiring chain (now (rows .entry)) (now (cells .entry)) (now (store .entry)) (now (out .entry)) ⌝ }
 {
     let all = Share {
         from: 0,

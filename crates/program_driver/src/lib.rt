@@ -164,7 +164,9 @@ fn run_on(
     }
 }
 
-// One step: a line of the sheet, the cells of a block, a run call, or the last line.
+// One step: a line of the sheet, the cells of a block, a run call, or the last line. While the sheet's first line arrives its
+// numbers go to `rows`, also where the line is then refused: `rows` is the reading's own memory, and no result until the sheet
+// is read. What it holds after a refusal is what the equation says.
 pub fn advance(
     j: Job,
     block: &[u8],

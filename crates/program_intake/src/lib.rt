@@ -93,7 +93,9 @@ fn close_line(chained: bool, a: Arriving, rows: &[u32], frame: Frame) -> Arrivin
     }
 }
 
-// The block's characters from `at` through the first LF, or to its end; the numbers on the sheet's first line go to `rows`.
+// The block's characters from `at` through the first LF, or to its end. The numbers on the sheet's first line go to `rows` as
+// they come, also where the line is then refused: `rows` is the reading's own memory, and no result until the sheet is read.
+// What it holds after a refusal is what the equation says.
 pub fn take_line(chained: bool, a: Arriving, rows: &mut [u32], block: &[u8], at: usize) -> LineTaken
     ensures { λ r. ⌜ tookLine r (now (rows .exit)) ≡ lineTaken chained (beside a (now (rows .entry))) (now (block .entry)) at ⌝ }
 {
@@ -135,7 +137,8 @@ pub fn take_line(chained: bool, a: Arriving, rows: &mut [u32], block: &[u8], at:
     }
 }
 
-// The whole block.
+// The whole block. `rows` is the reading's own memory, and no result until the sheet is read: after a refusal it holds what the
+// equation says.
 pub fn take_block(chained: bool, a: Arriving, rows: &mut [u32], block: &[u8]) -> Arriving
     ensures { λ r. ⌜ beside r (now (rows .exit)) ≡ arrive chained (beside a (now (rows .entry))) (now (block .entry)) ⌝ }
 {

@@ -1,5 +1,5 @@
 -- Laws of tables of what lies above each row.
-use Prim.Native.Nat.{ℕ, zero, suc, _+_, _-_, _≤_, _<_, min}
+use Prim.Native.Nat.{ℕ, zero, suc, _+_, _-_, _≤_, _<_, min, max}
 use mathlib.Core.Bool.{Bool, true, false}
 use mathlib.Core.List.{List, [], _∷_}
 use mathlib.Core.Path.{_≡_, refl, sym, _∙_, ap, ap₂}
@@ -17,7 +17,7 @@ use Rattle.rows.specs.Courses.{lengthIn, looked, columnIn, rowLength}
 use Rattle.rows.specs.declared.RowCourse.{RowCourse}
 use Rattle.grid_laws.proofs.ChainLaws.{rows-count}
 use Rattle.rows.proofs.CommonLaws.{few-rows, length-boxed, length-whole}
-use Rattle.row_courses.specs.CourseTables.{aboveCount, lengthsAbove, entryOf, readAt, RowOf}
+use Rattle.row_courses.specs.CourseTables.{aboveCount, lengthsAbove, entryOf, readAt, LiesIn, RowOf}
 
 -- One row further.
 row-next : (rs : List Row) (i : ℕ) → cellsAbove rs i + row rs i .length ≡ cellsAbove rs (suc i)
@@ -94,33 +94,41 @@ reads-are rs above c v u column n xs e f g r = record {
 }
 
 -- Looking for the row of iteration j between two rows.
-pub record Between (above : List ℕ) (height j from to : ℕ) : Type 0 where
-  pub rises : from < to
-  pub most : to ≤ height
-  pub low : numberAt above from ≤ j
-  pub high : j < numberAt above to
-
-abbrev pub Search : (above : List ℕ) (height j from to : ℕ) → Type 0
-Search above height j from to = height ≤ 512 → numberAt above 0 ≤ j → j < numberAt above height → Between above height j from to
+pub record Search (above : List ℕ) (height j from to : ℕ) : Type 0 where
+  pub rises : from < max to 1
+  pub most : to ≤ min height 512
+  pub some : min (min height 512) 1 ≤ to
+  pub low : 0 < from → numberAt above from ≤ j
+  pub high : to < min height 512 → j < numberAt above to
 
 module _ (above : List ℕ) (height j : ℕ) where
   pub search-start : (to : ℕ) → to ≡ min height 512 → Search above height j 0 to
-  search-start to e few low high =
-      let d : to ≡ height = omega arith in
-      go height d high few (decLt 0 height)
-    where
-      go : (h : ℕ) → to ≡ h → j < numberAt above h → h ≤ 512 → Dec (0 < h) → Between above h j 0 to
-      go h d b few (yes some) = record { rises = omega arith; most = omega arith; low = low; high = rw d b }
-      go h d b few (no none) = let z : h ≡ 0 = omega arith in absurd (omega (arith, ap (numberAt above) z))
+  search-start to e = record { rises = omega arith; most = omega arith; some = omega arith; low = λ h. absurd (omega arith); high = λ h. absurd (omega arith) }
 
   pub search-on : (from to middle : ℕ) → from < middle → middle < to → numberAt above middle ≤ j → Search above height j from to → Search above height j middle to
-  search-on from to middle a b h s few low high = let r = s few low high in record { rises = b; most = r .most; low = h; high = r .high }
+  search-on from to middle a b h s = record { rises = omega arith; most = s .most; some = s .some; low = λ _. h; high = s .high }
 
   pub search-back : (from to middle : ℕ) → from < middle → middle < to → j < numberAt above middle → Search above height j from to → Search above height j from middle
-  search-back from to middle a b h s few low high = let r = s few low high in record { rises = a; most = omega (arith, r .most); low = r .low; high = h }
+  search-back from to middle a b h s = record { rises = omega arith; most = omega (arith, s .most); some = omega arith; low = s .low; high = λ _. h }
 
   pub search-end : (from to : ℕ) → to ≤ from + 1 → Search above height j from to → RowOf above height j from
-  search-end from to h s few low high =
-      let r = s few low high in
-      let e : to ≡ from + 1 = omega (arith, r .rises) in
-      record { below = omega (arith, r .rises, r .most); from = r .low; to = rw e at (r .high) }
+  search-end from to h s = record { below = omega (arith, s .rises, s .most); from = s .low; to = λ l. next (omega (arith, s .rises, s .most, s .some)) l }
+    where
+      next : to ≡ from + 1 → from + 1 < min height 512 → j < numberAt above (from + 1)
+      next e l = rw e at (s .high (omega arith))
+
+  -- Where iteration j lies in a row, that is the answer.
+  pub row-of-lies : (v : ℕ) → height ≤ 512 → numberAt above 0 ≤ j → j < numberAt above height → RowOf above height j v → LiesIn above height j v
+  row-of-lies v few low high r = go (decLt 0 height)
+    where
+      from : Dec (0 < v) → numberAt above v ≤ j
+      from (yes h) = r .from h
+      from (no h) = let z : v ≡ 0 = omega arith in rw z low
+
+      to : v < height → Dec (v + 1 < height) → j < numberAt above (v + 1)
+      to b (yes h) = r .to (omega arith)
+      to b (no h) = let z : v + 1 ≡ height = omega arith in rw z high
+
+      go : Dec (0 < height) → LiesIn above height j v
+      go (yes some) = let b : v < height = omega (arith, r .below) in record { below = b; from = from (decLt 0 v); to = to b (decLt (v + 1) height) }
+      go (no none) = let z : height ≡ 0 = omega arith in absurd (omega (arith, low, high, ap (numberAt above) z))

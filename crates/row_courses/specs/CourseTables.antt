@@ -1,5 +1,5 @@
 -- Tables of a run on rows: the iterations above a row, the row of an iteration, and what is read there, on any value.
-use Prim.Native.Nat.{ℕ, zero, suc, _+_, _-_, _≤_, _<_, min}
+use Prim.Native.Nat.{ℕ, zero, suc, _+_, _-_, _≤_, _<_, min, max}
 use mathlib.Core.Bool.{cond}
 use mathlib.Core.List.{List}
 use lib.Dec.{eqb, ltb}
@@ -39,9 +39,12 @@ pub record LiesIn (above : List ℕ) (height j v : ℕ) : Type 0 where
   pub from : numberAt above v ≤ j
   pub to : j < numberAt above (v + 1)
 
--- What is answered on any table: that row, where there is one.
-abbrev pub RowOf : (above : List ℕ) (height j v : ℕ) → Type 0
-RowOf above height j v = height ≤ 512 → numberAt above 0 ≤ j → j < numberAt above height → LiesIn above height j v
+-- What is answered on any table, of which 512 rows are looked at: row 0 or one that begins at or before iteration j, and it
+-- is the last one or j lies before the next. Where the table rises there is one such row; elsewhere any of them may be it.
+pub record RowOf (above : List ℕ) (height j v : ℕ) : Type 0 where
+  pub below : v < max (min height 512) 1
+  pub from : 0 < v → numberAt above v ≤ j
+  pub to : v + 1 < min height 512 → j < numberAt above (v + 1)
 
 -- The reuse distance of references k and k + 1 in the first iteration of row v; 0 where that has none.
 unfoldable pub distanceAt : List Row → (above : List ℕ) → RowCourse → (k v : ℕ) → ℕ

@@ -1,5 +1,5 @@
 // A run on rows, row by row (document 02, request 5): the tables of what lies above each row, the row of an iteration, what
-// is read there, and the reuse distances. What a public function answers on any value is fixed in specs/Tables.antt.
+// is read there, and the reuse distances. What a public function answers on any value is fixed in specs/CourseTables.antt.
 use model::Bounds;
 use model::MOST_ROWS;
 use model::Verdict;
@@ -57,7 +57,7 @@ pub fn iterations_above(count: u32, rows: &[u32], course: RowCourse, to: &mut [u
     }
 }
 
-// The course's row that iteration j lies in, by the table of the iterations above.
+// The course's row that iteration j lies in, by the table of the iterations above, where it lies in one.
 pub fn row_of(above: &[u32; 513], height: u32, j: u32) -> u32
     ensures { λ r. ⌜ RowOf (now (above .entry)) height j r ⌝ }
 {

@@ -13,11 +13,11 @@ use Rattle.model_run.specs.Clock.{Layout}
 use Rattle.model_run.specs.Store.{firstPlace}
 use Rattle.flow.specs.Machine.{Holds, Fits}
 use Rattle.run_laws.proofs.Held.{first-place-suc}
-use Rattle.loop_laws.specs.Passes.{of}
+use Rattle.loop_laws.specs.Passes.{of, FullFifos}
 use Rattle.loop_laws.specs.Sweeps.{source, Ringed}
 use Rattle.loop_laws.specs.LoopTables.{Fills}
 use Rattle.loop_laws.proofs.StoredLaws.{holds-below, holds-apart}
-use Rattle.run_fill.specs.Fills.{Placing, GoodCounter, GoodRing, Sound, Handed}
+use Rattle.run_fill.specs.Fills.{Placing, GoodCounter, GoodRing, Sound, Handed, wantsOnce, once}
 
 -- ---- one more entry
 
@@ -57,24 +57,21 @@ pub from-start : (capacity : ℕ → ℕ) → 0 ≡ firstPlace capacity 0
 unfolding firstPlace sum tabulate
 from-start capacity = refl
 
+-- A FIFO that is not full.
+pub not-full : (n k : ℕ) (caps passed : List ℕ) → k + 1 < n → (getD passed k 0 ≡ getD passed (k + 1) 0 + getD caps k 0 → ⊥) → FullFifos n caps passed → ⊥
+not-full n k caps passed h differs f = differs (rw add-one (f k (rw (← add-one k) h)))
+
 -- ---- a layout of one iteration, whose tables they are
 
-unfoldable pub wantsOf : (wants : List ℕ) (size : ℕ) → ℕ → ℕ → ℕ
-wantsOf wants size zero k = getD wants k 0
-wantsOf wants size (suc j) k = size
-
-abbrev pub one : (n size : ℕ) (wants caps : List ℕ) → Layout
-one n size wants caps = record { wants = wantsOf wants size; capacity = of caps; filters = n; cells = size; iterations = 1 }
-
 module _ (n size : ℕ) (at wants caps bases tops passed store : List ℕ) (S : Sound n size (length store) at wants caps bases tops passed) (there : length passed ≡ 32) where
-  behind : (k : ℕ) → k < n → Dec (suc k < n) → Fits (one n size wants caps) k (getD passed k 0) (slice (suc k) n passed)
+  behind : (k : ℕ) → k < n → Dec (suc k < n) → Fits (once n size wants caps) k (getD passed k 0) (slice (suc k) n passed)
   behind k h (yes g) = rw (slice-cons (suc k) n passed 0 g (omega (arith, there, S .counted .few))) (let x = S .housed k (rw add-one g) .4 in rw add-one at x)
   behind k h (no g) =
       let e : slice (suc k) n passed ≡ [] = drop-of-length-le (take n passed) {i = suc k} (omega (arith, length-take-le n passed (omega (arith, there, S .counted .few)))) in
       rw e tt
 
-  holds-from : (m k : ℕ) → k + m ≡ n → Holds (one n size wants caps) 0 k (source size passed k) (slice k n passed)
-  unfolding source wantsOf
+  holds-from : (m k : ℕ) → k + m ≡ n → Holds (once n size wants caps) 0 k (source size passed k) (slice k n passed)
+  unfolding source wantsOnce
   holds-from zero k e =
       let d : slice k n passed ≡ [] = drop-of-length-le (take n passed) {i = k} (omega (arith, length-take-le n passed (omega (arith, there, S .counted .few)))) in
       rw d (let z : k ≡ n = omega arith in z)
@@ -84,8 +81,8 @@ module _ (n size : ℕ) (at wants caps bases tops passed store : List ℕ) (S : 
       rw (slice-cons k n passed 0 h (omega (arith, there, S .counted .few)))
       (record { filter = h; fired = omega arith; wanted = g .2; sourced = g .3; fits = behind k h (decLt (suc k) n) }, holds-from m (suc k) (omega arith))
 
-  pub handed : Handed (one n size wants caps) (λ _. getD wants 0 0 - getD at 0 0) n size 1 0 at wants caps bases tops passed store
-  unfolding wantsOf source
+  pub handed : Handed (once n size wants caps) (λ _. getD wants 0 0 - getD at 0 0) n size 1 0 at wants caps bases tops passed store
+  unfolding wantsOnce source
   handed = record {
     tables = record {
       filters-are = refl;
@@ -109,15 +106,15 @@ module _ (n size : ℕ) (at wants caps bases tops passed store : List ℕ) (S : 
     tops-are = λ k h. S .housed k (rw add-one h) .2;
   }
     where
-      rises : (j k : ℕ) → j < 1 → k < n → wantsOf wants size j k < wantsOf wants size (suc j) k
+      rises : (j k : ℕ) → j < 1 → k < n → wantsOnce wants size j k < wantsOnce wants size (suc j) k
       rises zero k h g = S .counted .each k g .0
       rises (suc j) k h g = absurd (omega arith)
 
-      within : (j k : ℕ) → j ≤ 1 → k < n → wantsOf wants size j k ≤ size
+      within : (j k : ℕ) → j ≤ 1 → k < n → wantsOnce wants size j k ≤ size
       within zero k h g = omega (arith, S .counted .each k g .0)
       within (suc j) k h g = omega arith
 
-      reads : (f k : ℕ) → f < 1 → k < n → wantsOf wants size f k ≡ getD at k 0 + (getD wants 0 0 - getD at 0 0)
+      reads : (f k : ℕ) → f < 1 → k < n → wantsOnce wants size f k ≡ getD at k 0 + (getD wants 0 0 - getD at 0 0)
       reads zero k h g = S .counted .each k g .1
       reads (suc f) k h g = absurd (omega arith)
 

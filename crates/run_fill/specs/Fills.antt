@@ -1,5 +1,6 @@
 -- The clocks before the filters are aligned: what they are handed, what they leave, and the test of what they are handed.
-use Prim.Native.Nat.{ℕ, suc, _+_, _-_, _≤_, _<_}
+use Prim.Native.Nat.{ℕ, zero, suc, _+_, _-_, _≤_, _<_}
+use mathlib.Core.Bool.{false}
 use mathlib.Core.List.{List}
 use mathlib.Core.Path.{_≡_}
 use lib.ListN.{length, getD, take, drop}
@@ -94,9 +95,25 @@ pub record Sound (n size room : ℕ) (at wants caps bases tops ps : List ℕ) : 
   pub counted : Counted n size at wants ps
   pub housed : Housed n room caps bases tops ps
 
+-- The layout whose tables they are where they pass: one iteration, which is still to be fired.
+unfoldable pub wantsOnce : (wants : List ℕ) (size : ℕ) → ℕ → ℕ → ℕ
+wantsOnce wants size zero k = getD wants k 0
+wantsOnce wants size (suc j) k = size
+
+abbrev pub once : (n size : ℕ) (wants caps : List ℕ) → Layout
+once n size wants caps = record { wants = wantsOnce wants size; capacity = of caps; filters = n; cells = size; iterations = 1 }
+
 -- Nothing was done.
-pub record Left (r : Filled) (passed store store′ : List ℕ) : Type 0 where
+pub record Left (r : Filled) (passed puts puts′ gets gets′ store store′ : List ℕ) : Type 0 where
+  pub stopped : r .how ≡ stop.Stalled
   pub none-taken : r .taken ≡ 0
   pub no-clocks : r .clocks ≡ 0
   pub counters : r .passed ≡ passed
+  pub not-full : r .full ≡ false
+  pub puts-kept : puts′ ≡ puts
+  pub gets-kept : gets′ ≡ gets
   pub store-kept : store′ ≡ store
+
+-- Where the test fails nothing was done; where it passes that much holds.
+abbrev pub ByTest : (sound left filled : Type 0) → Type 0
+ByTest sound left filled = ((sound → ⊥) → left) × (sound → filled)

@@ -12,7 +12,7 @@ ghost use Rattle.loop_laws.specs.Sweeps.{source, Lined, Ringed, wordAt, getsOn,
 ghost use Rattle.loop_laws.specs.Sweeps.{Goes, Again, Movers, Keeps, InPlace, Going, Gone};
 ghost use Rattle.loop_laws.specs.LoopTables.{Fills};
 ghost use Rattle.run_fill.specs.Fills.{Placing, Fillable, FillsTo, GoodCounter, GoodRing, Counted, Housed, Sound};
-ghost use Rattle.run_fill.specs.Fills.{Handed, Left};
+ghost use Rattle.run_fill.specs.Fills.{Handed, Left, once, ByTest};
 
 // The place after u in a ring from base up to below top.
 fn next_place(u: usize, base: usize, top: usize) -> usize
@@ -470,7 +470,8 @@ fn places(
 
 // Whether each FIFO is full.
 fn full_fifos(n: usize, caps: &[usize; 32], passed: &[usize; 32]) -> bool
-    ensures { λ r. ⌜ (r ≡ true → FullFifos n (now (caps .entry)) (now (passed .entry))) ⌝ }
+    ensures { λ r. ⌜ (r ≡ true → FullFifos n (now (caps .entry)) (now (passed .entry)))
+        × (n ≤ 32 → r ≡ false → FullFifos n (now (caps .entry)) (now (passed .entry)) → ⊥) ⌝ }
 {
     if 32 < n {
         return false;
@@ -614,8 +615,9 @@ pub struct Filled {
     pub full: bool,
 }
 
-// The clocks of a call until its filters are found aligned. Tables that are out of place make no clock, and nothing changes
-// but the places.
+// The clocks of a call until its filters are found aligned. Tables that are out of place make no clock, and nothing changes;
+// all others are those of a layout of one iteration (`once`). Open are: in which of the clocks with aligned filters it stops,
+// and the entries of `puts` and `gets` past the n - 1 FIFOs, or of one without a place.
 pub fn fill(
     n: usize,
     at: &[usize; 32],
@@ -637,9 +639,15 @@ pub fn fill(
         → FillsTo (r .how) (r .taken) (r .clocks) L n fired (now (at .entry)) (now (caps .entry)) (now (bases .entry))
         counters (r .passed) (now (puts .exit)) (now (gets .exit)) (now (store .entry)) (now (store .exit))
         (now (cells .entry)) allowance)
-        × ((Sound n size (length (now (store .entry))) (now (at .entry)) (now (wants .entry)) (now (caps .entry))
-        (now (bases .entry)) (now (tops .entry)) counters → ⊥)
-        → Left r counters (now (store .entry)) (now (store .exit)))
+        × ByTest
+        (Sound n size (length (now (store .entry))) (now (at .entry)) (now (wants .entry)) (now (caps .entry))
+        (now (bases .entry)) (now (tops .entry)) counters)
+        (Left r counters (now (puts .entry)) (now (puts .exit)) (now (gets .entry)) (now (gets .exit)) (now (store .entry))
+        (now (store .exit)))
+        (FillsTo (r .how) (r .taken) (r .clocks) (once n size (now (wants .entry)) (now (caps .entry))) n 0
+        (now (at .entry)) (now (caps .entry)) (now (bases .entry)) counters (r .passed) (now (puts .exit))
+        (now (gets .exit)) (now (store .entry)) (now (store .exit)) (now (cells .entry)) allowance
+        × (r .full ≡ false → FullFifos n (now (caps .entry)) (r .passed) → ⊥))
         × (r .full ≡ true → FullFifos n (now (caps .entry)) (r .passed)) ⌝ }
 {
     let mut passed = counters;

@@ -1,13 +1,13 @@
 -- Passes and firings one after the other: the places stay in their rings.
 use Prim.Native.Nat.{ℕ, zero, suc, _+_, _-_, _*_, _/_, _≤_, _<_}
-use mathlib.Core.List.{List}
+use mathlib.Core.List.{List, [], _∷_}
 use mathlib.Core.Path.{_≡_, refl, _∙_, ap}
 use native.Mathlib.Nat.{suc-mul, mul-le-mul-right, le-div-iff-mul-le, add-zero, zero-mul}
 use native.Mathlib.Numerals.{add-one}
 use native.Mathlib.Omega.{arith}
 use native.Mathlib.Decide.{ℕ-discrete}
 use lib.ListN.{length, getD, set}
-use lib.Seq.{slice, length-sets, getD-set-same, getD-set-other}
+use lib.Seq.{slice, sets, length-sets, length-take-le, getD-take, getD-set-same, getD-set-other}
 use Rattle.model.specs.Lists.{upTo}
 use Rattle.model_run.specs.Kernels.{wordsAt, written, width}
 use Rattle.model.specs.declared.Kernel.{Kernel}
@@ -105,6 +105,60 @@ module _ (kernel : Kernel) (centre n size from o count : ℕ) (bases tops cells 
 
     pub fired-all : count ≤ i → lentOf us gs store out ≡ firesOf kernel centre ts n size bases tops cells from o count (lentOf us₀ gs₀ store₀ out₀)
     fired-all h = let e : count ≡ i = omega (arith, s .most) in rw e (s .left)
+
+-- ---- what they leave as it was
+
+-- A store past the places that are written to,
+flow-kept : (x i : ℕ) (gs us store : List ℕ) → ((k : ℕ) → k < length us → getD us k 0 < i) → getD (flow x gs us store) i 0 ≡ getD store i 0
+unfolding flow
+flow-kept x i [] us store h = refl
+flow-kept x i (g ∷ gs) [] store h = refl
+flow-kept x i (g ∷ gs) (u ∷ us) store h =
+    flow-kept (getD store g 0) i gs us (set store u x) (λ k l. h (suc k) (omega arith))
+    ∙ getD-set-other store u i x 0 (let b : u < i = h 0 (omega arith) in λ e. omega arith)
+
+-- and an output past the words.
+sets-kept : (l : List ℕ) (o i : ℕ) (vs : List ℕ) → o + length vs ≤ i → getD (sets l o vs) i 0 ≡ getD l i 0
+sets-kept l o i [] h = refl
+sets-kept l o i (v ∷ vs) h = sets-kept (set l o v) (suc o) i vs (omega arith) ∙ getD-set-other l o i v 0 (λ e. omega arith)
+
+written-long : (k : Kernel) (c n : ℕ) (ks ws : List ℕ) → length (written k c ks (upTo n) ws) ≡ width k n
+unfolding written width upTo
+written-long kernels.Raw c n ks ws = words-count (upTo n) ws ∙ length-tabulate n (λ k. k)
+written-long kernels.Difference c n ks ws = refl
+written-long (kernels.Scaled f) c n ks ws = refl
+written-long (kernels.Blend g) c n ks ws = refl
+
+module _ (kernel : Kernel) (centre : ℕ) (ts : List ℕ) (n size room from o : ℕ) (bases tops cells : List ℕ) (l : Lent)
+    (r : Rung n room bases tops (l .puts) (l .gets) (l .store)) where
+  abbrev after : ℕ → Lent
+  after m = firesOf kernel centre ts n size bases tops cells from o m l
+
+  rung-after : (m : ℕ) → Rung n room bases tops (after m .puts) (after m .gets) (after m .store)
+  unfolding firesOf
+  rung-after zero = r
+  rung-after (suc m) = rung-on n room bases tops _ _ _ (rung-after m) _ _ _ (getD cells (from + m) 0) refl refl refl
+
+  pub store-after : (i m : ℕ) → ((k : ℕ) → k + 1 < n → getD tops k 0 ≤ i) → getD (after m .store) i 0 ≡ getD (l .store) i 0
+  unfolding firesOf
+  store-after i zero h = refl
+  store-after i (suc m) h =
+      let s = rung-after m in
+      let us = after m .puts in
+      let e : length (slice 0 (n - 1) us) ≡ n - 1 = length-take-le (n - 1) us (omega (arith, s .puts-there)) in
+      flow-kept (getD cells (from + m) 0) i (slice 0 (n - 1) (after m .gets)) (slice 0 (n - 1) us) (after m .store)
+      (λ k b. let c : k < n - 1 = omega arith in omega (arith, getD-take (n - 1) us k 0 c, s .rings .each k (omega arith) .1, h k (omega arith)))
+      ∙ store-after i m h
+
+  pub words-after : size ≡ width kernel n → (i m : ℕ) → o + m * size ≤ i → getD (after m .words) i 0 ≡ getD (l .words) i 0
+  unfolding firesOf
+  words-after w i zero h = refl
+  words-after w i (suc m) h =
+      let d = suc-mul m size in
+      let ws = written kernel centre ts (upTo n) (passing (n - 1) (getD cells (from + m) 0) (after m .puts) (after m .gets) (after m .store)) in
+      let e : length ws ≡ width kernel n = written-long kernel centre n ts (passing (n - 1) (getD cells (from + m) 0) (after m .puts) (after m .gets) (after m .store)) in
+      sets-kept (after m .words) (o + m * size) i ws (omega arith)
+      ∙ words-after w i m (omega (arith, d))
 
 -- ---- raw firings
 

@@ -1,16 +1,21 @@
--- The loop over the clocks of aligned filters, whatever its tables say: the places stay in their rings, and no number gets out of its range.
+-- The loop over the clocks of aligned filters, whatever its tables say: the places stay in their rings, no number gets out of its range, and nothing is written past the rings and past the words.
 use Prim.Native.Nat.{ℕ, _+_, _-_, _*_, _/_, _%_, _^_, _≤_, _<_}
 use mathlib.Core.Bool.{Bool, true, false}
-use mathlib.Core.List.{List}
-use mathlib.Core.Path.{_≡_, refl, _∙_, ap}
-use native.Mathlib.Nat.{mod-lt, mod-le, div-le-self, mul-le-mul}
+use mathlib.Core.List.{List, []}
+use mathlib.Core.Path.{_≡_, refl, sym, _∙_, ap}
+use native.Mathlib.Nat.{mod-lt, mod-le, div-le-self, mul-le-mul, zero-mul, add-mul}
 use native.Mathlib.Omega.{arith}
 use native.Mathlib.Decide.{ℕ-discrete, decLt}
 use lib.ListN.{length, getD, replicate, length-replicate, getD-replicate, List·getD-eq-default}
 use mir.Syntax.{w64}
 use mir.Val.{Fits}
-use Rattle.loop_laws.specs.Passes.{heads}
-use Rattle.run_glide.specs.Glides.{Blank, GoodPlaces, InRings, InRows, Rung}
+use Rattle.model_run.specs.Kernels.{width}
+use Rattle.model.specs.declared.Kernel.{Kernel}
+use Rattle.model.specs.declared.Kernel.the-variants as kernels
+use Rattle.loop_laws.specs.Passes.{Lent, lentOf, heads}
+use Rattle.run_glide.specs.Glides.{Blank, GoodPlaces, InRings, InRows, Rung, passesOf, firesOf, Stops, Within}
+use Rattle.run_glide.specs.declared.Slid.{Slid}
+use Rattle.run_glide.proofs.ManyLaws.{store-after, words-after}
 
 -- ---- a walk
 
@@ -58,30 +63,44 @@ blank-start n row e = record { there = ap length e ∙ length-replicate {A = ℕ
     go k (yes l) = getD-replicate 256 k 0 0 l
     go k (no l) = List·getD-eq-default (replicate 256 0) 0 {n = k} (omega (arith, length-replicate {A = ℕ} 256 0))
 
-module _ (n fired₀ allowance : ℕ) (bases tops store₀ out₀ : List ℕ) where
+module _ (n size iterations fired₀ allowance : ℕ) (bases tops cells store₀ out₀ : List ℕ) where
   pub record Slides (us gs store out : List ℕ) (fired left taken o : ℕ) : Type 0 where
     pub begun : fired₀ ≤ fired
+    pub had : taken ≤ length cells
     pub allowed : taken ≤ allowance
+    pub fewer : fired ≤ fired₀ + taken
+    pub most : fired - fired₀ ≤ iterations - fired₀
     pub left-some : 0 < left
     pub rung : Rung n (length store₀) bases tops us gs store
+    pub words : o ≡ (fired - fired₀) * size
     pub room : o ≤ length out
     pub out-length : length out ≡ length out₀
+    pub store-kept : (i : ℕ) → ((k : ℕ) → k + 1 < n → getD tops k 0 ≤ i) → getD store i 0 ≡ getD store₀ i 0
+    pub out-kept : (i : ℕ) → o ≤ i → getD out i 0 ≡ getD out₀ i 0
 
   pub slides-start : (us gs : List ℕ) (left : ℕ) (full : Bool) → 0 < left → InRings n (length store₀) bases tops us gs → length us ≡ 32 → length gs ≡ 32
       → Slides us (heads full us gs) store₀ out₀ fired₀ left 0 0
-  slides-start us gs left full s r lu lg = record {
-    begun = omega arith;
-    allowed = omega arith;
-    left-some = s;
-    rung = record {
-      puts-there = omega (arith, r .few);
-      gets-there = long full;
-      rings = record { some = r .some; few = r .few; each = λ k h. each full k h };
-      room-is = refl;
-    };
-    room = omega arith;
-    out-length = refl;
-  }
+  slides-start us gs left full s r lu lg =
+      let z : fired₀ - fired₀ ≡ 0 = omega arith in
+      record {
+        begun = omega arith;
+        had = omega arith;
+        allowed = omega arith;
+        fewer = omega arith;
+        most = omega arith;
+        left-some = s;
+        rung = record {
+          puts-there = omega (arith, r .few);
+          gets-there = long full;
+          rings = record { some = r .some; few = r .few; each = λ k h. each full k h };
+          room-is = refl;
+        };
+        words = rw z (sym (zero-mul size));
+        room = omega arith;
+        out-length = refl;
+        store-kept = λ i h. refl;
+        out-kept = λ i h. refl;
+      }
     where
       long : (b : Bool) → n ≤ length (heads b us gs)
       long false = omega (arith, r .few)
@@ -97,26 +116,62 @@ module _ (n fired₀ allowance : ℕ) (bases tops store₀ out₀ : List ℕ) wh
     rung-now = rw (s .rung .room-is) (s .rung)
 
     -- Clocks without a firing,
-    pub slides-waits : (us′ gs′ store′ : List ℕ) (m : ℕ) → Rung n (length store) bases tops us′ gs′ store′ → taken + m ≤ allowance → Slides us′ gs′ store′ out fired left (taken + m) o
-    slides-waits us′ gs′ store′ m r al = record {
+    pub slides-waits : (us′ gs′ store′ words words′ : List ℕ) (m : ℕ) → Rung n (length store) bases tops us′ gs′ store′
+        → lentOf us′ gs′ store′ words′ ≡ passesOf n 0 bases tops cells taken 0 m (lentOf us gs store words) → taken + m ≤ length cells → taken + m ≤ allowance
+        → Slides us′ gs′ store′ out fired left (taken + m) o
+    slides-waits us′ gs′ store′ words words′ m r e hl al = record {
       begun = s .begun;
+      had = hl;
       allowed = al;
+      fewer = omega (arith, s .fewer);
+      most = s .most;
       left-some = s .left-some;
       rung = rw (s .rung .room-is) at r;
+      words = s .words;
       room = s .room;
       out-length = s .out-length;
+      store-kept = λ i h. ap (λ (l : Lent). getD (l .store) i 0) e
+          ∙ store-after kernels.Raw 0 [] n 0 (length store₀) taken 0 bases tops cells (lentOf us gs store words) (s .rung) i m h ∙ s .store-kept i h;
+      out-kept = s .out-kept;
     }
 
     -- and firings.
-    pub slides-fires : (us′ gs′ store′ out′ : List ℕ) (m left′ size : ℕ) → Rung n (length store) bases tops us′ gs′ store′ → length out′ ≡ length out → taken + m ≤ allowance
-        → m * size ≤ length out - o → 0 < left′ → Slides us′ gs′ store′ out′ (fired + m) left′ (taken + m) (o + m * size)
-    slides-fires us′ gs′ store′ out′ m left′ size r eo al h ll = record {
-      begun = omega (arith, s .begun);
-      allowed = al;
-      left-some = ll;
-      rung = rw (s .rung .room-is) at r;
-      room = omega (arith, s .room);
-      out-length = eo ∙ s .out-length;
+    pub slides-fires : (us′ gs′ store′ out′ : List ℕ) (m left′ : ℕ) (kernel : Kernel) (centre : ℕ) (ts : List ℕ) → Rung n (length store) bases tops us′ gs′ store′
+        → lentOf us′ gs′ store′ out′ ≡ firesOf kernel centre ts n size bases tops cells taken o m (lentOf us gs store out) → size ≡ width kernel n
+        → length out′ ≡ length out → taken + m ≤ length cells → taken + m ≤ allowance → fired + m ≤ iterations → m * size ≤ length out - o → 0 < left′
+        → Slides us′ gs′ store′ out′ (fired + m) left′ (taken + m) (o + m * size)
+    slides-fires us′ gs′ store′ out′ m left′ kernel centre ts r e w eo hl al il h ll =
+        let d : (fired + m) - fired₀ ≡ (fired - fired₀) + m = omega (arith, s .begun) in
+        record {
+          begun = omega (arith, s .begun);
+          had = hl;
+          allowed = al;
+          fewer = omega (arith, s .fewer);
+          most = omega (arith, s .begun);
+          left-some = ll;
+          rung = rw (s .rung .room-is) at r;
+          words = rw (d, add-mul (fired - fired₀) m size) (omega (arith, s .words));
+          room = omega (arith, s .room);
+          out-length = eo ∙ s .out-length;
+          store-kept = λ i g. ap (λ (l : Lent). getD (l .store) i 0) e
+              ∙ store-after kernel centre ts n size (length store₀) taken o bases tops cells (lentOf us gs store out) (s .rung) i m g ∙ s .store-kept i g;
+          out-kept = λ i g. ap (λ (l : Lent). getD (l .words) i 0) e
+              ∙ words-after kernel centre ts n size (length store₀) taken o bases tops cells (lentOf us gs store out) (s .rung) w i m g ∙ s .out-kept i (omega arith);
+        }
+
+    -- Where they stop.
+    pub within : (r : Slid) → r .clocks ≡ taken → r .firings ≡ fired - fired₀
+        → Stops (r .how) (iterations ≤ fired₀ + (fired - fired₀)) (taken ≡ allowance) (taken ≡ length cells) (length out < o + size)
+        → Within r n size iterations fired₀ tops store₀ store out₀ out cells allowance
+    within r ec ef st = record {
+      had = omega (arith, s .had);
+      allowed = omega (arith, s .allowed);
+      fewer = omega (arith, s .fewer);
+      most = omega (arith, s .most);
+      room = rw ef (omega (arith, s .words, s .room, s .out-length));
+      stops = rw (ef, ec, ← s .words, ← s .out-length) st;
+      store-kept = s .store-kept;
+      out-kept = λ i h. s .out-kept i (rw (s .words, ← ef) h);
     }
 
 -- Filter 0 some cells on.

@@ -127,9 +127,35 @@ pub record Sound (n dims row iterations room : ℕ) (at wants bases tops spans s
   pub in-rows : InRows dims row iterations (getD at 0 0) (getD wants 0 0) (getD passed 0 0) spans strides
   pub in-rings : InRings n room bases tops puts gets
 
+-- What holds of the way in which the clocks stopped.
+abbrev pub Stops : Way → (done spent starved full : Type 0) → Type 0
+Stops way.Done done spent starved full = done
+Stops way.Spent done spent starved full = spent
+Stops way.Starved done spent starved full = starved
+Stops way.Full done spent starved full = full
+
+-- What holds of the clocks where the test passes, whether or not the tables are some layout's: how many they are, why they
+-- stopped, and what of store and output is as it was.
+pub record Within (r : Slid) (n size iterations fired : ℕ) (tops store store′ out out′ lent : List ℕ)
+    (allowance : ℕ) : Type 0 where
+  pub had : r .clocks ≤ length lent
+  pub allowed : r .clocks ≤ allowance
+  pub fewer : r .firings ≤ r .clocks
+  pub most : r .firings ≤ iterations - fired
+  pub room : r .firings * size ≤ length out
+  pub stops : Stops (r .how) (iterations ≤ fired + r .firings) (r .clocks ≡ allowance) (r .clocks ≡ length lent)
+      (length out < r .firings * size + size)
+  pub store-kept : (i : ℕ) → ((k : ℕ) → k + 1 < n → getD tops k 0 ≤ i) → getD store′ i 0 ≡ getD store i 0
+  pub out-kept : (i : ℕ) → r .firings * size ≤ i → getD out′ i 0 ≡ getD out i 0
+
 -- Nothing was done.
 pub record Left (r : Slid) (store store′ out out′ : List ℕ) : Type 0 where
+  pub stopped : r .how ≡ way.Spent
   pub no-clocks : r .clocks ≡ 0
   pub no-firings : r .firings ≡ 0
   pub store-kept : store′ ≡ store
   pub out-kept : out′ ≡ out
+
+-- Where the test fails nothing was done; where it passes that much holds.
+abbrev pub ByTest : (sound left within : Type 0) → Type 0
+ByTest sound left within = ((sound → ⊥) → left) × (sound → within)

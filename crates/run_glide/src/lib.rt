@@ -13,7 +13,7 @@ ghost use Rattle.kernel_terms.specs.FilterTables.{filtersFor};
 ghost use Rattle.loop_laws.specs.Passes.{step, lentOf, passOf, heads, FullFifos, InStore};
 ghost use Rattle.loop_laws.specs.LoopTables.{walked};
 ghost use Rattle.run_glide.specs.Glides.{Walks, Blank, Rung, passesOf, firesOf, Starts, Glides, GlidesTo, GoodPlaces};
-ghost use Rattle.run_glide.specs.Glides.{InRings, InRows, Sound, Left};
+ghost use Rattle.run_glide.specs.Glides.{InRings, InRows, Sound, Within, Left, ByTest};
 
 // ---- a clock in which every filter moves
 
@@ -413,7 +413,9 @@ fn slide(
         (now (bases .entry)) (now (tops .entry)) (now (spans .entry)) (now (strides .entry)) passed (now (puts .entry))
         (now (gets .entry)) (now (store .entry))
         → GlidesTo r L write width n iterations size fired0 passed (now (store .entry)) (now (store .exit)) (now (out .entry))
-        (now (out .exit)) (now (cells .entry)) allowance) ⌝ }
+        (now (out .exit)) (now (cells .entry)) allowance)
+        × Within r n width iterations fired0 (now (tops .entry)) (now (store .entry)) (now (store .exit)) (now (out .entry))
+        (now (out .exit)) (now (cells .entry)) allowance ⌝ }
 {
     let mut spare = [0u32; 256];
     let mut fired = fired0;
@@ -512,7 +514,8 @@ fn slide(
 }
 
 // The clocks of a call whose filters are aligned. `full`: each FIFO is full; `order`: the author's order. Tables that are out
-// of place make no clock, and nothing changes.
+// of place make no clock, and nothing changes. Of others that are no layout's these stay open: which clocks fire, the words of
+// the firings, and what the store holds before the end of the last FIFO.
 pub fn glide(
     full: bool,
     kernel: Kernel,
@@ -544,10 +547,12 @@ pub fn glide(
         (now (strides .entry)) (now (passed .entry)) puts0 gets0 (now (store .entry))
         → GlidesTo r L write (widthFor kernel n) n iterations size fired0 (now (passed .entry)) (now (store .entry))
         (now (store .exit)) (now (out .entry)) (now (out .exit)) (now (cells .entry)) allowance)
-        × ((Sound n dims row iterations (length (now (store .entry))) (now (at .entry)) (now (wants .entry))
-        (now (bases .entry)) (now (tops .entry)) (now (spans .entry)) (now (strides .entry)) (now (passed .entry)) puts0 gets0
-        → ⊥)
-        → Left r (now (store .entry)) (now (store .exit)) (now (out .entry)) (now (out .exit))) ⌝ }
+        × ByTest
+        (Sound n dims row iterations (length (now (store .entry))) (now (at .entry)) (now (wants .entry))
+        (now (bases .entry)) (now (tops .entry)) (now (spans .entry)) (now (strides .entry)) (now (passed .entry)) puts0 gets0)
+        (Left r (now (store .entry)) (now (store .exit)) (now (out .entry)) (now (out .exit)))
+        (Within r n (widthFor kernel n) iterations fired0 (now (tops .entry)) (now (store .entry)) (now (store .exit))
+        (now (out .entry)) (now (out .exit)) (now (cells .entry)) allowance) ⌝ }
 {
     let first = at[0];
     let wanted = wants[0];

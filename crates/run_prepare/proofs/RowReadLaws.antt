@@ -9,13 +9,14 @@ use Rattle.geometry.specs.Parts as parts
 use Rattle.rows.specs.Courses.{looked}
 use Rattle.rows.specs.declared.RowCourse.{RowCourse}
 use Rattle.row_courses.specs.CourseTables.{readAt, LiesIn, RowOf}
+use Rattle.row_courses.proofs.TableLaws.{row-of-lies}
 use Rattle.run_prepare.specs.Prepared.{numberAt}
 use Rattle.run_prepare.specs.RowsReady.{RowReads}
 
 module _ {t : Trimmed} {count : ℕ} {rows : List ℕ} {course : RowCourse} {n : ℕ} {above iterations : List ℕ} (r : RowReads t count rows course n above iterations)
     (j v : ℕ) (h : j < iterationsOf t) (o : RowOf iterations (course .height) j v) where
   pub lies-in : LiesIn iterations (course .height) j v
-  lies-in = o (r .few-rows) (omega (arith, r .none-above)) (omega (arith, r .all-above))
+  lies-in = row-of-lies iterations (course .height) j v (r .few-rows) (omega (arith, r .none-above)) (omega (arith, r .all-above)) o
 
   pub row-below : v < 512
   row-below = omega (arith, lies-in .below, r .few-rows)

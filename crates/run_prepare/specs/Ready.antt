@@ -84,7 +84,7 @@ pub record Begun (c : Chain) (rows : List ℕ) (s : State) (r : Ready)
   pub fired-is : r .fired ≡ s .fired .0
   pub counters : take (c .window .count) passed ≡ countersOf (c .window .count) s .passed
 
--- The verdict is the call's, whatever it is handed.
+-- The verdict is the call's, whatever it is handed. After a refusal nothing is said of the tables and of the other numbers.
 pub record Readied (c : Chain) (rows : List ℕ) (s : State) (r : Ready)
     (at wants caps bases tops spans strides passed store : List ℕ) : Type 0 where
   pub verdict-is : r .verdict ≡ judgeRun (trimmed c rows) s store

@@ -75,7 +75,7 @@ pub record RowsBegun (c : Chain) (rows : List ℕ) (state : State) (s : RowSurve
   pub holds : Invariant (layout (trimmed c rows)) (counting (state .fired .0) (take (c .window .count) passed))
   pub counters : take (c .window .count) passed ≡ countersOf (c .window .count) state .passed
 
--- The verdict is the call's, whatever it is handed.
+-- The verdict is the call's, whatever it is handed. After a refusal nothing is said of the tables and of what else was found.
 pub record RowsReadied (c : Chain) (rows : List ℕ) (state : State) (r : RowSurvey)
     (above iterations caps bases tops passed store : List ℕ) : Type 0 where
   pub verdict-is : r .verdict ≡ judgeRun (trimmed c rows) state store

@@ -442,8 +442,8 @@ fn with_chain(
     )
 }
 
-// What a run call on a rectangle finds before its clocks: the chain is looked at first, then 10, then 11; then the tables are
-// those of the call.
+// What a run call finds before its clocks, the chain's grid taken for a rectangle: the chain is looked at first, then 10,
+// then 11; then the tables are those of the call. After a refusal the tables hold anything, and so do the answer's numbers.
 pub fn prepare(
     chain: Chain,
     state: State,
@@ -457,9 +457,9 @@ pub fn prepare(
     strides: &mut [usize; 4],
     passed: &mut [usize; 32],
 ) -> Ready
-    ensures { λ r. ⌜ (chain .grid .skewed ≡ false
-        → Readied chain [] state r (now (at .exit)) (now (wants .exit)) (now (caps .exit)) (now (bases .exit))
-        (now (tops .exit)) (now (spans .exit)) (now (strides .exit)) (now (passed .exit)) (now (store .entry))) ⌝ }
+    ensures { λ r. ⌜ Readied (flattened chain) [] state r (now (at .exit)) (now (wants .exit)) (now (caps .exit))
+        (now (bases .exit)) (now (tops .exit)) (now (spans .exit)) (now (strides .exit)) (now (passed .exit))
+        (now (store .entry)) ⌝ }
 {
     let found = judging::examine(chain);
     let verdict = found.verdict;

@@ -15,7 +15,6 @@ use model::Verdict;
 use numbers::wide_usize;
 use rows::RowCourse;
 use rows::RowSurvey;
-ghost use mathlib.Core.Bool.{true};
 ghost use mathlib.Core.List.{List};
 ghost use mathlib.Core.Path.{_≡_};
 ghost use Prim.Native.Nat.{ℕ, _<_};
@@ -217,8 +216,8 @@ fn with_chain(
     with_store(chain, rows, found, state, caps, above, iterations, passed)
 }
 
-// What a run call on rows finds before its clocks: the chain is looked at first, then 10, then 11; then the tables are those
-// of the call.
+// What a run call finds before its clocks, the chain's grid taken for rows: the chain is looked at first, then 10, then 11;
+// then the tables are those of the call. After a refusal the tables hold anything, and so do the answer's numbers.
 pub fn prepare_rows(
     chain: Chain,
     rows: &[u32],
@@ -231,9 +230,8 @@ pub fn prepare_rows(
     tops: &mut [usize; 32],
     passed: &mut [usize; 32],
 ) -> RowSurvey
-    ensures { λ r. ⌜ (chain .grid .skewed ≡ true
-        → RowsReadied chain (now (rows .entry)) state r (now (above .exit)) (now (iterations .exit)) (now (caps .exit))
-        (now (bases .exit)) (now (tops .exit)) (now (passed .exit)) (now (store .entry))) ⌝ }
+    ensures { λ r. ⌜ RowsReadied (inRows chain) (now (rows .entry)) state r (now (above .exit)) (now (iterations .exit))
+        (now (caps .exit)) (now (bases .exit)) (now (tops .exit)) (now (passed .exit)) (now (store .entry)) ⌝ }
 {
     let found = judging::examine_rows(chain, rows);
     let verdict = found.verdict;

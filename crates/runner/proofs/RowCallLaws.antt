@@ -19,6 +19,7 @@ use Rattle.flow.specs.Machine.{Invariant}
 use Rattle.run_laws.proofs.Layouts.{lawful}
 use Rattle.rows.specs.declared.RowCourse.{RowCourse}
 use Rattle.row_courses.specs.CourseTables.{lengthsAbove, LiesIn, RowOf}
+use Rattle.row_courses.proofs.TableLaws.{row-of-lies}
 use Rattle.loop_laws.specs.Standings.{counting, stand, endedAt}
 use Rattle.loop_laws.specs.Stretches.{stretch, resumed}
 use Rattle.loop_laws.proofs.CallLaws.{call-done}
@@ -104,7 +105,7 @@ module _ {t : Trimmed} {kernel : Kernel} {order : Order} {n count cells centre :
   -- Some are left: the row of the next.
   pub row-found : {v : ℕ} → fired < getD iterations (c .height) 0 → RowOf iterations (c .height) fired v → LiesIn iterations (c .height) fired v
   unfolding lengthsAbove
-  row-found h r = r (few-rows T) (omega (arith, entry-is 0 (omega arith))) h
+  row-found {v} h r = row-of-lies iterations (c .height) fired v (few-rows T) (omega (arith, entry-is 0 (omega arith))) h r
 
   -- A firing writes `size` words.
   module _ {size : ℕ} (E : size ≡ width kernel n) where

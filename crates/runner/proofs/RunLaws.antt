@@ -61,7 +61,7 @@ module _ (c : Chain) (rows : List ℕ) (s : State) (store lent output : List ℕ
   unfolding runOf runTrimmed
   by-end e = rw e
 
-  -- 3 to 9.
+  -- 3 to 9 and 14 to 16.
   pub run-refused : (x : Refusal) → judgeChain c rows ≡ verdict.Refused x → refusedRun x ≡ runOf c rows s store lent output allowance
   run-refused x e = by-refusal x (judged-refused c rows s store x e)
 

@@ -31,7 +31,7 @@ bad-counters-requires c κs = search needs
 returns : tie.Need-returns
 returns c = (
   λ L walk iterations fired H. absurd (c .before .bad-counters .ensures .1 (c .if1 .taken) (sound _ _ _ _ _ _ _ _ _ _ _ _ _ H .counted)),
-  λ _. record { none-taken = refl; no-clocks = refl; counters = refl; store-kept = refl },
+  (λ _. record { stopped = refl; none-taken = refl; no-clocks = refl; counters = refl; not-full = refl; puts-kept = refl; gets-kept = refl; store-kept = refl }, λ S. absurd (c .before .bad-counters .ensures .1 (c .if1 .taken) (S .counted))),
   λ f. absurd (false≢true f),
 )
 
@@ -41,7 +41,7 @@ bad-rings-requires c κs = let e = c .before in e .before .bad-counters .ensures
 returns-2 : tie.Need-returns-2
 returns-2 c = (
   λ L walk iterations fired H. absurd (c .before .bad-rings .ensures .1 (c .if2 .taken) (sound _ _ _ _ _ _ _ _ _ _ _ _ _ H .housed)),
-  λ _. record { none-taken = refl; no-clocks = refl; counters = refl; store-kept = refl },
+  (λ _. record { stopped = refl; none-taken = refl; no-clocks = refl; counters = refl; not-full = refl; puts-kept = refl; gets-kept = refl; store-kept = refl }, λ S. absurd (c .before .bad-rings .ensures .1 (c .if2 .taken) (S .housed))),
   λ f. absurd (false≢true f),
 )
 
@@ -76,8 +76,14 @@ returns-3 c =
     let p = u .before .before .before .before .before in
     let e = p .before .before .before .before .before .before in (
       λ L walk iterations fired H. u .until-aligned .ensures L walk iterations fired (fills L walk _ _ iterations fired _ _ _ _ _ _ _ H _ _ (p .places .ensures .0) (p .places .ensures .1) (p .places .ensures .2)),
-      λ no. absurd (no (passes e)),
-      c .full-fifos .ensures,
+      (
+        λ no. absurd (no (passes e)),
+        λ S. (
+          u .until-aligned .ensures _ _ _ _ (fills _ _ _ _ _ _ _ _ _ _ _ _ _ (handed _ _ _ _ _ _ _ _ (start e .args .store .now) S (there e)) _ _ (p .places .ensures .0) (p .places .ensures .1) (p .places .ensures .2)),
+          c .full-fifos .ensures .1 (S .counted .few),
+        ),
+      ),
+      c .full-fifos .ensures .0,
     )
 
 pub fill-spec : {M : Type 1} → statement M

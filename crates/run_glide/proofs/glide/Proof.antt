@@ -39,7 +39,7 @@ bad-rows-requires c κs = search needs
 returns : tie.Need-returns
 returns c = (
   λ L write size caps F G. absurd (c .before .bad-rows .ensures .1 (c .if1 .taken) (sound _ _ _ _ _ _ _ _ _ _ _ _ _ _ _ _ _ _ _ _ _ _ _ [] [] 0 G .in-rows)),
-  λ _. record { no-clocks = refl; no-firings = refl; store-kept = refl; out-kept = refl },
+  (λ _. record { stopped = refl; no-clocks = refl; no-firings = refl; store-kept = refl; out-kept = refl }, λ S. absurd (c .before .bad-rows .ensures .1 (c .if1 .taken) (S .in-rows))),
 )
 
 bad-places-requires : tie.Need-bad-places-requires
@@ -48,7 +48,7 @@ bad-places-requires c κs = search needs
 returns-2 : tie.Need-returns-2
 returns-2 c = (
   λ L write size caps F G. absurd (c .before .bad-places .ensures .1 (c .if2 .taken) (sound _ _ _ _ _ _ _ _ _ _ _ _ _ _ _ _ _ _ _ _ _ _ _ [] [] 0 G .in-rings)),
-  λ _. record { no-clocks = refl; no-firings = refl; store-kept = refl; out-kept = refl },
+  (λ _. record { stopped = refl; no-clocks = refl; no-firings = refl; store-kept = refl; out-kept = refl }, λ S. absurd (c .before .bad-places .ensures .1 (c .if2 .taken) (S .in-rings))),
 )
 
 terms-of-requires : tie.Need-terms-of-requires
@@ -103,9 +103,9 @@ returns-3 c =
     let e = n .before in (
       λ L write size caps F G.
           rw (w .width .ensures) at
-          (f .slide .ensures L write size _ _ caps _ (record { full-is = F; first-is = refl; position-is = refl; wait-is = refl; left-is = refl })
+          (f .slide .ensures .0 L write size _ _ caps _ (record { full-is = F; first-is = refl; position-is = refl; wait-is = refl; left-is = refl })
           (named _ _ _ _ _ _ _ _ _ _ _ _ _ _ _ _ _ _ _ _ _ _ _ _ _ (table-terms _ _ _ _ (passes e .in-rings .few) _ (n .terms-of .ensures)) (w .width .ensures) G)),
-      λ no. absurd (no (passes e)),
+      (λ no. absurd (no (passes e)), λ _. rw (w .width .ensures) at (f .slide .ensures .1)),
     )
 
 pub glide-spec : {M : Type 1} → statement M

@@ -10,7 +10,7 @@ use Rattle.loop_laws.specs.Passes.{heads}
 use Rattle.run_glide.specs.Glides.{Blank, Starts, Glides}
 use Rattle.run_glide.proofs.FitLaws.{up-to-fits}
 use Rattle.run_glide.proofs.ManyLaws.{blank-after, width-some}
-use Rattle.run_glide.proofs.SlideLaws.{Slides, blank-start, slides-start, rung-now, slides-waits, slides-fires, position-fits}
+use Rattle.run_glide.proofs.SlideLaws.{Slides, blank-start, slides-start, rung-now, slides-waits, slides-fires, within, position-fits}
 use Rattle.run_glide.proofs.GlidingLaws.{
   Glide,
   glide-start,
@@ -28,7 +28,7 @@ use Rattle.run_glide.proofs.slide.Tie as tie
 
 abbrev Inv-loop : tie.InvT-loop
 Inv-loop full kernel centre n bases tops dims spans strides row iterations first position wait0 left0 fired0 puts₀ gets₀ store₀ cells out₀ allowance terms width spare₀ fired₀ wait₀ left₀ taken₀ o₀ puts gets store out spare fired wait left taken o =
-    Slides n fired0 allowance bases tops store₀ out₀ puts (heads full puts gets) store out fired left taken o
+    Slides n width iterations fired0 allowance bases tops cells store₀ out₀ puts (heads full puts gets) store out fired left taken o
     × Blank n spare
     × ((L : Layout) (write : List ℕ → List ℕ) (size : ℕ) (at wants caps passed : List ℕ) → Starts full n row fired0 first position wait0 left0 at wants caps passed
     → Glides L write kernel terms n row iterations size centre width fired0 dims at wants caps bases tops spans strides passed puts₀ gets₀ store₀
@@ -45,7 +45,7 @@ start f = f .before .before .before .before
 loop-holds : tie.Need-loop-holds Inv-loop μ-loop
 loop-holds c =
     let p = start c .pre .1 in (
-      slides-start _ _ _ _ _ _ _ _ _ _ (start c .args .full) (p .1 .1) (p .0 .2) (p .0 .0) (p .0 .1),
+      slides-start _ _ _ _ _ _ _ _ _ _ _ _ _ (start c .args .full) (p .1 .1) (p .0 .2) (p .0 .0) (p .0 .1),
       blank-start _ _ refl,
       λ L write size at wants caps passed S G. glide-start _ _ _ _ _ _ _ _ _ _ _ _ _ _ _ _ _ _ _ _ _ _ _ _ _ _ G _ _ _ _ _ S,
     )
@@ -61,10 +61,12 @@ same-length-2 c = c .before .before .loop .inv .0 .out-length
 
 returns : tie.Need-returns Inv-loop μ-loop
 returns c =
-    let a = c .before .before in
-    λ L write size at wants caps passed S G.
-    let s = a .loop .inv .2 L write size at wants caps passed S G in
-    record { ends = glide-spent _ _ _ _ _ _ _ _ _ _ _ _ _ _ _ _ _ _ _ _ _ _ _ _ _ _ G _ _ _ _ _ _ _ _ _ s (c .before .loop-test .taken) (c .if1 .taken); had = s .had; allowed = s .allowed; fewer = s .fewer; inside = s .inside; most = fired-most _ _ _ _ _ _ _ _ _ _ _ _ _ _ _ _ _ _ _ _ _ _ _ _ _ _ G _ _ _ _ _ _ _ _ _ s }
+    let a = c .before .before in (
+      λ L write size at wants caps passed S G.
+          let s = a .loop .inv .2 L write size at wants caps passed S G in
+          record { ends = glide-spent _ _ _ _ _ _ _ _ _ _ _ _ _ _ _ _ _ _ _ _ _ _ _ _ _ _ G _ _ _ _ _ _ _ _ _ s (c .before .loop-test .taken) (c .if1 .taken); had = s .had; allowed = s .allowed; fewer = s .fewer; inside = s .inside; most = fired-most _ _ _ _ _ _ _ _ _ _ _ _ _ _ _ _ _ _ _ _ _ _ _ _ _ _ G _ _ _ _ _ _ _ _ _ s },
+      within _ _ _ _ _ _ _ _ _ _ _ _ _ _ _ _ _ _ (a .loop .inv .0) _ refl refl (c .if1 .taken),
+    )
 
 sub-t40 : tie.Need-sub-t40 Inv-loop μ-loop
 sub-t40 c = c .before .before .before .loop .inv .0 .begun
@@ -77,10 +79,12 @@ same-length-4 c = c .before .before .before .loop .inv .0 .out-length
 
 returns-2 : tie.Need-returns-2 Inv-loop μ-loop
 returns-2 c =
-    let a = c .before .before .before in
-    λ L write size at wants caps passed S G.
-    let s = a .loop .inv .2 L write size at wants caps passed S G in
-    record { ends = glide-starved _ _ _ _ _ _ _ _ _ _ _ _ _ _ _ _ _ _ _ _ _ _ _ _ _ _ G _ _ _ _ _ _ _ _ _ s (c .before .before .loop-test .taken) (c .before .if1 .left) (c .if2 .taken); had = s .had; allowed = s .allowed; fewer = s .fewer; inside = s .inside; most = fired-most _ _ _ _ _ _ _ _ _ _ _ _ _ _ _ _ _ _ _ _ _ _ _ _ _ _ G _ _ _ _ _ _ _ _ _ s }
+    let a = c .before .before .before in (
+      λ L write size at wants caps passed S G.
+          let s = a .loop .inv .2 L write size at wants caps passed S G in
+          record { ends = glide-starved _ _ _ _ _ _ _ _ _ _ _ _ _ _ _ _ _ _ _ _ _ _ _ _ _ _ G _ _ _ _ _ _ _ _ _ s (c .before .before .loop-test .taken) (c .before .if1 .left) (c .if2 .taken); had = s .had; allowed = s .allowed; fewer = s .fewer; inside = s .inside; most = fired-most _ _ _ _ _ _ _ _ _ _ _ _ _ _ _ _ _ _ _ _ _ _ _ _ _ _ G _ _ _ _ _ _ _ _ _ s },
+      within _ _ _ _ _ _ _ _ _ _ _ _ _ _ _ _ _ _ (a .loop .inv .0) _ refl refl (omega (arith, a .loop .inv .0 .had, c .if2 .taken)),
+    )
 
 lesser-requires : tie.Need-lesser-requires Inv-loop μ-loop
 lesser-requires c κs = search needs
@@ -132,7 +136,7 @@ pass-all-requires c κs =
     let k = c .before .before .before .before in
     let a = waits-at k in
     let s = a .loop .inv in
-    ((rung-now _ _ _ _ _ _ _ _ _ _ _ _ _ _ _ (s .0), waits-lent k .1), (omega arith, omega (arith, s .0 .rung .rings .few, s .1 .there)))
+    ((rung-now _ _ _ _ _ _ _ _ _ _ _ _ _ _ _ _ _ _ (s .0), waits-lent k .1), (omega arith, omega (arith, s .0 .rung .rings .few, s .1 .there)))
 
 sub-wait : tie.Need-sub-wait Inv-loop μ-loop
 sub-wait c = let k = waiting (c .before .before .before) in omega (arith, k .lesser2 .ensures)
@@ -151,7 +155,7 @@ loop-again c =
     let p = c .before .before .before in
     let k = waiting p in
     let a = waits-at k in (
-      slides-waits _ _ _ _ _ _ _ _ _ _ _ _ _ _ _ (a .loop .inv .0) _ _ _ _ (p .pass-all .ensures .1) (waits-lent k .0),
+      slides-waits _ _ _ _ _ _ _ _ _ _ _ _ _ _ _ _ _ _ (a .loop .inv .0) _ _ _ _ _ _ (p .pass-all .ensures .1) (p .pass-all .ensures .0) (waits-lent k .1) (waits-lent k .0),
       blank-after _ _ _ _ _ _ _ _ (a .loop .inv .0 .rung .rings .few) (a .loop .inv .1) (p .pass-all .ensures .0),
       λ L write size at wants caps passed S G.
           glide-waited _ _ _ _ _ _ _ _ _ _ _ _ _ _ _ _ _ _ _ _ _ _ _ _ _ _ G _ _ _ _ _ _ _ _ _ (a .loop .inv .2 L write size at wants caps passed S G) _ _ _ _ _ _ (p .pass-all .ensures .0)
@@ -174,10 +178,12 @@ same-length-6 c = c .before .before .before .before .before .before .loop .inv .
 
 returns-3 : tie.Need-returns-3 Inv-loop μ-loop
 returns-3 c =
-    let a = c .before .before .before .before .before .before in
-    λ L write size at wants caps passed S G.
-    let s = a .loop .inv .2 L write size at wants caps passed S G in
-    record { ends = glide-full _ _ _ _ _ _ _ _ _ _ _ _ _ _ _ _ _ _ _ _ _ _ _ _ _ _ G _ _ _ _ _ _ _ _ _ s (c .before .before .before .before .before .loop-test .taken) (c .before .before .before .before .if1 .left) (c .before .before .before .if2 .left) (c .before .if3 .left) (c .if4 .taken); had = s .had; allowed = s .allowed; fewer = s .fewer; inside = s .inside; most = fired-most _ _ _ _ _ _ _ _ _ _ _ _ _ _ _ _ _ _ _ _ _ _ _ _ _ _ G _ _ _ _ _ _ _ _ _ s }
+    let a = c .before .before .before .before .before .before in (
+      λ L write size at wants caps passed S G.
+          let s = a .loop .inv .2 L write size at wants caps passed S G in
+          record { ends = glide-full _ _ _ _ _ _ _ _ _ _ _ _ _ _ _ _ _ _ _ _ _ _ _ _ _ _ G _ _ _ _ _ _ _ _ _ s (c .before .before .before .before .before .loop-test .taken) (c .before .before .before .before .if1 .left) (c .before .before .before .if2 .left) (c .before .if3 .left) (c .if4 .taken); had = s .had; allowed = s .allowed; fewer = s .fewer; inside = s .inside; most = fired-most _ _ _ _ _ _ _ _ _ _ _ _ _ _ _ _ _ _ _ _ _ _ _ _ _ _ G _ _ _ _ _ _ _ _ _ s },
+      within _ _ _ _ _ _ _ _ _ _ _ _ _ _ _ _ _ _ (a .loop .inv .0) _ refl refl (omega (arith, a .loop .inv .0 .room, c .if4 .taken)),
+    )
 
 sub-firings-in : tie.Need-sub-firings-in Inv-loop μ-loop
 sub-firings-in c = omega (arith, c .before .before .before .before .before .loop-test .taken)
@@ -226,7 +232,7 @@ fire-all-requires c κs =
     let a = fires-at g in
     let s = a .loop .inv .0 in
     let p = start (a .before) .pre .0 in
-    ((rung-now _ _ _ _ _ _ _ _ _ _ _ _ _ _ _ s, a .loop .inv .1, omega (arith, fires-lent g .1)), (p, omega (arith, g .firings-in .ensures .3, s .room)))
+    ((rung-now _ _ _ _ _ _ _ _ _ _ _ _ _ _ _ _ _ _ s, a .loop .inv .1, omega (arith, fires-lent g .1)), (p, omega (arith, g .firings-in .ensures .3, s .room)))
 
 mul-o : tie.Need-mul-o Inv-loop μ-loop
 mul-o c =
@@ -262,7 +268,8 @@ loop-again-2 c =
     let f = c .before .before .before .before .before in
     let g = firing f in
     let a = fires-at g in (
-      slides-fires _ _ _ _ _ _ _ _ _ _ _ _ _ _ _ (a .loop .inv .0) _ _ _ _ _ _ _ (f .fire-all .ensures .1) (f .fire-all .ensures .3) (fires-lent g .0) (g .firings-in .ensures .3) (c .if5 .taken),
+      slides-fires _ _ _ _ _ _ _ _ _ _ _ _ _ _ _ _ _ _ (a .loop .inv .0) _ _ _ _ _ _ _ _ _ (f .fire-all .ensures .1) (f .fire-all .ensures .0) (start (a .before) .pre .0) (f .fire-all .ensures .3)
+          (fires-lent g .1) (fires-lent g .0) (fires-left g) (g .firings-in .ensures .3) (c .if5 .taken),
       f .fire-all .ensures .2,
       λ L write size at wants caps passed S G.
           glide-fired _ _ _ _ _ _ _ _ _ _ _ _ _ _ _ _ _ _ _ _ _ _ _ _ _ _ G _ _ _ _ _ _ _ _ _ (a .loop .inv .2 L write size at wants caps passed S G) (g .before .before .before .before .before .before .loop-test .taken) (g .before .before .if3 .left)
@@ -289,8 +296,8 @@ loop-again-3 c =
     let f = c .before .before .before .before .before .before in
     let g = firing f in
     let a = fires-at g in (
-      slides-fires _ _ _ _ _ _ _ _ _ _ _ _ _ _ _ (a .loop .inv .0) _ _ _ _ _ _ _ (f .fire-all .ensures .1) (f .fire-all .ensures .3) (fires-lent g .0) (g .firings-in .ensures .3)
-          (start (a .before) .pre .1 .1 .0 .some),
+      slides-fires _ _ _ _ _ _ _ _ _ _ _ _ _ _ _ _ _ _ (a .loop .inv .0) _ _ _ _ _ _ _ _ _ (f .fire-all .ensures .1) (f .fire-all .ensures .0) (start (a .before) .pre .0) (f .fire-all .ensures .3)
+          (fires-lent g .1) (fires-lent g .0) (fires-left g) (g .firings-in .ensures .3) (start (a .before) .pre .1 .1 .0 .some),
       f .fire-all .ensures .2,
       λ L write size at wants caps passed S G.
           glide-turned _ _ _ _ _ _ _ _ _ _ _ _ _ _ _ _ _ _ _ _ _ _ _ _ _ _ G _ _ _ _ _ _ _ _ _ (a .loop .inv .2 L write size at wants caps passed S G) (g .before .before .before .before .before .before .loop-test .taken) (g .before .before .if3 .left)
@@ -309,10 +316,12 @@ same-length-8 c = c .before .loop .inv .0 .out-length
 
 returns-4 : tie.Need-returns-4 Inv-loop μ-loop
 returns-4 c =
-    let a = c .before in
-    λ L write size at wants caps passed S G.
-    let s = a .loop .inv .2 L write size at wants caps passed S G in
-    record { ends = glide-done _ _ _ _ _ _ _ _ _ _ _ _ _ _ _ _ _ _ _ _ _ _ _ _ _ _ G _ _ _ _ _ _ _ _ _ s (c .loop-test .left); had = s .had; allowed = s .allowed; fewer = s .fewer; inside = s .inside; most = fired-most _ _ _ _ _ _ _ _ _ _ _ _ _ _ _ _ _ _ _ _ _ _ _ _ _ _ G _ _ _ _ _ _ _ _ _ s }
+    let a = c .before in (
+      λ L write size at wants caps passed S G.
+          let s = a .loop .inv .2 L write size at wants caps passed S G in
+          record { ends = glide-done _ _ _ _ _ _ _ _ _ _ _ _ _ _ _ _ _ _ _ _ _ _ _ _ _ _ G _ _ _ _ _ _ _ _ _ s (c .loop-test .left); had = s .had; allowed = s .allowed; fewer = s .fewer; inside = s .inside; most = fired-most _ _ _ _ _ _ _ _ _ _ _ _ _ _ _ _ _ _ _ _ _ _ _ _ _ _ G _ _ _ _ _ _ _ _ _ s },
+      within _ _ _ _ _ _ _ _ _ _ _ _ _ _ _ _ _ _ (a .loop .inv .0) _ refl refl (omega (arith, a .loop .inv .0 .begun, c .loop-test .left)),
+    )
 
 pub slide-spec : {M : Type 1} → statement M
 slide-spec =

@@ -1,4 +1,4 @@
--- 3 to 9 turn the chain back, or the call is looked at further. Assumes nothing.
+-- 3 to 9, 14 and 15 turn the chain back, or the call is looked at further. Assumes nothing.
 use mathlib.Core.List.{[]}
 use mathlib.Core.Path.{_≡_, refl, sym, _∙_, ap}
 use Rattle.model.specs.declared.Chain.{Chain}
@@ -10,7 +10,7 @@ use Rattle.judging.specs.Checks.{judgedBehind, examinedOf}
 use Rattle.judging.specs.declared.Examined.{Examined}
 use Rattle.judging.proofs.JudgeLaws.{examined-verdict, examined-shape, examined-centre}
 use Rattle.run_prepare.specs.Ready.{flattened}
-use Rattle.run_prepare.proofs.ReadyLaws.{judged-refused, readied-refused, readied-flat}
+use Rattle.run_prepare.proofs.ReadyLaws.{judged-refused, readied-refused}
 use borrow.Author.Needs.{needs}
 use Rattle.run_prepare.proofs.prepare.Statement.{statement}
 use Rattle.run_prepare.proofs.prepare.Tie as tie
@@ -48,14 +48,13 @@ with-chain-requires c κs =
     (ok, (ap (λ (e : Examined). e .shape) (found x) ∙ examined-shape (flattened (a .chain)) refl [] ok, ap (λ (e : Examined). e .centre) (found x) ∙ examined-centre (flattened (a .chain)) refl [] ok))
 
 returns : tie.Need-returns
-returns c = λ flat.
+returns c =
     let v = c .before .before in
     let chain = v .before .before .before .before .args .chain in
-    readied-flat chain flat _ _ _ _ _ _ _ _ _ _ _
     (readied-refused (flattened chain) [] _ _ _ _ _ _ _ _ _ _ _ _ (c .refused .ensures) (judged-refused _ _ _ _ _ (verdict-is (v .before .before) _ (v .verdict .given .1))))
 
 returns-2 : tie.Need-returns-2
-returns-2 c = λ flat. readied-flat _ flat _ _ _ _ _ _ _ _ _ _ _ (c .with-chain .ensures)
+returns-2 c = c .with-chain .ensures
 
 pub prepare-spec : {M : Type 1} → statement M
 prepare-spec =

@@ -3,6 +3,7 @@ use mathlib.Core.Bool.{false}
 use mathlib.Core.List.{[]}
 use mathlib.Core.Path.{_≡_, refl, sym, _∙_}
 use Rattle.runner.proofs.RunLaws.{by-refusal}
+use Rattle.run_prepare.proofs.ReadyLaws.{readied-flat}
 use borrow.Author.Needs.{needs}
 use Rattle.runner.proofs.run_flat.Statement.{statement}
 use Rattle.runner.proofs.run_flat.Tie as tie
@@ -26,7 +27,7 @@ run-ready-requires : tie.Need-run-ready-requires
 run-ready-requires c κs =
     let t = c .before .before .before .before .before .before .before .before .before .before in
     let p = t .before .before in
-    let r = p .prepare .ensures (flat p) in
+    let r = readied-flat _ (flat p) _ _ _ _ _ _ _ _ _ _ _ (p .prepare .ensures) in
     (flat p, sym (r .verdict-is) ∙ t .enum-told .given .1, r .begun (t .enum-told .given .1), refl)
 
 same-length : tie.Need-same-length
@@ -36,7 +37,7 @@ returns : tie.Need-returns
 returns c =
     let v = c .before in
     let p = v .before .before in
-    by-refusal (start p .args .chain) [] _ _ _ _ _ _ (sym (p .prepare .ensures (flat p) .verdict-is) ∙ v .verdict .given .1)
+    by-refusal (start p .args .chain) [] _ _ _ _ _ _ (sym (readied-flat _ (flat p) _ _ _ _ _ _ _ _ _ _ _ (p .prepare .ensures) .verdict-is) ∙ v .verdict .given .1)
 
 same-length-2 : tie.Need-same-length-2
 same-length-2 c = search needs

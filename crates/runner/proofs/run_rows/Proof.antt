@@ -2,6 +2,7 @@
 use mathlib.Core.Bool.{true}
 use mathlib.Core.Path.{_≡_, sym, _∙_}
 use Rattle.runner.proofs.RunLaws.{by-refusal}
+use Rattle.run_prepare.proofs.RowsLaws.{readied-skewed}
 use borrow.Author.Needs.{needs}
 use Rattle.runner.proofs.run_rows.Statement.{statement}
 use Rattle.runner.proofs.run_rows.Tie as tie
@@ -25,7 +26,7 @@ rows-ready-requires : tie.Need-rows-ready-requires
 rows-ready-requires c κs =
     let t = c .before .before .before .before .before .before .before .before in
     let p = t .before .before in
-    let r = p .prepare-rows .ensures (skewed p) in
+    let r = readied-skewed _ (skewed p) _ _ _ _ _ _ _ _ _ _ (p .prepare-rows .ensures) in
     (sym (r .verdict-is) ∙ t .enum-told .given .1, r .begun (t .enum-told .given .1))
 
 same-length : tie.Need-same-length
@@ -35,7 +36,7 @@ returns : tie.Need-returns
 returns c =
     let v = c .before in
     let p = v .before .before in
-    by-refusal (start p .args .chain) (start p .args .rows .now) _ _ _ _ _ _ (sym (p .prepare-rows .ensures (skewed p) .verdict-is) ∙ v .verdict .given .1)
+    by-refusal (start p .args .chain) (start p .args .rows .now) _ _ _ _ _ _ (sym (readied-skewed _ (skewed p) _ _ _ _ _ _ _ _ _ _ (p .prepare-rows .ensures) .verdict-is) ∙ v .verdict .given .1)
 
 same-length-2 : tie.Need-same-length-2
 same-length-2 c = search needs

@@ -1,7 +1,7 @@
 -- 16, 4 to 9, 14 and 15 turn the chain back, or the call is looked at further. Assumes nothing.
 use Rattle.run_prepare.specs.RowsReady.{inRows}
 use Rattle.run_prepare.proofs.ReadyLaws.{judged-refused}
-use Rattle.run_prepare.proofs.RowsLaws.{found-verdict, rows-found, rows-refused, readied-skewed}
+use Rattle.run_prepare.proofs.RowsLaws.{found-verdict, rows-found, rows-refused}
 use borrow.Author.Needs.{needs}
 use Rattle.run_prepare.proofs.skewed.prepare_rows.Statement.{statement}
 use Rattle.run_prepare.proofs.skewed.prepare_rows.Tie as tie
@@ -24,15 +24,14 @@ with-chain-requires c κs =
     (found-verdict (a .chain) _ _ (x .examine-rows .ensures) _ e, rows-found (a .chain) _ _ (x .examine-rows .ensures) e)
 
 returns : tie.Need-returns
-returns c = λ skewed.
+returns c =
     let x = c .before .before in
     let chain = x .before .before .before .args .chain in
     let e = c .enum-told .given .1 in
-    readied-skewed chain skewed _ _ _ _ _ _ _ _ _ _
     (rows-refused (inRows chain) _ _ _ _ _ _ _ _ _ _ _ e (judged-refused (inRows chain) _ _ _ _ (found-verdict chain _ _ (x .examine-rows .ensures) _ e)))
 
 returns-2 : tie.Need-returns-2
-returns-2 c = λ skewed. readied-skewed _ skewed _ _ _ _ _ _ _ _ _ _ (c .with-chain .ensures)
+returns-2 c = c .with-chain .ensures
 
 pub prepare-rows-spec : {M : Type 1} → statement M
 prepare-rows-spec =
