@@ -1,6 +1,7 @@
 /* Tries what the header says beside what each function answers: slices of 0 elements whose pointer is NULL, windows by name, terms in the author's order, smaller boxes,
- * skewed grids and the rows lent beside them, chains of earlier versions, calls in several threads at the same time, a store of any content, too few output places, and the
- * stack that a call needs (with EDGES_STACK set it prints how much). Prints what does not hold, and last `c/edges: ok` or `c/edges: failed`. */
+ * skewed grids and the rows lent beside them, chains of earlier versions, calls in several threads at the same time, a store of any content, too few output places, the order
+ * in which the outcomes are looked at, calls after the end, cells past the grid's, counters past the chain's, and the stack that a call needs (with EDGES_STACK set it prints
+ * how much). Prints what does not hold, and last `c/edges: ok` or `c/edges: failed`. */
 #define _POSIX_C_SOURCE 200809L
 #include "zohmirka.h"
 
@@ -311,6 +312,82 @@ static void few_places(void) {
     expect(is(r, 0, ZOHMIRKA_DONE, 2, 2, 2) && out[0] == 4 && out[1] == 1 && out[2] == 5 && out[3] == 2, "enough places: the run goes on, whatever the store held at first");
 }
 
+/* A run of a chain sheet in calls: its state, its store, and the cells 1 to 9, of which a grid has fewer. */
+struct run {
+    const char *sheet;
+    uint32_t state[ZOHMIRKA_STATE_WORDS], store[16], out[8];
+};
+
+static const uint32_t NINE[9] = {1, 2, 3, 4, 5, 6, 7, 8, 9};
+
+/* One more call of it, which is lent so many cells and places and ends so: by its sheet, and by its words the same. */
+static int ends(struct run *run, uint32_t cells_lent, uint32_t places, uint32_t allowance, uint32_t outcome, uint32_t cells, uint32_t firings, uint32_t clocks) {
+    struct run other = *run;
+    uint32_t chain[ZOHMIRKA_CHAIN_WORDS];
+    const uint32_t *lent = NINE + run->state[0];
+    size_t n = strlen(run->sheet);
+    expect(zohmirka_read_chain(bytes(run->sheet), n, chain, ZOHMIRKA_CHAIN_WORDS, NULL, 0) == 0, "outcomes: read");
+    struct zohmirka_report r = zohmirka_run(bytes(run->sheet), n, run->state, ZOHMIRKA_STATE_WORDS, run->store, 16, lent, cells_lent, run->out, places, allowance);
+    struct zohmirka_report s = zohmirka_run_chain(chain, ZOHMIRKA_CHAIN_WORDS, NULL, 0, other.state, ZOHMIRKA_STATE_WORDS, other.store, 16, lent, cells_lent, other.out,
+                                                  places, allowance);
+    return is(r, 0, outcome, cells, firings, clocks) && is(s, 0, outcome, cells, firings, clocks) && memcmp(run->state, other.state, sizeof other.state) == 0 &&
+           memcmp(run->store, other.store, sizeof other.store) == 0 && memcmp(run->out, other.out, sizeof other.out) == 0;
+}
+
+/* The five outcomes: which is looked at first, and calls after the end. */
+static void outcomes(void) {
+    /* Case 8 of document 01, which never moves; and the chain of SHEET with two places, which moves twice. */
+    struct run stuck = {"010100000005\n020000\n020003\n0300000010\n0400\n", {0}, {0}, {0}};
+    struct run tight = {"010100000005\n020003\n020000\n0300000002\n0400\n", {0}, {0}, {0}};
+    struct run sound = {SHEET, {0}, {0}, {0}}, whole = {SHEET, {0}, {0}, {0}};
+
+    expect(ends(&stuck, 0, 0, 0, ZOHMIRKA_SPENT, 0, 0, 0), "Spent before Starved and Stalled");
+    expect(ends(&stuck, 5, 8, 0, ZOHMIRKA_SPENT, 0, 0, 0), "Spent before Stalled");
+    expect(ends(&stuck, 0, 8, 9, ZOHMIRKA_STARVED, 0, 0, 0), "Starved before Stalled");
+    for (int call = 0; call < 3; call++) {
+        expect(ends(&stuck, 1, 8, 1, ZOHMIRKA_STALLED, 0, 0, 0) && ends(&stuck, 9, 0, UINT32_MAX, ZOHMIRKA_STALLED, 0, 0, 0), "Stalled, and Stalled again with zeros");
+        expect(ends(&stuck, 0, 8, 9, ZOHMIRKA_STARVED, 0, 0, 0) && ends(&stuck, 9, 8, 0, ZOHMIRKA_SPENT, 0, 0, 0), "after Stalled, no cell and no clock");
+    }
+
+    /* Without places: a chain that stalls before it fires is Stalled, and not Full. */
+    expect(ends(&tight, 2, 0, 9, ZOHMIRKA_STARVED, 2, 0, 2) && ends(&tight, 0, 0, 9, ZOHMIRKA_STARVED, 0, 0, 0), "no places: Starved before Stalled");
+    expect(ends(&tight, 1, 0, 9, ZOHMIRKA_STALLED, 0, 0, 0) && ends(&tight, 7, 8, 9, ZOHMIRKA_STALLED, 0, 0, 0), "no places: Stalled, and no Full");
+
+    /* Three clocks before the first firing need no places; then it is Full as long as there are too few, a cell and a clock. */
+    for (int cell = 0; cell < 3; cell++) expect(ends(&sound, 1, 0, 9, ZOHMIRKA_STARVED, 1, 0, 1), "no places: clocks that do not fire");
+    for (uint32_t places = 0; places < 2; places++) {
+        expect(ends(&sound, 6, places, 9, ZOHMIRKA_FULL, 0, 0, 0) && ends(&sound, 1, places, 1, ZOHMIRKA_FULL, 0, 0, 0), "too few places: Full, and Full again with zeros");
+        expect(ends(&sound, 0, places, 9, ZOHMIRKA_STARVED, 0, 0, 0), "too few places: Starved before Full");
+        expect(ends(&sound, 6, places, 0, ZOHMIRKA_SPENT, 0, 0, 0) && ends(&sound, 0, places, 0, ZOHMIRKA_SPENT, 0, 0, 0), "too few places: Spent before Full");
+    }
+    expect(ends(&sound, 1, 2, 9, ZOHMIRKA_STARVED, 1, 1, 1) && sound.out[0] == 4 && sound.out[1] == 1, "enough places: the firing, then Starved before Full");
+    expect(ends(&sound, 1, 3, 1, ZOHMIRKA_DONE, 1, 1, 1) && sound.out[0] == 5 && sound.out[1] == 2 && sound.out[2] == 0, "Done before Spent, Starved and Full");
+
+    /* Nine cells are lent and the grid has five. */
+    expect(ends(&whole, 9, 8, UINT32_MAX, ZOHMIRKA_DONE, 5, 2, 5) && memcmp(whole.state, sound.state, sizeof whole.state) == 0, "cells past the grid's");
+    for (int call = 0; call < 3; call++) {
+        expect(ends(&whole, 4, 8, 9, ZOHMIRKA_DONE, 0, 0, 0) && ends(&whole, 0, 0, 0, ZOHMIRKA_DONE, 0, 0, 0), "Done again with zeros, whatever is lent");
+        expect(ends(&whole, 0, 8, 9, ZOHMIRKA_DONE, 0, 0, 0) && ends(&whole, 4, 8, 0, ZOHMIRKA_DONE, 0, 0, 0), "Done again before Spent and Starved");
+    }
+    static const uint32_t words[8] = {4, 1, 5, 2, 0, 0, 0, 0}, store[4] = {4, 5, 3, 0};
+    expect(memcmp(whole.out, words, sizeof words) == 0 && memcmp(whole.store, store, sizeof store) == 0, "what is left after Done stays");
+    expect(is(zohmirka_run(bytes(SHEET), strlen(SHEET), whole.state, ZOHMIRKA_STATE_WORDS, whole.store, 2, CELLS, 5, whole.out, 8, 9), 10, ZOHMIRKA_REFUSED, 0, 0, 0),
+           "after Done, too short a store");
+}
+
+/* The chain of SHEET has two filters: counters of others play no part and stay. */
+static void other_counters(void) {
+    struct run run = {SHEET, {0}, {0}, {0}}, plain = {SHEET, {0}, {0}, {0}};
+    for (int k = 2; k < 32; k++) run.state[k] = k % 2 ? UINT32_MAX : (uint32_t)k;
+    for (uint32_t places = 0; places < 5; places += 4) {
+        uint32_t outcome = places == 0 ? ZOHMIRKA_FULL : ZOHMIRKA_DONE, count = places == 0 ? 3 : 2, firings = places / 2;
+        expect(ends(&run, 5, places, 9, outcome, count, firings, count) && ends(&plain, 5, places, 9, outcome, count, firings, count), "counters past the chain's: the call");
+        for (int k = 2; k < 32; k++) expect(run.state[k] == (k % 2 ? UINT32_MAX : (uint32_t)k) && plain.state[k] == 0, "counters past the chain's stay");
+        expect(run.state[0] == plain.state[0] && run.state[1] == plain.state[1] && run.state[32] == plain.state[32], "counters past the chain's play no part");
+        expect(memcmp(run.store, plain.store, sizeof run.store) == 0 && memcmp(run.out, plain.out, sizeof run.out) == 0, "counters past the chain's: store and output");
+    }
+}
+
 /* 40 by 40 cells, and a window of 7 rows of 5 references without its corners: 31 of them. All iterations are rows 3 to 36, columns 2 to 37. The same with each row a column
  * further: all iterations are rows 3 to 36, in row y columns y + 4 to y + 35, and a box of them is rows 3 to 18, columns 22 to 38. */
 enum { ROWS = 40, FIRINGS = 34 * 36, SKEWED_FIRINGS = 34 * 32, BOX_FIRINGS = 16 * 17 };
@@ -444,6 +521,8 @@ int main(void) {
     skewed();
     earlier_versions();
     few_places();
+    outcomes();
+    other_counters();
     threads();
     stack();
     printf(failed ? "c/edges: failed\n" : "c/edges: ok\n");

@@ -41,7 +41,8 @@ extern "C" {
 /* No firing writes more words. Raw writes as many as there are references, the other kernels write one. */
 #define ZOHMIRKA_FIRING_WORDS 32
 
-/* A state is 33 words: the input counters of filters 0 to 31, then the firings made. All are 0 when fresh. */
+/* A state is 33 words: the input counters of filters 0 to 31, then the firings made. All are 0 when fresh; counters of filters that the chain does not have play no part
+ * and stay. */
 #define ZOHMIRKA_STATE_WORDS 33
 
 /* A chain is 212 words:
@@ -86,13 +87,14 @@ enum {
     ZOHMIRKA_CHAIN_ROWS = 211
 };
 
-/* How a call ends. */
+/* How a call ends. Before each clock DONE to FULL are looked at in this order, and the first that holds ends the call. So a call of allowance 0 on a run that is not
+ * done ends SPENT, and one that has a clock and is lent no cell ends STARVED, also where the chain is stalled or the next clock would fire. */
 enum {
-    ZOHMIRKA_DONE = 0,    /* every firing is made */
+    ZOHMIRKA_DONE = 0,    /* every firing is made: each later call that is not refused ends DONE too, with counts 0, whatever it is lent */
     ZOHMIRKA_SPENT = 1,   /* the call has made as many clocks as its allowance */
     ZOHMIRKA_STARVED = 2, /* every lent cell was taken */
-    ZOHMIRKA_STALLED = 3, /* nothing would move */
-    ZOHMIRKA_FULL = 4,    /* the next clock would fire, and too few output places are left */
+    ZOHMIRKA_STALLED = 3, /* nothing would move: each later call that is not refused and is lent a clock and a cell ends STALLED too, with counts 0 */
+    ZOHMIRKA_FULL = 4,    /* the next clock would fire, and fewer output places are left than it writes */
     ZOHMIRKA_REFUSED = 5  /* the call was refused */
 };
 
@@ -123,9 +125,11 @@ uint32_t zohmirka_judge(const uint8_t *sheet, size_t sheet_len);
 /* A run call on the chain of a sheet. Refusals: 1 to 9, 14, 15 and 16 of the sheet, then 10, then 11.
  *   state      33 words or more: all 0 before the first call, then as the last call left them; later words play no part and stay
  *   store      as many words as the capacities' sum or more: of any content before the first call, then as the last call left them; later words play no part and stay
- *   cells      cells of the stream, the first one at the position that word 0 of the state says
+ *   cells      cells of the stream, the first one at the position that word 0 of the state says; cells past the grid's last one are never taken
  *   out        gets what the firings of this call write, from the first place on; later places stay. A firing needs as many places as it writes words, raw of n
- *              references n: lent fewer in every call, a run ends ZOHMIRKA_FULL for ever. ZOHMIRKA_FIRING_WORDS places are enough for a firing of any chain.
+ *              references n; other clocks need none. A call that is lent fewer makes no firing: where the next clock would fire it ends ZOHMIRKA_FULL, and so does
+ *              each later call that is lent as few, but SPENT with no clock left and STARVED with no cell. Before such a clock it goes on, and a chain that stalls ends
+ *              ZOHMIRKA_STALLED all the same. ZOHMIRKA_FIRING_WORDS places are enough for a firing of any chain.
  *   allowance  the most clocks that this call may make */
 struct zohmirka_report zohmirka_run(const uint8_t *sheet, size_t sheet_len, uint32_t *state, size_t state_len, uint32_t *store, size_t store_len,
                                     const uint32_t *cells, size_t cells_len, uint32_t *out, size_t out_len, uint32_t allowance);

@@ -29,6 +29,7 @@
 //! ```
 pub mod native;
 
+use std::hash::{Hash, Hasher};
 use std::sync::Once;
 
 /// The version of the interface that this crate is written for.
@@ -193,13 +194,19 @@ pub struct Counts {
     pub clocks: u32,
 }
 
-/// How a call ends that is not refused.
+/// How a call ends that is not refused. Before each clock these are looked at in this order, and the first that holds ends the call. So a call of allowance 0 on a run
+/// that is not done ends Spent, and one that has a clock and is lent no cell ends Starved, also where the chain is stalled or the next clock would fire.
 #[derive(Clone, Copy, Debug, PartialEq, Eq)]
 pub enum Outcome {
+    /// Every firing is made: each later call that is not refused ends Done too, with counts 0, whatever it is lent.
     Done(Counts),
+    /// The call has made as many clocks as its allowance.
     Spent(Counts),
+    /// Every lent cell was taken.
     Starved(Counts),
+    /// Nothing would move: each later call that is not refused and is lent a clock and a cell ends Stalled too, with counts 0.
     Stalled(Counts),
+    /// The next clock would fire, and fewer output places are left than it writes.
     Full(Counts),
 }
 
@@ -224,7 +231,7 @@ fn outcome_of(report: native::Report) -> Result<Outcome, Refusal> {
     })
 }
 
-/// Where a run stands: the input counters of filters 0 to 31, then the firings made.
+/// Where a run stands: the input counters of filters 0 to 31, then the firings made. Counters of filters that the chain does not have play no part and stay.
 #[derive(Clone, Copy, Debug, PartialEq, Eq)]
 pub struct State {
     pub words: [u32; STATE_WORDS],
@@ -236,6 +243,10 @@ impl State {
     }
 
     /// How many cells passed filter k's splitter.
+    ///
+    /// # Panics
+    ///
+    /// Where k is 32 or above: a state has 32 input counters, whatever the chain.
     pub fn passed(&self, k: usize) -> u32 {
         self.words[..STATE_WORDS - 1][k]
     }
@@ -251,8 +262,12 @@ impl Default for State {
     }
 }
 
-/// A run call on the chain of a sheet, which is read anew in each call. The store of a fresh run may hold anything. A call that is lent fewer places than a firing
-/// writes (raw: a word for each reference, at most `FIRING_WORDS`) ends Full, and so will every later one that is lent no more.
+/// A run call on the chain of a sheet, which is read anew in each call. The store of a fresh run may hold anything. `cells` are those of the stream from
+/// `state.passed(0)` on; cells past the grid's last one are never taken.
+///
+/// A firing needs as many places of `out` as it writes words (raw: one for each reference, at most `FIRING_WORDS`), other clocks need none. A call that is lent fewer
+/// makes no firing: where the next clock would fire it ends Full, and so does each later call that is lent as few, but Spent with no clock left and Starved with no
+/// cell. Before such a clock it goes on, and a chain that stalls ends Stalled all the same.
 pub fn run(sheet: &[u8], state: &mut State, store: &mut [u32], cells: &[u32], out: &mut [u32], allowance: u32) -> Result<Outcome, Refusal> {
     checked();
     outcome_of(native::run(sheet, &mut state.words, store, cells, out, allowance))
@@ -260,13 +275,92 @@ pub fn run(sheet: &[u8], state: &mut State, store: &mut [u32], cells: &[u32], ou
 
 /// A chain as words, in the layout of c/zohmirka.h. Beside them stand the rows of a skewed grid: the start of row i at 2 * i, its length behind it; a rectangle has
 /// none. Any words and rows are a chain, which `run` judges; rows that are missing have length 0, and those past the count play no part.
-#[derive(Clone, Debug, PartialEq, Eq)]
+///
+/// Chains are equal, and their hashes too, if they agree in all that plays a part; such chains are judged, written and run alike. No part play words past the counts,
+/// an order or a box that did not stand, dimension count and sizes of a skewed grid, row count and rows of a rectangle, rows past the row count, and factors that the
+/// kernel does not have. What the library takes for the same is the same: any flag but 0, counts and filter numbers from 255 on, entries with the same low 16 bits, a
+/// row that is missing and one of zeros, factors that are not a number, and a kernel above 3 and a scaled one with such a factor. To compare the words as they stand,
+/// compare `words` and `rows`.
+#[derive(Clone, Debug)]
 pub struct Chain {
     pub words: [u32; CHAIN_WORDS],
     pub rows: Vec<u32>,
 }
 
+impl PartialEq for Chain {
+    fn eq(&self, other: &Chain) -> bool {
+        self.normal() == other.normal()
+    }
+}
+
+impl Eq for Chain {}
+
+impl Hash for Chain {
+    fn hash<H: Hasher>(&self, state: &mut H) {
+        self.normal().hash(state);
+    }
+}
+
+/// The bits of a factor; all that are not a number are one.
+fn factor(bits: u32) -> u32 {
+    if f32::from_bits(bits).is_nan() {
+        return NOT_A_NUMBER;
+    }
+    bits
+}
+
+const NOT_A_NUMBER: u32 = 0x7FC0_0000;
+
 impl Chain {
+    /// All that plays a part, in one form, with 0 in the other words: the chain that `chainIn` (crates/zohmirka_words/specs/Words.antt) takes the words for, as
+    /// `trimmed` (crates/model/specs/Values.antt) has it.
+    fn normal(&self) -> ([u32; CHAIN_WORDS], &[u32]) {
+        let words = &self.words;
+        let (skewed, ordered, boxed) = (self.is_skewed(), words[168] != 0, words[201] != 0);
+        let (dims, count) = (self.dimensions(), self.references());
+        let mut normal = [0; CHAIN_WORDS];
+        (normal[0], normal[5]) = (dims as u32, count as u32);
+        (normal[168], normal[201], normal[210]) = (ordered as u32, boxed as u32, skewed as u32);
+        for d in 0..dims.min(4) {
+            if !skewed {
+                normal[1 + d] = words[1 + d];
+            }
+            if boxed {
+                (normal[202 + d], normal[206 + d]) = (words[202 + d], words[206 + d]);
+            }
+        }
+        for k in 0..count.min(32) {
+            for entry in 6 + 4 * k..(6 + 4 * k + dims).min(134) {
+                normal[entry] = words[entry] & 0xFFFF;
+            }
+            if ordered {
+                normal[169 + k] = words[169 + k].min(255);
+            }
+        }
+        normal[134..134 + self.capacities().len()].copy_from_slice(self.capacities());
+        normal[165..168].copy_from_slice(&match words[165] {
+            0 | 1 => [words[165], 0, 0],
+            2 => [2, factor(words[166]), 0],
+            3 => [3, factor(words[166]), factor(words[167])],
+            _ => [2, NOT_A_NUMBER, 0],
+        });
+        let mut rows: &[u32] = &[];
+        if skewed {
+            normal[211] = words[211];
+            rows = &self.rows[..self.rows.len().min(2 * words[211] as usize)];
+        }
+        let end = rows.iter().rposition(|&number| number != 0).map_or(0, |last| last + 1);
+        (normal, &rows[..end])
+    }
+
+    /// How many dimensions the grid has, counted to 255.
+    fn dimensions(&self) -> usize {
+        if self.is_skewed() {
+            return 2;
+        }
+        self.words[0].min(255) as usize
+    }
+
     /// The chain of a sheet.
     pub fn read(sheet: &[u8]) -> Result<Chain, Refusal> {
         checked();
@@ -292,8 +386,9 @@ impl Chain {
         Some(rows.map(|row| (row[0], row[1])).collect())
     }
 
+    /// How many references the window has, counted to 255 as `run` counts them; an accepted chain has 1 to 32.
     pub fn references(&self) -> usize {
-        self.words[5] as usize
+        self.words[5].min(255) as usize
     }
 
     /// The capacities, FIFO 0 first.
@@ -302,7 +397,7 @@ impl Chain {
         &self.words[134..134 + fifos]
     }
 
-    /// The author's order, where it stood: the filter number of each term in turn.
+    /// The author's order, where it stood: the filter number of each term in turn, as it stands in the words.
     pub fn order(&self) -> Option<&[u32]> {
         if self.words[168] == 0 {
             return None;
@@ -315,7 +410,7 @@ impl Chain {
         if self.words[201] == 0 {
             return None;
         }
-        let dims = if self.is_skewed() { 2 } else { self.words[0].min(4) as usize };
+        let dims = self.dimensions().min(4);
         let (lowest, highest) = (&self.words[202..202 + dims], &self.words[206..206 + dims]);
         Some(lowest.iter().zip(highest).map(|(&low, &high)| (low as i32, high as i32)).collect())
     }
@@ -325,7 +420,7 @@ impl Chain {
         self.capacities().iter().map(|&c| c as usize).sum()
     }
 
-    /// How many words a firing writes.
+    /// How many words a firing writes: raw one for each reference, the other kernels one.
     pub fn width(&self) -> usize {
         if self.words[165] == 0 {
             self.references()

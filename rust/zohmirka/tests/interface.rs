@@ -18,6 +18,15 @@ fn counts(cells: u32, firings: u32, clocks: u32) -> Counts {
     Counts { cells, firings, clocks }
 }
 
+/// The words and rows that reading a sheet gives, for a comparison of all of them: `==` of chains passes over what plays no part.
+fn read(sheet: &[u8]) -> (Vec<u32>, Vec<u32>) {
+    parts(Chain::read(sheet).unwrap())
+}
+
+fn parts(chain: Chain) -> (Vec<u32>, Vec<u32>) {
+    (chain.words.to_vec(), chain.rows)
+}
+
 #[test]
 fn the_library_is_of_this_version() {
     assert_eq!(version(), VERSION);
@@ -311,7 +320,7 @@ fn refuses_rows_outside_their_range() {
     (other.words[210], other.words[0], other.words[4]) = (256, 7, 9);
     other.rows.push(9);
     assert_eq!((run_over(&other, 20), other.write()), (run_over(&chain, 20), chain.write()));
-    assert_eq!(Chain::read(&other.write().unwrap()), Ok(chain));
+    assert_eq!(read(&other.write().unwrap()), parts(chain));
 }
 
 #[test]
@@ -330,7 +339,7 @@ fn the_longest_sheets() {
     (0..32).for_each(|k| rectangle.words[6 + 4 * k + 3] = 31 - k as u32);
     rectangle.words[206..210].copy_from_slice(&[31, 31, 31, 0]);
     let sheet = rectangle.write().unwrap();
-    assert_eq!((sheet.len(), Chain::read(&sheet)), (1141, Ok(rectangle)));
+    assert_eq!((sheet.len(), read(&sheet)), (1141, parts(rectangle)));
 
     let mut skewed = chain;
     skewed.words[0] = 2;
@@ -341,7 +350,7 @@ fn the_longest_sheets() {
     skewed.rows = [4095, 1024].repeat(512);
     assert_eq!(skewed.rows.len(), ROW_NUMBERS);
     let sheet = skewed.write().unwrap();
-    assert_eq!((sheet.len(), Chain::read(&sheet)), (SHEET_BYTES, Ok(skewed)));
+    assert_eq!((sheet.len(), read(&sheet)), (SHEET_BYTES, parts(skewed)));
 }
 
 #[test]
@@ -481,10 +490,10 @@ fn judges_a_chain_and_writes_its_sheet() {
     (other.words[14], other.words[135], other.words[167], other.words[171]) = (9, 9, 9, 999);
     (other.words[202], other.words[206]) = (9, 1);
     assert_eq!(other.write().unwrap(), SHEET);
-    assert_eq!(Chain::read(&other.write().unwrap()), Ok(chain));
+    assert_eq!(read(&other.write().unwrap()), parts(chain));
     other.words[168] = 0;
     assert_eq!(other.write().unwrap(), WITHOUT);
     let without = Chain::read(WITHOUT).unwrap();
     assert_eq!(without.words[168..], [0; 44]);
-    assert_eq!(Chain::read(&other.write().unwrap()), Ok(without));
+    assert_eq!(read(&other.write().unwrap()), parts(without));
 }

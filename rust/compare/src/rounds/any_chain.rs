@@ -105,7 +105,31 @@ pub fn written(round: &mut Round) -> Result<(), Differs> {
         Err(refusal) => (refusal.number(), 0),
     };
     round.same("write_into", &safe, &(refusal, bytes))?;
-    round.same_at("write_into: sheet", &sheet, &wanted)
+    round.same_at("write_into: sheet", &sheet, &wanted)?;
+    equal(round, &chain)
+}
+
+/// An accepted chain is equal to one that differs from it past the counts alone; of two chains of which one is accepted, those
+/// with the same sheet are equal.
+fn equal(round: &mut Round, chain: &zohmirka::Chain) -> Result<(), Differs> {
+    let sheet = chain.write();
+    let mut other = chain.clone();
+    past_counts(&mut round.dice, &mut other.words);
+    if sheet.is_ok() {
+        round.note_words("past the counts", &other.words);
+        round.same("== past the counts", &(chain == &other), &true)?;
+    }
+    change(&mut round.dice, &mut other.words);
+    if round.dice.one_in(4) {
+        change_rows(&mut round.dice, &mut other.words, &mut other.rows);
+    }
+    round.note_words("other chain", &other.words);
+    round.note_words("other rows", &other.rows);
+    let written = other.write();
+    if sheet.is_ok() || written.is_ok() {
+        round.same("==", &(chain == &other), &(sheet == written))?;
+    }
+    Ok(())
 }
 
 /// A chain's words and the rows beside them, with some of them changed, and words past the counts filled at random.
