@@ -181,3 +181,6 @@ pub fn write_chain(chain: &[u32], rows: &[u32], sheet: &mut [u8]) -> Sheet {
         )
     }
 }
+
+#[cfg(test)]
+mod tests;

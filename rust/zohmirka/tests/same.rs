@@ -14,7 +14,7 @@ fn hash(chain: &Chain) -> u64 {
 fn same(one: &Chain, other: &Chain) -> bool {
     let equal = one == other;
     assert_eq!(equal, other == one);
-    assert!(one == one && other == other);
+    assert!(one == &one.clone() && other == &other.clone());
     assert_eq!(equal, hash(one) == hash(other));
     equal
 }
@@ -202,7 +202,7 @@ fn references_and_width_count_to_255() {
     for (word, references) in [(0, 0), (32, 32), (33, 33), (255, 255), (256, 255), (300, 255), (u32::MAX, 255)] {
         let other = with(&chain, &[(5, word)]);
         assert_eq!((other.references(), other.width()), (references, references));
-        assert_eq!((other.capacities().len(), other.order().map(|o| o.len())), (references.max(1).min(32) - 1, Some(references.min(32))));
+        assert_eq!((other.capacities().len(), other.order().map(|o| o.len())), (references.clamp(1, 32) - 1, Some(references.min(32))));
         assert_eq!(with(&other, &[(165, 1)]).width(), 1);
     }
 }
