@@ -1,5 +1,6 @@
 //! The desk tool: maps in CSV, sheets in words, pictures. Plans, verdicts and smoothed words are the
 //! proved library's (`rust/zohmirka`); CSV, placing and pictures are plain code.
+#![forbid(unsafe_code)]
 
 pub mod arguments;
 pub mod bins;

@@ -63,7 +63,8 @@ impl Iterations {
 /// The iterations of the firings that a chain makes of so many cells.
 pub fn iterations(chain: &Chain, cells: usize) -> Result<Iterations, Refusal> {
     let raw = chain.with_kernel(Kernel::Raw);
-    let numbers: Vec<u32> = (0..cells as u32).collect();
+    // Cells past the grid's last one are never taken.
+    let numbers: Vec<u32> = (0..chain.cells().min(cells as u64) as u32).collect();
     let first: Vec<i32> = chain.offsets()[0]
         .iter()
         .map(|&entry| i32::from(entry))
