@@ -1,7 +1,7 @@
 /* Tries what the header says beside what each function answers: slices of 0 elements whose pointer is NULL, windows by name, terms in the author's order, smaller boxes,
- * skewed grids and the rows lent beside them, chains of earlier versions, calls in several threads at the same time, a store of any content, too few output places, the order
- * in which the outcomes are looked at, calls after the end, cells past the grid's, counters past the chain's, and the stack that a call needs (with EDGES_STACK set it prints
- * how much). Prints what does not hold, and last `c/edges: ok` or `c/edges: failed`. */
+ * skewed grids and the rows lent beside them, chains of earlier versions, two kernels on one chain, calls in several threads at the same time, a store of any content, too few
+ * output places, the order in which the outcomes are looked at, calls after the end, cells past the grid's, counters past the chain's, and the stack that a call needs (with
+ * EDGES_STACK set it prints how much). Prints what does not hold, and last `c/edges: ok` or `c/edges: failed`. */
 #define _POSIX_C_SOURCE 200809L
 #include "zohmirka.h"
 
@@ -388,6 +388,259 @@ static void other_counters(void) {
     }
 }
 
+/* Two windows on six cells: offsets 0 and 2, raw, and 1 and 0, whose sum is written. Together they are 2, 1 and 0, with two FIFOs of a place and four firings, in clocks 2 to 5,
+ * of which each writes two words to `one` and one to `two`. */
+struct pair {
+    uint32_t chain[ZOHMIRKA_CHAIN_WORDS + 1], first[ZOHMIRKA_WINDOW_WORDS + 1], second[ZOHMIRKA_WINDOW_WORDS + 1];
+    uint32_t state[ZOHMIRKA_STATE_WORDS + 1], store[3], one[9], two[5];
+};
+
+/* How much of each is lent. */
+struct lengths {
+    size_t chain, first, second, state, store, one, two;
+};
+
+static const struct lengths ALL = {ZOHMIRKA_CHAIN_WORDS, ZOHMIRKA_WINDOW_WORDS, ZOHMIRKA_WINDOW_WORDS, ZOHMIRKA_STATE_WORDS, 2, 8, 4};
+static const uint32_t SIX[6] = {0x3F800000, 0x40000000, 0x40400000, 0x40800000, 0x40A00000, 0x40C00000}; /* 1.0 to 6.0 */
+static const uint32_t ONE[8] = {0x40400000, 0x3F800000, 0x40800000, 0x40000000, 0x40A00000, 0x40400000, 0x40C00000, 0x40800000}; /* 3 1, 4 2, 5 3, 6 4 */
+static const uint32_t TWO[4] = {0x40400000, 0x40A00000, 0x40E00000, 0x41100000};                                             /* 3, 5, 7, 9 */
+
+/* The pair without its chain: `chain` has the grid alone. Each slice has a word behind it, and outputs and store hold other words. */
+static struct pair six(void) {
+    struct pair pair;
+    memset(&pair, 0, sizeof pair);
+    pair.chain[ZOHMIRKA_CHAIN_DIMENSIONS] = 1;
+    pair.chain[ZOHMIRKA_CHAIN_SIZES] = 6;
+    pair.first[ZOHMIRKA_WINDOW_REFERENCES] = pair.second[ZOHMIRKA_WINDOW_REFERENCES] = 2;
+    pair.first[ZOHMIRKA_WINDOW_OFFSETS + 4] = 2;
+    pair.second[ZOHMIRKA_WINDOW_OFFSETS] = 1;
+    pair.second[ZOHMIRKA_WINDOW_KERNEL] = 2;
+    pair.second[ZOHMIRKA_WINDOW_FACTORS] = 0x3F800000;
+    pair.chain[ZOHMIRKA_CHAIN_WORDS] = pair.first[ZOHMIRKA_WINDOW_WORDS] = pair.second[ZOHMIRKA_WINDOW_WORDS] = pair.state[ZOHMIRKA_STATE_WORDS] = 0x5A5A5A5A;
+    memset(pair.store, 0x5A, sizeof pair.store);
+    memset(pair.one, 0x5A, sizeof pair.one);
+    memset(pair.two, 0x5A, sizeof pair.two);
+    return pair;
+}
+
+/* Plans over the grid in it; where that is refused, nothing was written. */
+static uint32_t plans(struct pair *pair, struct lengths lent, size_t places) {
+    struct pair kept = *pair;
+    uint32_t chain[ZOHMIRKA_CHAIN_WORDS + 1];
+    memset(chain, 0x5A, sizeof chain);
+    uint32_t refusal = zohmirka_plan_pair(pair->chain, lent.chain, NULL, 0, pair->first, lent.first, pair->second, lent.second, chain, places);
+    if (refusal == 0) memcpy(pair->chain, chain, ZOHMIRKA_CHAIN_WORDS * sizeof *chain);
+    for (size_t i = refusal == 0 ? ZOHMIRKA_CHAIN_WORDS : 0; i <= ZOHMIRKA_CHAIN_WORDS; i++) expect(chain[i] == 0x5A5A5A5A, "plan_pair: places that are not to be written");
+    expect(memcmp(pair->first, kept.first, sizeof kept.first) == 0 && memcmp(pair->second, kept.second, sizeof kept.second) == 0, "plan_pair: windows stay");
+    return refusal;
+}
+
+/* A run call that is lent so many cells of those that are left, or all of them. Where it is refused, nothing was written; what it reads and the words behind what it is lent
+ * stay in any case. */
+static struct zohmirka_report goes(struct pair *pair, struct lengths lent, uint32_t cells, uint32_t allowance) {
+    struct pair kept = *pair;
+    uint32_t at = pair->state[0], count = cells < 6 - at ? cells : 6 - at;
+    struct zohmirka_report r = zohmirka_run_pair(pair->chain, lent.chain, NULL, 0, pair->first, lent.first, pair->second, lent.second, pair->state, lent.state, pair->store,
+                                                 lent.store, SIX + at, count, pair->one, lent.one, pair->two, lent.two, allowance);
+    expect((r.refusal != 0) == (r.outcome == ZOHMIRKA_REFUSED), "run_pair: outcome of a refusal");
+    if (r.refusal != 0) expect(memcmp(pair, &kept, sizeof kept) == 0 && r.cells == 0 && r.firings == 0 && r.clocks == 0, "run_pair: refused, and nothing written");
+    expect(memcmp(pair->chain, kept.chain, sizeof kept.chain) == 0 && memcmp(pair->first, kept.first, sizeof kept.first) == 0 &&
+               memcmp(pair->second, kept.second, sizeof kept.second) == 0,
+           "run_pair: chain and windows stay");
+    expect(pair->state[ZOHMIRKA_STATE_WORDS] == 0x5A5A5A5A && pair->store[2] == 0x5A5A5A5A, "run_pair: words behind state and store stay");
+    return r;
+}
+
+/* So many firings are in the outputs, and places behind them are as before. */
+static int holds(const struct pair *pair, size_t firings) {
+    int right = memcmp(pair->one, ONE, 2 * firings * sizeof *ONE) == 0 && memcmp(pair->two, TWO, firings * sizeof *TWO) == 0;
+    for (size_t i = 2 * firings; i < 9; i++) right &= pair->one[i] == 0x5A5A5A5A;
+    for (size_t i = firings; i < 5; i++) right &= pair->two[i] == 0x5A5A5A5A;
+    return right;
+}
+
+/* Slices of 0 elements, and of every length about the ones that the header names. */
+static void pair_lengths(void) {
+    struct pair grid = six(), pair = six();
+    struct lengths none = {0, 0, 0, 0, 0, 0, 0};
+    expect(zohmirka_plan_pair(NULL, 0, NULL, 0, NULL, 0, NULL, 0, NULL, 0) == 3, "plan_pair: nothing lent");
+    expect(zohmirka_plan_pair(grid.chain, ZOHMIRKA_CHAIN_WORDS, NULL, 0, NULL, 0, NULL, 0, NULL, 0) == 4, "plan_pair: no windows");
+    expect(zohmirka_plan_pair(grid.chain, ZOHMIRKA_CHAIN_WORDS, NULL, 0, grid.first, ZOHMIRKA_WINDOW_WORDS, grid.second, ZOHMIRKA_WINDOW_WORDS, NULL, 0) == 12,
+           "plan_pair: no output");
+    expect(is(zohmirka_run_pair(NULL, 0, NULL, 0, NULL, 0, NULL, 0, NULL, 0, NULL, 0, NULL, 0, NULL, 0, NULL, 0, 9), 3, ZOHMIRKA_REFUSED, 0, 0, 0), "run_pair: nothing lent");
+    expect(plans(&pair, ALL, ZOHMIRKA_CHAIN_WORDS) == 0, "plan_pair");
+
+    for (size_t n = 0; n <= ZOHMIRKA_CHAIN_WORDS + 1; n++) {
+        struct lengths lent = ALL;
+        struct pair other = grid, fresh = pair;
+        lent.chain = n;
+        uint32_t refusal = n < ZOHMIRKA_CHAIN_WORDS ? 3 : 0;
+        expect(plans(&other, lent, ZOHMIRKA_CHAIN_WORDS) == refusal && goes(&fresh, lent, 6, 99).refusal == refusal, "a pair: words of the chain");
+        other = grid;
+        expect(plans(&other, ALL, n) == (n < ZOHMIRKA_CHAIN_WORDS ? 12 : 0), "plan_pair: places for the chain");
+    }
+    for (size_t n = 0; n <= ZOHMIRKA_WINDOW_WORDS + 1; n++) {
+        for (int second = 0; second < 2; second++) {
+            struct lengths lent = ALL;
+            struct pair other = grid, fresh = pair;
+            *(second ? &lent.second : &lent.first) = n;
+            uint32_t refusal = n < ZOHMIRKA_WINDOW_WORDS ? 4 : 0;
+            expect(plans(&other, lent, ZOHMIRKA_CHAIN_WORDS) == refusal && goes(&fresh, lent, 6, 99).refusal == refusal, "a pair: words of a window");
+            lent.chain = ZOHMIRKA_CHAIN_WORDS - 1;
+            expect(plans(&other, lent, 0) == 3 && goes(&fresh, lent, 6, 99).refusal == 3, "a pair: the chain before the windows");
+        }
+    }
+    for (size_t n = 0; n <= ZOHMIRKA_STATE_WORDS + 1; n++) {
+        struct lengths lent = ALL;
+        struct pair fresh = pair;
+        lent.state = n;
+        expect(goes(&fresh, lent, 6, 99).refusal == (n < ZOHMIRKA_STATE_WORDS ? 11 : 0), "run_pair: words of the state");
+    }
+    for (size_t n = 0; n <= 3; n++) {
+        struct lengths lent = none;
+        struct pair fresh = pair;
+        lent.chain = ALL.chain;
+        lent.first = lent.second = ZOHMIRKA_WINDOW_WORDS;
+        lent.store = n;
+        expect(goes(&fresh, lent, 6, 99).refusal == (n < 2 ? 10 : 11), "run_pair: words of the store");
+    }
+    /* Without cells, without outputs. */
+    struct pair fresh = pair;
+    struct lengths lent = ALL;
+    lent.one = lent.two = 0;
+    expect(is(goes(&fresh, lent, 0, 9), 0, ZOHMIRKA_STARVED, 0, 0, 0) && is(goes(&fresh, lent, 0, 0), 0, ZOHMIRKA_SPENT, 0, 0, 0), "run_pair: no cells");
+    expect(is(goes(&fresh, lent, 6, 9), 0, ZOHMIRKA_FULL, 2, 0, 2) && holds(&fresh, 0), "run_pair: no outputs");
+    expect(is(zohmirka_run_pair(fresh.chain, ALL.chain, NULL, 0, fresh.first, ALL.first, fresh.second, ALL.second, fresh.state, ALL.state, fresh.store, 2, SIX + 2, 4, NULL, 0,
+                                NULL, 0, 9),
+              0, ZOHMIRKA_FULL, 0, 0, 0),
+           "run_pair: NULL for outputs");
+}
+
+/* The words that are planned and run, places, pieces, windows in other calls, and what plays no part. */
+static void pairs(void) {
+    struct pair pair = six(), other;
+    uint32_t chain[ZOHMIRKA_CHAIN_WORDS] = {0};
+    expect(plans(&pair, ALL, ZOHMIRKA_CHAIN_WORDS + 1) == 0, "plan_pair");
+    chain[ZOHMIRKA_CHAIN_DIMENSIONS] = chain[ZOHMIRKA_CHAIN_CAPACITIES] = chain[ZOHMIRKA_CHAIN_CAPACITIES + 1] = chain[ZOHMIRKA_CHAIN_ORDER_STOOD] = 1;
+    chain[ZOHMIRKA_CHAIN_SIZES] = 6;
+    chain[ZOHMIRKA_CHAIN_REFERENCES] = 3;
+    chain[ZOHMIRKA_CHAIN_OFFSETS] = chain[ZOHMIRKA_CHAIN_ORDER + 2] = 2;
+    chain[ZOHMIRKA_CHAIN_OFFSETS + 4] = chain[ZOHMIRKA_CHAIN_ORDER + 1] = 1;
+    expect(memcmp(pair.chain, chain, sizeof chain) == 0, "plan_pair: the chain's words");
+
+    /* Of the grid's words grid and box play a part alone. */
+    other = six();
+    for (int i = 2; i < ZOHMIRKA_CHAIN_BOX_STOOD; i++) other.chain[i] = UINT32_MAX;
+    for (int i = ZOHMIRKA_CHAIN_BOX_LOWEST; i < ZOHMIRKA_CHAIN_WORDS; i++) other.chain[i] = i == ZOHMIRKA_CHAIN_SKEWED ? 0 : UINT32_MAX;
+    expect(plans(&other, ALL, ZOHMIRKA_CHAIN_WORDS) == 0 && memcmp(other.chain, chain, sizeof chain) == 0, "plan_pair: words that play no part");
+    other = six();
+    other.chain[ZOHMIRKA_CHAIN_BOX_STOOD] = UINT32_C(0x80000000);
+    other.chain[ZOHMIRKA_CHAIN_BOX_LOWEST] = 1;
+    other.chain[ZOHMIRKA_CHAIN_BOX_HIGHEST] = 2;
+    other.chain[ZOHMIRKA_CHAIN_BOX_LOWEST + 1] = 9;
+    chain[ZOHMIRKA_CHAIN_BOX_STOOD] = chain[ZOHMIRKA_CHAIN_BOX_LOWEST] = 1;
+    chain[ZOHMIRKA_CHAIN_BOX_HIGHEST] = 2;
+    expect(plans(&other, ALL, ZOHMIRKA_CHAIN_WORDS) == 0 && memcmp(other.chain, chain, sizeof chain) == 0, "plan_pair: the box");
+    expect(is(goes(&other, ALL, 6, 99), 0, ZOHMIRKA_DONE, 5, 2, 5) && other.one[0] == 0x40800000 && other.one[1] == 0x40000000, "run_pair: the box");
+
+    /* One call, and a cell a call; then the chain with a kernel, factors and an order that would be refused elsewhere. */
+    other = pair;
+    expect(is(goes(&other, ALL, 6, UINT32_MAX), 0, ZOHMIRKA_DONE, 6, 4, 6) && holds(&other, 4), "run_pair: a whole run");
+    for (int call = 0; call < 3; call++) expect(is(goes(&other, ALL, 0, call), 0, ZOHMIRKA_DONE, 0, 0, 0), "run_pair: Done again with zeros");
+    struct pair pieces = pair;
+    for (uint32_t cell = 0; cell < 6; cell++) {
+        struct zohmirka_report r = goes(&pieces, ALL, 1, 9);
+        expect(is(r, 0, cell < 5 ? ZOHMIRKA_STARVED : ZOHMIRKA_DONE, 1, cell < 2 ? 0 : 1, 1), "run_pair: a cell a call");
+        if (cell < 2) continue;
+        expect(memcmp(pieces.one, ONE + 2 * (cell - 2), 2 * sizeof *ONE) == 0 && pieces.two[0] == TWO[cell - 2] && pieces.one[2] == 0x5A5A5A5A, "run_pair: its words");
+    }
+    expect(memcmp(pieces.state, other.state, sizeof other.state) == 0 && memcmp(pieces.store, other.store, sizeof other.store) == 0, "run_pair: a cell a call, the end");
+    other = pair;
+    for (int i = ZOHMIRKA_CHAIN_KERNEL; i < ZOHMIRKA_CHAIN_BOX_STOOD; i++) other.chain[i] = UINT32_MAX;
+    expect(is(goes(&other, ALL, 6, UINT32_MAX), 0, ZOHMIRKA_DONE, 6, 4, 6) && holds(&other, 4), "run_pair: the chain's own kernel and order");
+
+    /* Full by either output: the firings before it are in both, and the clock is not made. */
+    for (uint32_t places = 0; places < 8; places++) {
+        struct lengths lent = ALL;
+        other = pair;
+        lent.one = places;
+        expect(is(goes(&other, lent, 6, 99), 0, ZOHMIRKA_FULL, 2 + places / 2, places / 2, 2 + places / 2) && holds(&other, places / 2), "run_pair: the first output is full");
+        expect(is(goes(&other, lent, 0, 99), 0, ZOHMIRKA_STARVED, 0, 0, 0) && is(goes(&other, lent, 6, 0), 0, ZOHMIRKA_SPENT, 0, 0, 0), "run_pair: Starved and Spent before Full");
+        other = pair;
+        lent.one = 8;
+        lent.two = places / 2;
+        expect(is(goes(&other, lent, 6, 99), 0, ZOHMIRKA_FULL, 2 + places / 2, places / 2, 2 + places / 2) && holds(&other, places / 2), "run_pair: the second output is full");
+    }
+    /* The same slice for both windows. */
+    struct pair grid = six();
+    other = grid;
+    expect(zohmirka_plan_pair(grid.chain, ALL.chain, NULL, 0, other.first, ALL.first, other.first, ALL.first, other.chain, ALL.chain) == 0 &&
+               other.chain[ZOHMIRKA_CHAIN_REFERENCES] == 2 && other.chain[ZOHMIRKA_CHAIN_CAPACITIES] == 2,
+           "plan_pair: the same slice");
+    expect(is(zohmirka_run_pair(other.chain, ALL.chain, NULL, 0, other.first, ALL.first, other.first, ALL.first, other.state, ALL.state, other.store, 2, SIX, 6, other.one, 8,
+                                other.two, 4, 99),
+              0, ZOHMIRKA_FULL, 4, 2, 4) &&
+               memcmp(other.one, ONE, 4 * sizeof *ONE) == 0 && memcmp(other.two, ONE, 4 * sizeof *ONE) == 0,
+           "run_pair: the same slice");
+    /* Other kernels in a later call: the sum of offsets 0 and 2, and raw of 1 and 0. */
+    other = pair;
+    expect(is(goes(&other, ALL, 3, 99), 0, ZOHMIRKA_STARVED, 3, 1, 3) && holds(&other, 1), "run_pair: before other kernels");
+    other.first[ZOHMIRKA_WINDOW_KERNEL] = 2;
+    other.first[ZOHMIRKA_WINDOW_FACTORS] = 0x3F800000;
+    other.second[ZOHMIRKA_WINDOW_KERNEL] = 0;
+    expect(is(goes(&other, ALL, 1, 99), 0, ZOHMIRKA_STARVED, 1, 1, 1) && other.one[0] == 0x40C00000 && other.one[1] == ONE[1] && other.two[0] == SIX[2] && other.two[1] == SIX[1],
+           "run_pair: other kernels");
+}
+
+/* Everything is wrong with a pair, and put right one by one: the order of the numbers. */
+static void pair_refusals(void) {
+    struct pair pair = six();
+    struct lengths lent = ALL;
+    expect(plans(&pair, ALL, ZOHMIRKA_CHAIN_WORDS) == 0, "plan_pair");
+    uint32_t *first = pair.first, *second = pair.second, *chain = pair.chain;
+    chain[ZOHMIRKA_CHAIN_DIMENSIONS] = 5;
+    chain[ZOHMIRKA_CHAIN_SIZES] = 2;
+    chain[ZOHMIRKA_CHAIN_OFFSETS + 4] = 5;
+    chain[ZOHMIRKA_CHAIN_CAPACITIES] = 16385;
+    chain[ZOHMIRKA_CHAIN_BOX_STOOD] = chain[ZOHMIRKA_CHAIN_BOX_LOWEST] = 1;
+    first[ZOHMIRKA_WINDOW_REFERENCES] = 33;
+    first[ZOHMIRKA_WINDOW_KERNEL] = 4;
+    second[ZOHMIRKA_WINDOW_OFFSETS + 4] = 1;
+    second[ZOHMIRKA_WINDOW_KERNEL] = 1;
+    pair.state[32] = 5;
+    lent.store = 1;
+    /* The number of both calls, and what is put right then. */
+    const struct {
+        uint32_t number;
+        uint32_t *word;
+        uint32_t right;
+    } steps[9] = {{3, chain + ZOHMIRKA_CHAIN_DIMENSIONS, 1},
+                  {4, first + ZOHMIRKA_WINDOW_REFERENCES, 2},
+                  {5, second + ZOHMIRKA_WINDOW_OFFSETS + 4, 2},
+                  {6, chain + ZOHMIRKA_CHAIN_SIZES, 6},
+                  {15, chain + ZOHMIRKA_CHAIN_BOX_STOOD, 0},
+                  {7, second + ZOHMIRKA_WINDOW_OFFSETS + 4, 0},
+                  {8, first + ZOHMIRKA_WINDOW_KERNEL, 0},
+                  {9, chain + ZOHMIRKA_CHAIN_CAPACITIES, 1},
+                  {14, chain + ZOHMIRKA_CHAIN_OFFSETS + 4, 1}};
+    for (int i = 0; i < 9; i++) {
+        struct pair planned = pair;
+        expect(goes(&pair, lent, 6, 99).refusal == steps[i].number, "run_pair: the order of the numbers");
+        /* Neither capacities nor references of the grid's words play a part. */
+        expect(plans(&planned, ALL, ZOHMIRKA_CHAIN_WORDS) == (i < 7 ? steps[i].number : 0), "plan_pair: the order of the numbers");
+        *steps[i].word = steps[i].right;
+    }
+    expect(goes(&pair, lent, 6, 99).refusal == 10 && goes(&pair, ALL, 6, 99).refusal == 11, "run_pair: 10, then 11");
+    pair.state[32] = 0;
+    expect(is(goes(&pair, ALL, 6, 99), 0, ZOHMIRKA_DONE, 6, 4, 6), "run_pair: nothing wrong");
+
+    /* 16 in place of 3. */
+    pair = six();
+    pair.chain[ZOHMIRKA_CHAIN_SKEWED] = 1;
+    pair.chain[ZOHMIRKA_CHAIN_ROWS] = 1;
+    expect(plans(&pair, ALL, ZOHMIRKA_CHAIN_WORDS) == 16 && goes(&pair, ALL, 6, 99).refusal == 16, "a pair: no rows lent");
+}
+
 /* 40 by 40 cells, and a window of 7 rows of 5 references without its corners: 31 of them. All iterations are rows 3 to 36, columns 2 to 37. The same with each row a column
  * further: all iterations are rows 3 to 36, in row y columns y + 4 to y + 35, and a box of them is rows 3 to 18, columns 22 to 38. */
 enum { ROWS = 40, FIRINGS = 34 * 36, SKEWED_FIRINGS = 34 * 32, BOX_FIRINGS = 16 * 17 };
@@ -467,26 +720,92 @@ static void *runs(void *lent) {
     return NULL;
 }
 
-/* Each kernel in pieces of four sizes, on a rectangle and on rows, all at the same time, and each alone: the same words. A full box runs as none. */
-static void threads(void) {
+/* A window of the first and then every `step`th of a chain's references, in the order of its author, and with the kernel of this number in KERNELS. */
+static void window_of(uint32_t *window, const uint32_t *chain, uint32_t step, int kernel) {
+    static const uint32_t kernels[4][3] = {{0, 0, 0}, {1, 0, 0}, {2, 0x3D000000, 0}, {3, 0x3F000000, 0x3C800000}};
+    memset(window, 0, ZOHMIRKA_WINDOW_WORDS * sizeof *window);
+    for (uint32_t t = 0; t < chain[ZOHMIRKA_CHAIN_REFERENCES]; t += step) {
+        uint32_t filter = chain[ZOHMIRKA_CHAIN_ORDER + t];
+        memcpy(window + ZOHMIRKA_WINDOW_OFFSETS + 4 * window[0]++, chain + ZOHMIRKA_CHAIN_OFFSETS + 4 * filter, 4 * sizeof *window);
+    }
+    memcpy(window + ZOHMIRKA_WINDOW_KERNEL, kernels[kernel], sizeof kernels[kernel]);
+}
+
+/* Two windows on the chain of `runs`: all its references, and every third of them, with the centre, which is number 15. The first output is what the chain by itself writes. */
+static void *pair_runs(void *lent) {
+    struct job *job = lent;
+    enum { PLACES = 4096, THIRD = 11 };
+    char request[1200];
+    uint32_t rows[ZOHMIRKA_ROW_NUMBERS], chain[ZOHMIRKA_CHAIN_WORDS], shared[ZOHMIRKA_CHAIN_WORDS], first[ZOHMIRKA_WINDOW_WORDS], second[ZOHMIRKA_WINDOW_WORDS];
+    uint8_t sheet[ZOHMIRKA_SHEET_BYTES];
+    uint32_t state[2][ZOHMIRKA_STATE_WORDS] = {{0}};
+    uint32_t *store = malloc(2 * ZOHMIRKA_STORE_WORDS * sizeof *store), *cells = malloc(ROWS * ROWS * sizeof *cells), *out = malloc((2 + THIRD) * PLACES * sizeof *out);
+    uint32_t *alone = out + PLACES, *third = alone + PLACES;
+    for (uint32_t i = 0; i < ROWS * ROWS; i++) cells[i] = 0x3F800000u + i * 2654435761u % 0x00800000u;
+    memset(store, job->piece, 2 * ZOHMIRKA_STORE_WORDS * sizeof *store);
+    wide_request(request, KERNELS[job->kernel], job->skewed, boxed(job));
+    struct zohmirka_sheet planned = zohmirka_plan(bytes(request), strlen(request), sheet, sizeof sheet);
+    job->wrong |= planned.refusal != 0;
+    job->wrong |= zohmirka_read_chain(sheet, planned.bytes, chain, ZOHMIRKA_CHAIN_WORDS, rows, ZOHMIRKA_ROW_NUMBERS) != 0;
+    size_t numbers = 2 * (size_t)chain[ZOHMIRKA_CHAIN_ROWS];
+    window_of(first, chain, 1, job->kernel);
+    window_of(second, chain, 3, (job->kernel + job->piece) % 4);
+    uint32_t width = job->kernel == 0 ? first[ZOHMIRKA_WINDOW_REFERENCES] : 1, other_width = second[ZOHMIRKA_WINDOW_KERNEL] == 0 ? THIRD : 1;
+    uint32_t at = 0, sum = 0, firings = 0, lent_cells = (uint32_t)job->piece;
+    job->top = stack_here();
+    uint32_t refusal = zohmirka_plan_pair(chain, ZOHMIRKA_CHAIN_WORDS, rows, numbers, first, ZOHMIRKA_WINDOW_WORDS, second, ZOHMIRKA_WINDOW_WORDS, shared, ZOHMIRKA_CHAIN_WORDS);
+    job->wrong |= refusal != 0 || memcmp(shared, chain, ZOHMIRKA_CHAIN_KERNEL * sizeof *chain) != 0 || second[ZOHMIRKA_WINDOW_REFERENCES] != THIRD;
+    for (;;) {
+        uint32_t count = ROWS * ROWS - at < lent_cells ? ROWS * ROWS - at : lent_cells;
+        struct zohmirka_report r = zohmirka_run_pair(shared, ZOHMIRKA_CHAIN_WORDS, rows, numbers, first, ZOHMIRKA_WINDOW_WORDS, second, ZOHMIRKA_WINDOW_WORDS, state[0],
+                                                     ZOHMIRKA_STATE_WORDS, store, ZOHMIRKA_STORE_WORDS, cells + at, count, out, PLACES, third, THIRD * PLACES, 4000);
+        struct zohmirka_report s = zohmirka_run_chain(chain, ZOHMIRKA_CHAIN_WORDS, rows, numbers, state[1], ZOHMIRKA_STATE_WORDS, store + ZOHMIRKA_STORE_WORDS,
+                                                      ZOHMIRKA_STORE_WORDS, cells + at, count, alone, PLACES, 4000);
+        job->wrong |= r.refusal != 0 || r.outcome == ZOHMIRKA_STALLED || !is(s, 0, r.outcome, r.cells, r.firings, r.clocks);
+        job->wrong |= memcmp(state[0], state[1], sizeof state[0]) != 0 || memcmp(out, alone, r.firings * width * sizeof *out) != 0;
+        for (uint32_t i = 0; i < r.firings * width; i++) sum = sum * 31 + out[i];
+        for (uint32_t i = 0; i < r.firings * other_width; i++) sum = sum * 31 + third[i];
+        at += r.cells;
+        firings += r.firings;
+        if (r.outcome == ZOHMIRKA_DONE || job->wrong) break;
+    }
+    job->wrong |= firings != (!job->skewed ? FIRINGS : boxed(job) ? BOX_FIRINGS : SKEWED_FIRINGS);
+    job->sum = sum;
+    free(store);
+    free(cells);
+    free(out);
+    return NULL;
+}
+
+/* Each kernel in pieces of four sizes, on a rectangle and on rows, all at the same time, and each alone: the same words. */
+static void threads(void *(*body)(void *), struct job alone[32]) {
     pthread_t started[32];
-    struct job together[32], alone[32];
+    struct job together[32];
     for (int i = 0; i < 32; i++) {
         struct job job = {i % 4, i / 4 % 4 * 61 + 7, i / 16, 0, 0, NULL};
         together[i] = alone[i] = job;
-        if (pthread_create(&started[i], NULL, runs, &together[i]) != 0) exit(2);
+        if (pthread_create(&started[i], NULL, body, &together[i]) != 0) exit(2);
     }
     for (int i = 0; i < 32; i++) pthread_join(started[i], NULL);
     for (int i = 0; i < 32; i++) {
-        runs(&alone[i]);
+        body(&alone[i]);
+        expect(!together[i].wrong && !alone[i].wrong && together[i].sum == alone[i].sum, "calls at the same time");
+    }
+}
+
+/* For one kernel also: the same words in pieces of any size, and a full box runs as none. */
+static void threads_of_runs(void) {
+    struct job alone[32];
+    threads(runs, alone);
+    for (int i = 0; i < 32; i++) {
         int first = 0;
         while (alone[first].kernel != alone[i].kernel || alone[first].skewed != alone[i].skewed || (alone[i].skewed && boxed(&alone[first]) != boxed(&alone[i]))) first++;
-        expect(!together[i].wrong && !alone[i].wrong && together[i].sum == alone[i].sum && alone[i].sum == alone[first].sum, "calls at the same time");
+        expect(alone[i].sum == alone[first].sum, "pieces of other sizes, and a full box");
     }
 }
 
 /* The same on a stack that is filled with one byte before: how far down it was written. */
-static void stack(void) {
+static void stack(void *(*body)(void *), const char *what) {
     enum { SIZE = 1 << 20 };
     size_t most = 0;
     for (int i = 0; i < 32; i++) {
@@ -498,7 +817,7 @@ static void stack(void) {
         pthread_t started;
         struct job job = {i % 4, i / 4 % 4 + 800, i / 16, 0, 0, NULL};
         pthread_attr_init(&attributes);
-        if (pthread_attr_setstack(&attributes, low, SIZE) != 0 || pthread_create(&started, &attributes, runs, &job) != 0) exit(2);
+        if (pthread_attr_setstack(&attributes, low, SIZE) != 0 || pthread_create(&started, &attributes, body, &job) != 0) exit(2);
         pthread_join(started, NULL);
         const char *p = low;
         while (*p == 0x5A) p++;
@@ -508,7 +827,7 @@ static void stack(void) {
         pthread_attr_destroy(&attributes);
         free(low);
     }
-    if (getenv("EDGES_STACK") != NULL) printf("%zu bytes of stack\n", most);
+    if (getenv("EDGES_STACK") != NULL) printf("%zu bytes of stack: %s\n", most, what);
     expect(most <= ZOHMIRKA_STACK_BYTES, "a call needs more stack than the header says");
 }
 
@@ -523,8 +842,14 @@ int main(void) {
     few_places();
     outcomes();
     other_counters();
-    threads();
-    stack();
+    pair_lengths();
+    pairs();
+    pair_refusals();
+    struct job jobs[32];
+    threads_of_runs();
+    threads(pair_runs, jobs);
+    stack(runs, "one kernel");
+    stack(pair_runs, "two kernels");
     printf(failed ? "c/edges: failed\n" : "c/edges: ok\n");
     return failed;
 }

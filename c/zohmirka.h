@@ -15,8 +15,9 @@
  * 6 no iteration, 7 difference or blend without a centre, 8 a factor that is infinite or not a number, 9 capacities summing above 16,384, 10 a store that is too
  * short, 11 a state that is too short or whose counters do not fit the chain, 12 what is to be written is longer than the slice lent for it, 13 (request sheets) a
  * byte that names no window, or one whose dimensions are not the grid's, 14 (chains; looked at after 9) an order that stood and does not hold each filter number
- * once, 15 (looked at after 6) a box that stood and has a lowest index above its highest, or an iteration that reads outside the grid, 16 (in place of 3 on a skewed
- * grid) a row count, start or length outside its range.
+ * once, or in zohmirka_run_pair, where no order is looked at, references of the chain that are not those of both windows together, 15 (looked at after 6) a box that
+ * stood and has a lowest index above its highest, or an iteration that reads outside the grid, 16 (in place of 3 on a skewed grid) a row count, start or length outside
+ * its range.
  */
 #ifndef ZOHMIRKA_H
 #define ZOHMIRKA_H
@@ -29,10 +30,10 @@ extern "C" {
 #endif
 
 /* The version of this interface. */
-#define ZOHMIRKA_VERSION 4
+#define ZOHMIRKA_VERSION 5
 
 /* No call needs more bytes of stack, what it calls included. Measured, not proved. */
-#define ZOHMIRKA_STACK_BYTES 24576
+#define ZOHMIRKA_STACK_BYTES 75776
 
 /* No chain sheet has more bytes. */
 #define ZOHMIRKA_SHEET_BYTES 4919
@@ -87,6 +88,24 @@ enum {
     ZOHMIRKA_CHAIN_ROWS = 211
 };
 
+/* A window, one of two that share a chain, is 132 words:
+ *   0           the number of references, n
+ *   1 to 128    the offsets, in the order of the window's author: entry d of reference k's offset, 16 bits in two's complement, at 1 + 4 * k + d
+ *   129         the kernel, and
+ *   130, 131    its factors, as words 165 to 167 of a chain
+ * Any words are a window. Fewer than 132 are one without references, which is refused by 4; later words play no part; a count above 255 counts as 255; of an entry
+ * the low 16 bits count; a kernel above 3 is refused by 8. No part play words past the count, entries past the grid's dimensions, and factors that the kernel does not
+ * have. */
+#define ZOHMIRKA_WINDOW_WORDS 132
+
+/* Where the parts of a window begin. */
+enum {
+    ZOHMIRKA_WINDOW_REFERENCES = 0,
+    ZOHMIRKA_WINDOW_OFFSETS = 1,
+    ZOHMIRKA_WINDOW_KERNEL = 129,
+    ZOHMIRKA_WINDOW_FACTORS = 130
+};
+
 /* How a call ends. Before each clock DONE to FULL are looked at in this order, and the first that holds ends the call. So a call of allowance 0 on a run that is not
  * done ends SPENT, and one that has a clock and is lent no cell ends STARVED, also where the chain is stalled or the next clock would fire. */
 enum {
@@ -94,7 +113,7 @@ enum {
     ZOHMIRKA_SPENT = 1,   /* the call has made as many clocks as its allowance */
     ZOHMIRKA_STARVED = 2, /* every lent cell was taken */
     ZOHMIRKA_STALLED = 3, /* nothing would move: each later call that is not refused and is lent a clock and a cell ends STALLED too, with counts 0 */
-    ZOHMIRKA_FULL = 4,    /* the next clock would fire, and fewer output places are left than it writes */
+    ZOHMIRKA_FULL = 4,    /* the next clock would fire, and fewer output places are left than it writes, of two outputs in either */
     ZOHMIRKA_REFUSED = 5  /* the call was refused */
 };
 
@@ -154,6 +173,35 @@ uint32_t zohmirka_judge_chain(const uint32_t *chain, size_t chain_len, const uin
 /* Writes the sheet of a chain given as words and rows, as zohmirka_run_chain takes them: it goes to the first places of `sheet`, later places stay. Of what
  * zohmirka_read_chain wrote of a sheet it is that sheet. Refusals: 3 to 9, 14, 15 and 16 of the chain, then 12 if the chain sheet has more bytes than `sheet`. */
 struct zohmirka_sheet zohmirka_write_chain(const uint32_t *chain, size_t chain_len, const uint32_t *rows, size_t rows_len, uint8_t *sheet, size_t sheet_len);
+
+/* Plans a chain that two kernels share, each with a window of its own: the chain for all references of both windows goes to the first 212 places of `chain`, later
+ * places stay. It has each reference once, in falling order, with the capacities that planning gives them; its kernel is raw, and its order stood and is 0, 1, 2 and so
+ * on.
+ *   grid    the words of a chain, as zohmirka_run_chain takes them, of which the grid and the box alone play a part: words 0 to 4 and 201 to 211. The chain gets both,
+ *           whatever stood in the words with 0 past the counts, in a box that did not stand and in the words of the other kind of grid (on rows word 0 is 2), and with
+ *           flags 0 or 1. Fewer than 212 words are refused by 3
+ *   rows    the rows of `grid`, where it is skewed; they are the chain's too
+ *   first, second    the windows; they may be the same
+ * Refusals, in this order: 3 or 16 of the grid; 4 of either window, or of both together, where equal offsets count once; 5 of either window; 6 and 15 of both together;
+ * 7 of either window by its own references; 8 of either; 9 of the planned capacities; 12 if `chain` has fewer than 212 places. */
+uint32_t zohmirka_plan_pair(const uint32_t *grid, size_t grid_len, const uint32_t *rows, size_t rows_len, const uint32_t *first, size_t first_len,
+                            const uint32_t *second, size_t second_len, uint32_t *chain, size_t chain_len);
+
+/* A run call on a chain that two kernels share, given as words and rows, as zohmirka_run_chain takes them: what zohmirka_plan_pair wrote, or any other. Its references
+ * are those of both windows together, in any order and with any capacities; its own kernel and order play no part, and are not judged. The iterations are the chain's.
+ * State, store, cells and allowance are as in zohmirka_run.
+ *   first, second            the windows. They come with every call: a later call of a run may bring other kernels, or the same references shared out otherwise
+ *   out_first, out_second    each gets what the kernel of its window gives on the cells of that window's references, terms in the order of the window's author, raw in
+ *                            chain order, from the first place on; later places stay. The two are lent apart, as all slices that are written. A firing needs as many
+ *                            places of each as that window's kernel writes words: raw one for each of the window's references, the others one. Where either has fewer
+ *                            left and the next clock would fire, the call ends ZOHMIRKA_FULL: that clock is not made, and it writes to neither
+ * As long as neither output lacks places, the other window's kernel changes no word of an output, and no kernel changes cells, clocks or outcome.
+ * Refusals, in this order: 3 or 16 of the grid; 4 of the chain, of either window, or of both together; 5 of the chain or of either window; 6 and 15 of the chain; 7 of
+ * either window by its own references; 8 of either; 9 of the capacities; 14 if the chain's references are not those of both windows together; 10; 11. */
+struct zohmirka_report zohmirka_run_pair(const uint32_t *chain, size_t chain_len, const uint32_t *rows, size_t rows_len, const uint32_t *first, size_t first_len,
+                                         const uint32_t *second, size_t second_len, uint32_t *state, size_t state_len, uint32_t *store, size_t store_len,
+                                         const uint32_t *cells, size_t cells_len, uint32_t *out_first, size_t out_first_len, uint32_t *out_second,
+                                         size_t out_second_len, uint32_t allowance);
 
 #ifdef __cplusplus
 }

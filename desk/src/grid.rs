@@ -1,7 +1,7 @@
 //! Grids as the command line names them.
 use crate::arguments::Arguments;
 use crate::csv;
-use crate::fault::{Fault, Result};
+use crate::fault::{trouble, Fault, Result};
 use crate::numerals::{all, number};
 use crate::{maps, sheet};
 use zohmirka::{Chain, Request};
@@ -68,6 +68,40 @@ impl Grid {
         }
     }
 
+    /// First column and length of each row, where there are two dimensions.
+    pub fn rows(&self) -> Option<Vec<(u32, u32)>> {
+        match self {
+            Grid::Rows(rows) => Some(rows.clone()),
+            Grid::Rectangle(sizes) => match sizes[..] {
+                [height, width] => Some(vec![(0, width); height as usize]),
+                _ => None,
+            },
+        }
+    }
+
+    /// Two grids that differ, in words: as many rows by the first that differs, others whole.
+    pub fn apart(&self, other: &Grid) -> (String, String) {
+        if let (Grid::Rows(rows), Grid::Rows(others)) = (self, other) {
+            let mut pairs = rows.iter().zip(others).enumerate();
+            let differ = pairs.find(|(_, (row, other))| row != other);
+            if let Some((at, (row, other))) = differ.filter(|_| rows.len() == others.len()) {
+                let shown = |(start, length): &(u32, u32)| format!("{start}+{length} in row {at}");
+                return (shown(row), shown(other));
+            }
+        }
+        (self.to_string(), other.to_string())
+    }
+
+    /// A fault where a map has other rows and columns than this grid.
+    pub fn expect_of_map(&self, whose: &str, map: &csv::Map) -> Result<()> {
+        let found = Grid::of_map(map);
+        if *self == found {
+            return Ok(());
+        }
+        let (found, own) = found.apart(self);
+        trouble(format!("the map is {found}, and the {whose} grid {own}"))
+    }
+
     /// A request on this grid, as yet without a window.
     pub fn request(&self) -> Request {
         match self {
@@ -115,5 +149,23 @@ mod tests {
         let rows = |count| Grid::Rows(vec![(2, 5); count]).to_string();
         assert_eq!(rows(4), "4 rows 2+5,2+5,2+5,2+5");
         assert_eq!(rows(5), "5 rows 2+5,2+5,2+5,2+5,..");
+    }
+
+    #[test]
+    fn grids_that_differ_in_words() {
+        let words = |one: &Grid, other: &Grid| {
+            let (one, other) = one.apart(other);
+            format!("{one}; {other}")
+        };
+        let (flat, rows) = (Grid::Rectangle(vec![4, 5]), Grid::Rows(vec![(2, 5); 6]));
+        assert_eq!(words(&flat, &Grid::Rectangle(vec![5])), "4 by 5; 5");
+        assert_eq!(words(&rows, &flat), "6 rows 2+5,2+5,2+5,2+5,..; 4 by 5");
+        let mut other = vec![(2, 5); 6];
+        other[5] = (3, 5);
+        let last = Grid::Rows(other.clone());
+        assert_eq!(words(&rows, &last), "2+5 in row 5; 3+5 in row 5");
+        other.pop();
+        let fewer = "6 rows 2+5,2+5,2+5,2+5,..; 5 rows 2+5,2+5,2+5,2+5,..";
+        assert_eq!(words(&rows, &Grid::Rows(other)), fewer);
     }
 }

@@ -17,6 +17,7 @@ pub mod place;
 pub mod request;
 pub mod results;
 pub mod sheet;
+pub mod smoothing;
 pub mod svg;
 pub mod table;
 pub mod verdict;

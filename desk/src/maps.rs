@@ -1,10 +1,11 @@
 //! Maps as a command is handed them: tables in CSV, or cells in `05` lines.
 use crate::arguments::Arguments;
-use crate::csv::{self, Asked, Axes, Cells, Dialect};
+use crate::csv::{self, Asked, Axes, Cells, Dialect, Row};
 use crate::fault::{trouble, Fault, Result};
 use crate::files;
+use crate::grid::Grid;
 use crate::sheet;
-use crate::wording::count;
+use crate::wording::{count, grouped};
 
 pub enum Map {
     Csv(csv::Map),
@@ -28,13 +29,52 @@ pub const DIALECT: &[&str] = &["--delimiter", "--decimal", "--cells"];
 
 /// A map in CSV, or cells in `05` lines: by its first line. Standard error says what was taken.
 pub fn read(name: &str, arguments: &Arguments) -> Result<Map> {
+    // The lines of `run --csv` are fields in a dialect, whatever the cells came in.
+    let idle = if arguments.has("--csv") { &[] } else { DIALECT };
+    read_beside(name, arguments, idle)
+}
+
+/// The same as a table on a grid of two dimensions: one in CSV has its rows and columns, and cells in `05` lines are laid
+/// out on it, in the dialect that options name.
+pub fn read_on(grid: &Grid, whose: &str, name: &str, arguments: &Arguments) -> Result<csv::Map> {
+    let cells = match read_beside(name, arguments, &[])? {
+        Map::Csv(map) => {
+            grid.expect_of_map(whose, &map)?;
+            return Ok(map);
+        }
+        Map::Lines(cells) => cells,
+    };
+    let row = |(start, length): (u32, u32)| Row {
+        start: start as usize,
+        length: length as usize,
+    };
+    let rows: Vec<Row> = grid
+        .rows()
+        .unwrap_or_default()
+        .into_iter()
+        .map(row)
+        .collect();
+    let asked: usize = rows.iter().map(|row| row.length).sum();
+    let shown = files::shown(name);
+    if cells.len() != asked {
+        return trouble(format!(
+            "{shown}: {}, and the {whose} grid has {}",
+            count(cells.len(), "cell"),
+            grouped(asked as u128)
+        ));
+    }
+    let (dialect, kind) = dialect(arguments)?;
+    let map = csv::Map::laid(rows, cells, dialect, kind);
+    map.map_err(|fault| Fault::Trouble(format!("{shown}:{fault}")))
+}
+
+/// Reads a map; these options would play no part beside cells in `05` lines.
+fn read_beside(name: &str, arguments: &Arguments, idle: &[&str]) -> Result<Map> {
     let bytes = files::read(name)?;
     if !is_lines(&bytes) {
         return table(name, bytes, arguments).map(Map::Csv);
     }
-    // The lines of `run --csv` are fields in a dialect, whatever the cells came in.
-    let dialect = if arguments.has("--csv") { &[] } else { DIALECT };
-    arguments.without(&[CSV, dialect].concat(), "the map is cells in 05 lines")?;
+    arguments.without(&[CSV, idle].concat(), "the map is cells in 05 lines")?;
     let cells = lines(files::shown(name), &bytes)?;
     files::note(&format!(
         "{}: {} in 05 lines",

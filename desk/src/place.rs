@@ -1,7 +1,7 @@
 //! Where firings belong. There is no geometry of windows here: the chain is run raw over the cells
 //! 0, 1, 2, .., so that a firing's word 0 is the position of the cell that filter 0 reads; its index
 //! less filter 0's offset is the iteration.
-use zohmirka::{Chain, Kernel, Outcome, Refusal, State};
+use zohmirka::{Chain, Kernel, Outcome, Pair, Refusal, State};
 
 #[derive(Clone, Copy, Debug, PartialEq, Eq)]
 pub enum End {
@@ -18,22 +18,54 @@ pub struct Ran {
     pub clocks: u32,
 }
 
+/// How many firings a call has places for.
+const FIRINGS: usize = 1024;
+
 /// Runs a chain over the cells of a stream, and hands each firing's words on.
 pub fn run(chain: &Chain, cells: &[u32], mut firing: impl FnMut(&[u32])) -> Result<Ran, Refusal> {
-    const FIRINGS: usize = 1024;
-    let (mut state, mut store) = (State::fresh(), vec![0; chain.places()]);
+    let mut store = vec![0; chain.places()];
     // An accepted chain writes a word or more.
     let width = chain.width().max(1);
     let mut out = vec![0; FIRINGS * width];
-    let mut clocks = 0;
+    to_the_end(cells, |state, rest| {
+        let outcome = chain.run(state, &mut store, rest, &mut out, u32::MAX)?;
+        let made = outcome.counts().firings as usize;
+        out.chunks_exact(width).take(made).for_each(&mut firing);
+        Ok(outcome)
+    })
+}
+
+/// The same of two windows on one chain: each firing's words of the first, and those of the second.
+pub fn run_pair(
+    pair: &Pair,
+    cells: &[u32],
+    mut firing: impl FnMut(&[u32], &[u32]),
+) -> Result<Ran, Refusal> {
+    let mut store = vec![0; pair.chain.places()];
+    let widths = [&pair.first, &pair.second].map(|window| window.width().max(1));
+    let [mut first, mut second] = widths.map(|width| vec![0; FIRINGS * width]);
+    to_the_end(cells, |state, rest| {
+        let outcome = pair.run(state, &mut store, rest, &mut first, &mut second, u32::MAX)?;
+        let made = outcome.counts().firings as usize;
+        let both = first
+            .chunks_exact(widths[0])
+            .zip(second.chunks_exact(widths[1]));
+        both.take(made)
+            .for_each(|(first, second)| firing(first, second));
+        Ok(outcome)
+    })
+}
+
+/// Makes calls of a fresh run, each with the cells that are left, until it ends.
+fn to_the_end(
+    cells: &[u32],
+    mut call: impl FnMut(&mut State, &[u32]) -> Result<Outcome, Refusal>,
+) -> Result<Ran, Refusal> {
+    let (mut state, mut clocks) = (State::fresh(), 0);
     loop {
         let rest = &cells[state.passed(0) as usize..];
-        let outcome = chain.run(&mut state, &mut store, rest, &mut out, u32::MAX)?;
-        let counts = outcome.counts();
-        clocks += counts.clocks;
-        out[..counts.firings as usize * width]
-            .chunks_exact(width)
-            .for_each(&mut firing);
+        let outcome = call(&mut state, rest)?;
+        clocks += outcome.counts().clocks;
         let end = match outcome {
             Outcome::Done(_) => End::Done,
             Outcome::Stalled(_) => End::Stalled,

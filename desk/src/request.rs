@@ -129,6 +129,15 @@ pub fn kernel_name(kernel: Kernel) -> String {
     }
 }
 
+/// What a box is called on the command line.
+pub fn box_name(ends: &[(i32, i32)]) -> String {
+    let ends: Vec<String> = ends
+        .iter()
+        .map(|(low, high)| format!("{low}..{high}"))
+        .collect();
+    ends.join(",")
+}
+
 /// A request sheet, and where it came from.
 pub struct Source {
     /// The file; none where options made the sheet.
@@ -151,8 +160,13 @@ impl Source {
             &[&request, maps::CSV, maps::DIALECT].concat(),
             "a request sheet is named",
         )?;
+        Source::read(name)
+    }
+
+    /// The request sheet of a file.
+    pub fn read(name: &str) -> Result<Source> {
         Ok(Source {
-            name: Some(name.clone()),
+            name: Some(name.to_string()),
             sheet: files::read(name)?,
         })
     }

@@ -3,7 +3,7 @@
 mod draft;
 
 use compare::dice::Dice;
-use desk::csv::{read, Asked, Axes, Cells, Form, Map, Rim, Row};
+use desk::csv::{read, Asked, Axes, Cells, Dialect, Form, Map, Rim, Row};
 use draft::{draft, text_of, Draft};
 
 fn expect(map: &Map, draft: &Draft, text: &str) {
@@ -107,6 +107,55 @@ fn dialect_and_axes_are_found() {
         };
         there_and_back(&draft, &text, &asked);
     }
+}
+
+#[test]
+fn cells_laid_out_are_a_map_without_labels() {
+    let mut dice = Dice::new(37);
+    for _ in 0..20_000 {
+        let draft = draft(&mut dice);
+        let (rows, words) = (draft.rows.clone(), draft.words.clone());
+        let map = Map::laid(rows, words, draft.dialect, draft.kind);
+        let map = map.expect("any words can be laid out");
+        assert_eq!(
+            (map.cells(), map.rows()),
+            (&draft.words[..], &draft.rows[..])
+        );
+        assert_eq!(
+            (map.dialect(), map.top(), map.left()),
+            (&draft.dialect, None, None)
+        );
+        let asked = Asked {
+            axes: Some(Axes::None),
+            slanted: map.is_slanted(),
+            ..fitting(&draft)
+        };
+        let read = good(&again(&map), &asked);
+        assert_eq!((read.cells(), read.rows()), (map.cells(), map.rows()));
+        assert_eq!((read.width(), read.taken()), (map.width(), map.taken()));
+    }
+}
+
+/// Words that no number in CSV has: their texts stand in the cells that no result takes the place of.
+#[test]
+fn cells_laid_out_may_be_no_numbers() {
+    let row = |start, length| Row { start, length };
+    let words = [f32::NAN, f32::INFINITY, -0.0].map(f32::to_bits);
+    let map = Map::laid(
+        vec![row(1, 1), row(0, 2)],
+        words.to_vec(),
+        Dialect::default(),
+        Cells::F32,
+    );
+    let map = map.expect("any words can be laid out");
+    let keep = Form {
+        digits: None,
+        rim: Rim::Keep,
+    };
+    let none = |_, _| None;
+    assert_eq!(map.cells(), words);
+    assert_eq!(map.write(&keep, none), b",nan\ninf,-0\n");
+    assert_eq!(map.write(&Form::default(), none), b",\n,\n");
 }
 
 fn any_asked(dice: &mut Dice) -> Asked {

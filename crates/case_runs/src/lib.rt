@@ -154,7 +154,7 @@ fn end_of(a: Answer) -> u8
 }
 
 // How many words a call of so many firings wrote.
-fn words_of(firings: u32, width: usize) -> usize
+pub fn words_of(firings: u32, width: usize) -> usize
     ensures { λ r. ⌜ r ≡ firings * (width % 4294967296) ⌝ }
 {
     wide_usize(firings) * (width % 4294967296)

@@ -6,7 +6,6 @@ pub mod HandedOn
 pub mod Timing
 pub mod Words
 pub mod Again
-pub mod Stores
 pub mod SameHandedOn
 pub mod Pieces
 pub mod Plans

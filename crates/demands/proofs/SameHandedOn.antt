@@ -5,7 +5,6 @@ use mathlib.Core.List.{List, [], _∷_, _++_, map}
 use mathlib.Core.Path.{_≡_, refl, sym, _∙_, ap, ap₂}
 use native.Mathlib.Omega.{arith}
 use lib.ListN.{length, getD, take, drop, take-append-drop, length-append, length-map}
-use lib.Seq.{drop-at}
 use Rattle.model.specs.Lists.{tabulate}
 use Rattle.model.specs.Values.{Trimmed, trimmed}
 use Rattle.model_run.specs.Clock.{Layout, Counters, first, next}
@@ -26,10 +25,10 @@ use Rattle.run_laws.proofs.Traces.{Traced, traced-same}
 use Rattle.run_laws.proofs.Traces as trace
 use Rattle.run_laws.proofs.Held.{Held, next-steps, holds-length}
 use Rattle.run_laws.proofs.Calls.{Sound, clocked-sound}
-use Rattle.run_laws.proofs.Between.{Setting, Reached, now, beginning, ending, clocks, refused, ran, by-call, counters-back, enough-places, lent-words, width-right, sound-start, sound-end, counted-call, after-reached, reached-invariant}
+use Rattle.run_laws.proofs.Between.{Setting, Reached, now, beginning, ending, clocks, refused, ran, by-call, counters-back, counters-twice, enough-places, lent-words, width-right, sound-start, sound-end, counted-call, after-reached, reached-invariant}
 use Rattle.run_laws.proofs.CallSums.{list-reached, list-clocks}
 use Rattle.demands.proofs.Finishing.{setting, start}
-use Rattle.demands.proofs.Stores.{puts, Heads, stored-puts, puts-leaves}
+use Rattle.run_laws.proofs.Stores.{puts, Heads, stored-puts, puts-leaves}
 
 module _ (L : Layout) (stream : ℕ → ℕ) where
   open Layout L using (capacity, filters, cells)
@@ -87,7 +86,7 @@ counters-length : (n : ℕ) (s : State) → length (countersOf n s .passed) ≡ 
 unfolding countersOf
 counters-length n s = length-tabulate n (λ k. getD (s .passed) k (record { 0 = 0 }) .0)
 
--- A state with its own counters, one that is given counters twice, and how many it has then.
+-- A state with its own counters, and how many one has that is given counters.
 own-counters : (n : ℕ) (s : State) → n ≤ length (s .passed) → withCounters s (countersOf n s) ≡ s
 unfolding withCounters countersOf tabulate
 own-counters n s h = rw (length-tabulate n (λ k. getD (s .passed) k (record { 0 = 0 }) .0)) (ap (λ (ps : List CellsPassed). let r : State = record { passed = ps; fired = s .fired } in r) (go n (s .passed) h))
@@ -97,13 +96,6 @@ own-counters n s h = rw (length-tabulate n (λ k. getD (s .passed) k (record { 0
     go zero ps h = refl
     go (suc n) [] h = absurd (omega arith)
     go (suc n) (p ∷ ps) h = ap (λ (qs : List CellsPassed). p ∷ qs) (go n ps (omega arith))
-
-counters-twice : (s : State) (c d : Counters) → length (c .passed) ≡ length (d .passed) → withCounters (withCounters s c) d ≡ withCounters s d
-unfolding withCounters
-counters-twice s c d e =
-    let mark : ℕ → CellsPassed = λ p. record { 0 = p } in
-    ap (λ (ps : List CellsPassed). let r : State = record { passed = map mark (d .passed) ++ ps; fired = record { 0 = d .fired } } in r)
-    (drop-at (map mark (c .passed)) (drop (length (c .passed)) (s .passed)) (length (d .passed)) (length-map (c .passed) mark ∙ e) ∙ ap (λ (n : ℕ). drop n (s .passed)) e)
 
 counters-fit : (s : State) (c : Counters) → length (c .passed) ≤ length (withCounters s c .passed)
 unfolding withCounters

@@ -28,3 +28,4 @@ pub mod ChainLaws
 pub mod CheckLaws
 pub mod StepLaws
 pub mod ClockLaws
+pub mod PairPasses

@@ -66,15 +66,13 @@ absent c f (suc k) h =
 
 -- The table with one entry more.
 module _ (ks : List ℕ) (v : ℕ) (h : length ks < 32) where
-  old : List ℕ
+  abbrev old : List ℕ
   old = tabulate 32 (λ i. getD ks i 0)
 
   old-length : length old ≡ 32
-  unfolding old
   old-length = length-tabulate 32 (λ i. getD ks i 0)
 
   entry : (i : ℕ) → i < 32 → getD (set old (length ks) v) i 0 ≡ getD (ks ++ (v ∷ [])) i 0
-  unfolding old
   entry i l = go (ℕ-discrete i (length ks)) (decLt i (length ks))
     where
       go : Dec (i ≡ length ks) → Dec (i < length ks) → getD (set old (length ks) v) i 0 ≡ getD (ks ++ (v ∷ [])) i 0
@@ -84,7 +82,7 @@ module _ (ks : List ℕ) (v : ℕ) (h : length ks < 32) where
           getD-set-other old (length ks) i v 0 n ∙ getD-tabulate 32 (λ i. getD ks i 0) i 0 l
           ∙ List·getD-eq-default ks 0 (omega arith) ∙ sym (List·getD-eq-default (ks ++ (v ∷ [])) 0 (omega (arith, length-append ks (v ∷ []))))
 
-  set-table : set old (length ks) v ≡ tabulate 32 (λ i. getD (ks ++ (v ∷ [])) i 0)
+  pub set-table : set old (length ks) v ≡ tabulate 32 (λ i. getD (ks ++ (v ∷ [])) i 0)
   set-table =
       ext-getD 0 (set old (length ks) v) (tabulate 32 (λ i. getD (ks ++ (v ∷ [])) i 0)) (length-set old (length ks) v ∙ old-length ∙ sym (length-tabulate 32 _))
       (λ i l. let b : i < 32 = omega (arith, length-set old (length ks) v, old-length) in
@@ -116,7 +114,6 @@ module _ (c : ℕ) (f : ℕ → ℕ) where
     listed-centre b e = record { entered = rw (add-one, with-centre c f k e) (l .entered); counted = rw (add-one, with-centre c f k e) (l .counted); bytes = byte-more b }
 
     pub listed-other : f k < 256 → (f k ≡ c → ⊥) → k < 32 → Listed (k + 1) (set filters count (f k)) (count + 1)
-    unfolding old
     listed-other b n h =
         let r : length (without c (tabulate k f)) < 32 = omega (arith, few c f k) in
         record {
@@ -130,7 +127,7 @@ module _ (c : ℕ) (f : ℕ → ℕ) where
     listed-all n e = rw (← e) (ap₂ (λ (fs : List ℕ) (m : ℕ). let t : Terms = record { filters = fs; count = m } in t) (l .entered) (l .counted), l .bytes)
 
 -- A list of at most 32, back from its table.
-table-back : (ks : List ℕ) → length ks ≤ 32 → take (length ks) (tabulate 32 (λ i. getD ks i 0)) ≡ ks
+pub table-back : (ks : List ℕ) → length ks ≤ 32 → take (length ks) (tabulate 32 (λ i. getD ks i 0)) ≡ ks
 table-back ks h =
     let l : length (take (length ks) (tabulate 32 (λ i. getD ks i 0))) ≡ length ks = length-take-le _ _ (omega (arith, length-tabulate 32 (λ i. getD ks i 0))) in
     ext-getD 0 _ ks l

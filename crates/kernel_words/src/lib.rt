@@ -61,7 +61,7 @@ fn sum_of_terms(terms: &[u8], words: &[u32; 256]) -> f32
 }
 
 // The square of the centre less another reference.
-fn squared(centre: u32, other: u32) -> f32
+pub fn squared(centre: u32, other: u32) -> f32
     ensures { λ r. ⌜ r ≡ squaredOf centre other ⌝ }
 {
     let d = float_of(centre) - float_of(other);

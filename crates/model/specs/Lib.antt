@@ -12,7 +12,9 @@ pub mod Answers
 pub mod Judging
 pub mod Steps
 pub mod Planning
+pub mod Pairs
 pub mod GridCases
 pub mod JudgingCases
 pub mod StepCases
 pub mod AnswerCases
+pub mod PairCases

@@ -45,6 +45,12 @@ pub struct Bounds {
     pub highest: [i32; 4],
 }
 
+// One of two kernels on one chain: its own window, whose references are in its author's order, and the kernel.
+pub struct Side {
+    pub window: Window,
+    pub kernel: Kernel,
+}
+
 // What is to be planned.
 pub struct Request {
     pub grid: Grid,

@@ -5,8 +5,11 @@ pub mod Running
 pub mod CallLists
 pub mod Reports
 pub mod Words
+pub mod PairRuns
+pub mod PairLists
 pub mod Cases
 pub mod RunCases
 pub mod RowCases
 pub mod KernelCases
 pub mod LentCases
+pub mod PairRunCases

@@ -6,7 +6,7 @@ use mathlib.Core.Path.{_≡_, refl, sym, _∙_, ap}
 use native.Mathlib.Nat.{add-zero}
 use native.Mathlib.Omega.{arith}
 use lib.ListN.{length, getD, take, drop, take-append-drop, length-take, length-map, List·getD-append}
-use lib.Seq.{getD-take}
+use lib.Seq.{getD-take, drop-at}
 use borrow.Author.Tests.{ltb-false}
 use Rattle.model.specs.Lists.{sum, tabulate, upTo}
 use Rattle.model.specs.Values.{Trimmed}
@@ -53,6 +53,14 @@ counters-back n s c e = rw (← e) (ap (λ (ps : List ℕ). let r : Counters = r
         → tabulate (length ps) (λ k. getD (map (λ (p : ℕ). let passed : CellsPassed = record { 0 = p } in passed) ps ++ rest) k (record { 0 = 0 }) .0) ≡ ps
     go [] rest = refl
     go (p ∷ ps) rest = ap (λ (l : List ℕ). p ∷ l) (go ps rest)
+
+-- A state that is given counters twice.
+pub counters-twice : (s : State) (c d : Counters) → length (c .passed) ≡ length (d .passed) → withCounters (withCounters s c) d ≡ withCounters s d
+unfolding withCounters
+counters-twice s c d e =
+    let mark : ℕ → CellsPassed = λ p. record { 0 = p } in
+    ap (λ (ps : List CellsPassed). let r : State = record { passed = map mark (d .passed) ++ ps; fired = record { 0 = d .fired } } in r)
+    (drop-at (map mark (c .passed)) (drop (length (c .passed)) (s .passed)) (length (d .passed)) (length-map (c .passed) mark ∙ e) ∙ ap (λ (n : ℕ). drop n (s .passed)) e)
 
 -- A list's chain, trimmed, and its stream.
 pub record Setting : Type 0 where

@@ -14,3 +14,5 @@ pub mod CallSums
 pub mod Words
 pub mod Plans
 pub mod Halves
+pub mod Stores
+pub mod AnyState

@@ -19,7 +19,7 @@ use Rattle.zohmirka_reports.specs.Reports.{reportOf}
 use Rattle.zohmirka_runs.specs.Runs.{Runs, runValue}
 
 abbrev pub version : ℕ
-version = 4
+version = 5
 
 -- Writing the sheet of a chain and its rows: 3 to 9, 14, 15 and 16 of the chain, then 12.
 pub record Sheets : Type 0 where

@@ -3,6 +3,8 @@
 use model::Chain;
 use model::Refusal;
 use model::Verdict;
+use zohmirka_pairs::plan_words;
+use zohmirka_pairs::run_words;
 use zohmirka_reports::Report;
 use zohmirka_reports::Sheet;
 use zohmirka_reports::number;
@@ -15,13 +17,14 @@ use zohmirka_words::rows_out;
 ghost use mathlib.Core.Path.{_≡_};
 ghost use Rattle.zohmirka.specs.Calls.{version, written, planCall, judgeCall, runSheet, runChain, readCall};
 ghost use Rattle.zohmirka.specs.Calls.{judgeChainCall, writeCall};
+ghost use Rattle.zohmirka_pairs.specs.PairWords.{planPairWords, runPairWords};
 
 // The version of this interface.
 #[no_mangle]
 pub extern "C" fn zohmirka_version() -> u32
     ensures { λ r. ⌜ r ≡ version ⌝ }
 {
-    4
+    5
 }
 
 // The sheet of a chain and its rows: 3 to 9, 14, 15 and 16 of the chain, then 12.
@@ -166,4 +169,59 @@ pub extern "C" fn zohmirka_write_chain(chain: &[u32], rows: &[u32], sheet: &mut 
         ≡ writeCall (now (chain .entry)) (now (rows .entry)) (now (sheet .entry)) ⌝ }
 {
     write(chain_in(chain), rows, sheet)
+}
+
+// Plans the chain that two kernels share, on the grid and box of a chain's words: 3 (on rows 16) to 9 with 15 after 6, then 12.
+#[no_mangle]
+pub extern "C" fn zohmirka_plan_pair(
+    grid: &[u32],
+    rows: &[u32],
+    first: &[u32],
+    second: &[u32],
+    chain: &mut [u32],
+) -> u32
+    ensures { λ r. ⌜ record { refusal = r; chain = now (chain .exit) }
+        ≡ planPairWords (now (grid .entry)) (now (rows .entry)) (now (first .entry)) (now (second .entry))
+        (now (chain .entry)) ⌝ }
+{
+    plan_words(grid, rows, first, second, chain)
+}
+
+// A run call of two kernels on one chain, an output for each: 3 (on rows 16) to 9 with 15 after 6, then 14, 10, 11.
+#[no_mangle]
+pub extern "C" fn zohmirka_run_pair(
+    chain: &[u32],
+    rows: &[u32],
+    first: &[u32],
+    second: &[u32],
+    state: &mut [u32],
+    store: &mut [u32],
+    cells: &[u32],
+    out_first: &mut [u32],
+    out_second: &mut [u32],
+    allowance: u32,
+) -> Report
+    ensures { λ r. ⌜ record {
+      report = r;
+      state = now (state .exit);
+      store = now (store .exit);
+      first = now («out_first» .exit);
+      second = now («out_second» .exit);
+    }
+        ≡ runPairWords (now (state .entry)) (now (store .entry)) (now (cells .entry)) (now («out_first» .entry))
+        (now («out_second» .entry)) allowance (now (chain .entry)) (now (rows .entry)) (now (first .entry))
+        (now (second .entry)) ⌝ }
+{
+    run_words(
+        chain,
+        rows,
+        first,
+        second,
+        state,
+        store,
+        cells,
+        out_first,
+        out_second,
+        allowance,
+    )
 }

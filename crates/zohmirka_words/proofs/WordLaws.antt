@@ -22,7 +22,7 @@ use Rattle.model.specs.declared.Kernel.{Kernel}
 use Rattle.model.specs.declared.Order.{Order}
 use Rattle.model.specs.declared.State.{State}
 use Rattle.grid_laws.proofs.ListLaws.{length-tabulate}
-use Rattle.zohmirka_words.specs.Words.{wordAt, laid, counter, stateWord, stateWords, stateIn, stateInto, boxWord, chainWord, chainWords, chainInto, countIn, kernelIn, orderIn, indicesIn, boundsIn, chainIn, rowPlaces, rowWords, rowsInto}
+use Rattle.zohmirka_words.specs.Words.{wordAt, laid, counter, stateWord, stateWords, stateIn, stateInto, boxWord, chainWord, chainWords, chainInto, countIn, kernelIn, orderIn, indicesIn, boundsIn, offsetsIn, chainIn, blankSide, sideIn, rowPlaces, rowWords, rowsInto}
 
 -- The first k entries f's, the others as they were.
 abbrev pub front : {A : Type 0} → (ℕ → A) → ℕ → List A → List A
@@ -226,6 +226,15 @@ module _ (ws : List ℕ) where
       ≡ chainIn ws
   unfolding chainIn
   chain-of-words skewed rows dims count sizes capacities offsets b o k h d1 d2 e1 e2 e3 e4 e5 e6 e7 e8 = rw (le-ltb _ _ h, d1, d2, e1, e2, e3, e4, e5, e6, e7, e8)
+
+  pub few-side : length ws < 132 → blankSide ≡ sideIn ws
+  unfolding sideIn
+  few-side h = rw (lt-ltb _ _ h)
+
+  pub side-of-words : (count : ℕ) (offsets : List ℤ) (k : Kernel) → 132 ≤ length ws → count ≡ countIn (wordAt ws 0) → offsets ≡ offsetsIn ws 1
+      → k ≡ kernelIn (wordAt ws 129) (wordAt ws 130) (wordAt ws 131) → record { window = record { count = count; offsets = offsets }; kernel = k } ≡ sideIn ws
+  unfolding sideIn
+  side-of-words count offsets k h e d f = rw (le-ltb _ _ h, e, d, f)
 
   -- Rows, where a grid's have so many numbers.
   module _ (g : Grid) (rows : List ℕ) (n : ℕ) (e : n ≡ rowPlaces g) where

@@ -13,9 +13,10 @@ use Rattle.model_sheet.specs.Numbers.{signed, pattern, signedWord, wordPattern}
 use Rattle.model.specs.declared.Chain.{Chain}
 use Rattle.model.specs.declared.Kernel.{Kernel}
 use Rattle.model.specs.declared.Kernel.the-variants as kernel
+use Rattle.model.specs.declared.Side.{Side}
 use Rattle.model.specs.declared.State.{State}
 use Rattle.zohmirka_words.specs.Words.{counter, stateWord, stateWords, stateIn, kernelWords, boxWord, chainWord}
-use Rattle.zohmirka_words.specs.Words.{chainWords, countIn, kernelIn, orderIn, indicesIn, boundsIn, chainIn}
+use Rattle.zohmirka_words.specs.Words.{chainWords, countIn, kernelIn, orderIn, indicesIn, boundsIn, chainIn, blankSide, sideIn}
 
 -- A chain whose numbers differ; whether its order stood, its box stood, and its grid is skewed, and its kernel.
 abbrev chain : (ordered boxed skewed : Bool) → Kernel → Chain
@@ -83,6 +84,20 @@ taken = record {
   kernel = kernel.Scaled nan;
 }
 
+-- A window of a pair: 0 its number of references, 1 to 128 the offsets, 129 the kernel, 130 and 131 its factors; later words
+-- play no part.
+abbrev sideWords : (count : ℕ) → (offsets kernel : List ℕ) → List ℕ
+sideWords count offsets k = count ∷ (offsets ++ (k ++ (99 ∷ [])))
+
+abbrev blended : Side
+blended = record {
+  window = record { count = 31; offsets = pos 7 ∷ pos 32767 ∷ tabulate 126 negsuc };
+  kernel = kernel.Blend (record { a = float 0x3F800000; b = float 0xC0000000 });
+}
+
+abbrev oddSide : Side
+oddSide = record { window = record { count = 255; offsets = replicate 128 (negsuc 0) }; kernel = kernel.Scaled nan }
+
 -- A state: 0 to 31 the input counters, 32 the firings made.
 abbrev state : State
 state = record { passed = tabulate 32 (λ k. counter (40 + k)); fired = record { 0 = 9 } }
@@ -94,8 +109,11 @@ pub table : (map (λ c. chainWords (c .chain)) cases ≡ map (λ c. c .words) ca
     × (map (λ c. chainIn (c .words)) cases ≡ map (λ c. c .chain) cases)
     × (chainIn odd ≡ taken)
     × (chainIn (replicate 211 1) ≡ blankChain)
+    × (sideIn (sideWords 31 (7 ∷ 32767 ∷ tabulate 126 (λ i. 65535 - i)) (3 ∷ 0x3F800000 ∷ 0xC0000000 ∷ [])) ≡ blended)
+    × (sideIn (sideWords 256 (replicate 128 131071) (4 ∷ 0 ∷ 0 ∷ [])) ≡ oddSide)
+    × (sideIn (replicate 131 1) ≡ blankSide)
     × (stateWords state ≡ counters)
     × (stateIn counters ≡ state)
 unfolding cases ofBits toBits tabulate signed pattern signedWord wordPattern
-    stateWord stateWords stateIn kernelWords boxWord chainWord chainWords countIn kernelIn orderIn indicesIn boundsIn chainIn
-table = (refl, refl, refl, refl, refl, refl)
+    stateWord stateWords stateIn kernelWords boxWord chainWord chainWords countIn kernelIn orderIn indicesIn boundsIn chainIn sideIn
+table = (refl, refl, refl, refl, refl, refl, refl, refl, refl)

@@ -1,4 +1,4 @@
--- A state, a chain and the rows beside it as words.
+-- A state, a chain, the rows beside it and a window of a pair as words.
 use Prim.Native.Nat.{ℕ, _+_, _-_, _*_, _%_}
 use mathlib.Core.Bool.{cond, not}
 use mathlib.Core.List.{List, [], _∷_, _++_}
@@ -8,7 +8,7 @@ use lib.ListN.{length, getD, drop, replicate}
 use Rattle.model.specs.Lists.{tabulate}
 use Rattle.model_sheet.specs.Numbers.{signed, pattern, signedWord, wordPattern}
 use Rattle.model_run.specs.Kernels.{float, word}
-use Rattle.model.specs.Values.{blankChain}
+use Rattle.model.specs.Values.{blankWindow, blankChain}
 use Rattle.model.specs.declared.Bounds.{Bounds}
 use Rattle.model.specs.declared.CellsPassed.{CellsPassed}
 use Rattle.model.specs.declared.Chain.{Chain}
@@ -16,6 +16,7 @@ use Rattle.model.specs.declared.Grid.{Grid}
 use Rattle.model.specs.declared.Kernel.{Kernel}
 use Rattle.model.specs.declared.Kernel.the-variants as kernel
 use Rattle.model.specs.declared.Order.{Order}
+use Rattle.model.specs.declared.Side.{Side}
 use Rattle.model.specs.declared.State.{State}
 
 abbrev pub wordAt : List ℕ → ℕ → ℕ
@@ -110,6 +111,10 @@ indicesIn ws from = tabulate 4 (λ d. signedWord (wordAt ws (from + d)))
 unfoldable pub boundsIn : List ℕ → Bounds
 boundsIn ws = record { stood = not (eqb (wordAt ws 201) 0); lowest = indicesIn ws 202; highest = indicesIn ws 206 }
 
+-- The entries of a window from a word on, 16 bits each in two's complement.
+abbrev pub offsetsIn : List ℕ → (from : ℕ) → List ℤ
+offsetsIn ws from = tabulate 128 (λ i. signed (wordAt ws (from + i) % 65536))
+
 -- Too few words are taken for the blank chain, which 3 turns back. The grid is skewed if the last word but one is not 0.
 unfoldable pub chainIn : List ℕ → Chain
 chainIn ws =
@@ -121,7 +126,7 @@ chainIn ws =
         dims = countIn (wordAt ws 0);
         sizes = wordAt ws 1 ∷ wordAt ws 2 ∷ wordAt ws 3 ∷ wordAt ws 4 ∷ [];
       };
-      window = record { count = countIn (wordAt ws 5); offsets = tabulate 128 (λ i. signed (wordAt ws (6 + i) % 65536)) };
+      window = record { count = countIn (wordAt ws 5); offsets = offsetsIn ws 6 };
       bounds = boundsIn ws;
       capacities = tabulate 31 (λ k. wordAt ws (134 + k));
       order = orderIn ws;
@@ -131,6 +136,23 @@ chainIn ws =
 -- Too few words stay as they are.
 unfoldable pub chainInto : Chain → List ℕ → List ℕ
 chainInto c ws = cond (ltb (length ws) chainSize) ws (laid (chainWords c) ws)
+
+-- A window of a pair: number of references, entries, kernel and factors.
+
+abbrev pub sideSize : ℕ
+sideSize = 132
+
+-- Too few words are taken for a window without references, which 4 turns back.
+abbrev pub blankSide : Side
+blankSide = record { window = blankWindow; kernel = kernel.Raw }
+
+unfoldable pub sideIn : List ℕ → Side
+sideIn ws =
+    cond (ltb (length ws) sideSize) blankSide
+    (record {
+      window = record { count = countIn (wordAt ws 0); offsets = offsetsIn ws 1 };
+      kernel = kernelIn (wordAt ws 129) (wordAt ws 130) (wordAt ws 131);
+    })
 
 -- Rows: a start and a length of each; a rectangle has none.
 

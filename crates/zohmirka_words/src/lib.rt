@@ -1,4 +1,4 @@
-// A state, a chain and the rows beside it as words (specs/Words.antt).
+// A state, a chain, the rows beside it and a window of a pair as words (specs/Words.antt).
 use model::Bounds;
 use model::CellsPassed;
 use model::Chain;
@@ -7,6 +7,7 @@ use model::FiringsMade;
 use model::Grid;
 use model::Kernel;
 use model::Order;
+use model::Side;
 use model::State;
 use model::Window;
 use numbers::number_at;
@@ -14,10 +15,9 @@ ghost use mathlib.Core.Path.{_≡_};
 ghost use Prim.Native.Nat.{_+_, _%_, _≤_, _<_};
 ghost use lib.ListN.{length};
 ghost use Rattle.model.specs.Lists.{tabulate};
-ghost use Rattle.model_sheet.specs.Numbers.{signed};
 ghost use Rattle.zohmirka_words.specs.Words.{wordAt, stateIn, stateInto, kernelWords, boxWord, chainWord, chainInto};
 ghost use Rattle.zohmirka_words.specs.Words.{countIn, kernelIn, orderIn, indicesIn, boundsIn, chainIn, rowPlaces};
-ghost use Rattle.zohmirka_words.specs.Words.{rowsInto};
+ghost use Rattle.zohmirka_words.specs.Words.{offsetsIn, sideIn, rowsInto};
 
 // The state of its words.
 pub fn state_in(words: &[u32]) -> State
@@ -95,14 +95,15 @@ fn kernel_in(which: u32, a: u32, b: u32) -> Kernel
     Kernel::Scaled(kernel_words::float_of(0x7FC00000))
 }
 
-fn offsets_in(words: &[u32]) -> [i16; 128]
-    requires { ⌜ 212 ≤ length (now words) ⌝ }
-    ensures { λ r. ⌜ r ≡ tabulate 128 (λ i. signed (wordAt (now (words .entry)) (6 + i) % 65536)) ⌝ }
+// The entries of a window from a word on.
+fn offsets_in(words: &[u32], from: usize) -> [i16; 128]
+    requires { ⌜ from + 128 ≤ length (now words) ⌝ }
+    ensures { λ r. ⌜ r ≡ offsetsIn (now (words .entry)) from ⌝ }
 {
     let mut offsets = [0i16; 128];
     let mut i: usize = 0;
     while i < 128 {
-        let x = sheet_fields::entry(low_half(words[6 + i]));
+        let x = sheet_fields::entry(low_half(words[from + i]));
         offsets[i] = x;
         i += 1;
     }
@@ -177,7 +178,7 @@ pub fn chain_in(words: &[u32]) -> Chain
     };
     let window = Window {
         count: count_in(words[5]),
-        offsets: offsets_in(words),
+        offsets: offsets_in(words, 6),
     };
     Chain {
         grid,
@@ -186,6 +187,29 @@ pub fn chain_in(words: &[u32]) -> Chain
         capacities: capacities_in(words),
         order: order_in(words),
         kernel: kernel_in(words[165], words[166], words[167]),
+    }
+}
+
+// A window of a pair of its words.
+pub fn side_in(words: &[u32]) -> Side
+    ensures { λ r. ⌜ r ≡ sideIn (now (words .entry)) ⌝ }
+{
+    if words.len() < 132 {
+        return Side {
+            window: Window {
+                count: 0,
+                offsets: [0i16; 128],
+            },
+            kernel: Kernel::Raw,
+        };
+    }
+    let window = Window {
+        count: count_in(words[0]),
+        offsets: offsets_in(words, 1),
+    };
+    Side {
+        window,
+        kernel: kernel_in(words[129], words[130], words[131]),
     }
 }
 

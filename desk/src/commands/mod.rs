@@ -6,6 +6,7 @@ pub mod check;
 pub mod draw;
 pub mod explain;
 pub mod help;
+pub mod pair;
 pub mod plan;
 pub mod request;
 pub mod run;

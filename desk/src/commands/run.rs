@@ -57,13 +57,7 @@ fn fits(chain: &Chain, map: &Map) -> Result<()> {
             "a map in CSV has two dimensions and the chain's grid {dims}; its cells are 05 lines"
         ));
     }
-    if grid != Grid::of_map(map) {
-        return trouble(format!(
-            "the map is {}, and the chain's grid {grid}",
-            Grid::of_map(map)
-        ));
-    }
-    Ok(())
+    grid.expect_of_map("chain's", map)
 }
 
 /// What the program `run` writes.

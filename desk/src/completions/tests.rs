@@ -34,6 +34,7 @@ fn offers(words: &[&str], expected: &str) {
 fn names_of_commands() {
     offers(&["sm"], "smooth");
     offers(&["c"], "cells check completions");
+    offers(&["p"], "pair plan");
     offers(&["draw"], "draw");
     offers(&["dr"], "draw");
     offers(&["draw", ""], "heat chain time");
@@ -66,6 +67,10 @@ fn options_and_their_values() {
     offers(&["smooth", "a.csv", "--delimiter", ""], ", \\; tab");
     offers(&["smooth", "a.csv", "--delimiter", "\\"], "\\;");
     offers(&["run", "a.chain", "--csv", "--f"], "--fill");
+    offers(
+        &["pair", "a.request", "b.request", "--s"],
+        "--slanted --svg --second",
+    );
     offers(&["completions", ""], "bash zsh");
     offers(&["completions", "z"], "zsh");
 }
@@ -103,6 +108,8 @@ fn zsh_forms() {
     for form in [
         "'1:CHAIN:_files'",
         "'2:MAP:_files'",
+        "'2:REQUEST:_files'",
+        "'3:MAP:_files'",
         "'1::REQUEST:_files'",
         "'*:CHAIN:_files'",
         "'1:SHELL:(bash zsh)'",

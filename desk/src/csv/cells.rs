@@ -62,6 +62,26 @@ pub(super) struct Stream {
 }
 
 impl Stream {
+    /// The words of these rows, as many as they have cells.
+    pub fn of(rows: Vec<Row>, words: Vec<u32>) -> Stream {
+        let mut next = 0;
+        let first = |row: &Row| {
+            next += row.length;
+            next - row.length
+        };
+        let firsts = rows.iter().map(first).collect();
+        Stream {
+            rows,
+            firsts,
+            words,
+        }
+    }
+
+    pub fn word(&self, row: usize, column: usize) -> Option<u32> {
+        let position = self.position(row, column)?;
+        Some(self.words[position])
+    }
+
     pub fn position(&self, row: usize, column: usize) -> Option<usize> {
         let cells = self.rows.get(row)?;
         let place = column.checked_sub(cells.start)?;

@@ -1,4 +1,4 @@
-//! A map as it was read.
+//! A map as it was read, or laid out of cells.
 
 use super::axes::{self, Axes};
 use super::cells::{stream, Cells, Row, Stream};
@@ -6,10 +6,11 @@ use super::dialect::Dialect;
 use super::fault::Fault;
 use super::grid::Grid;
 use super::table::{table, Table};
+use super::write::Writer;
 use super::Asked;
 use crate::wording::{count, grouped};
 
-/// A map of two dimensions, as it was read. Its rows and columns are counted from 0, labels apart.
+/// A map of two dimensions. Its rows and columns are counted from 0, labels apart.
 pub struct Map {
     table: Table,
     axes: Axes,
@@ -75,7 +76,47 @@ fn with_hint(mut fault: Fault, table: &Table, asked: &Asked) -> Fault {
     fault
 }
 
+/// Cells as a table of so many columns, without labels.
+fn written(stream: &Stream, width: usize, dialect: Dialect, kind: Cells) -> Vec<u8> {
+    let mut writer = Writer::new(dialect);
+    for row in 0..stream.rows.len() {
+        for column in 0..width {
+            let word = stream.word(row, column);
+            let text = word.map(|word| dialect.shown(word, kind, None));
+            writer.field(&text.unwrap_or_default());
+        }
+        writer.end_line();
+    }
+    writer.into_bytes()
+}
+
 impl Map {
+    /// Cells that stood in no table, laid out in these rows without labels; what lies outside is empty.
+    pub fn laid(
+        rows: Vec<Row>,
+        words: Vec<u32>,
+        dialect: Dialect,
+        kind: Cells,
+    ) -> Result<Map, Fault> {
+        let stream = Stream::of(rows, words);
+        let ends = stream.rows.iter().map(|row| row.start + row.length);
+        let width = ends.max().unwrap_or(0);
+        let text = written(&stream, width, dialect, kind);
+        let table = table(text, Some(dialect.delimiter), Some(dialect.decimal))?;
+        let whole = Row {
+            start: 0,
+            length: width,
+        };
+        Ok(Map {
+            table,
+            axes: Axes::None,
+            width,
+            slanted: stream.rows.iter().any(|row| *row != whole),
+            kind,
+            stream,
+        })
+    }
+
     pub fn height(&self) -> usize {
         self.stream.rows.len()
     }
@@ -110,8 +151,7 @@ impl Map {
 
     /// The word of a cell, and none outside the map.
     pub fn word(&self, row: usize, column: usize) -> Option<u32> {
-        let position = self.position(row, column)?;
-        Some(self.stream.words[position])
+        self.stream.word(row, column)
     }
 
     /// The text of a cell as read, without the blanks around it.

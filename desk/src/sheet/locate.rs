@@ -30,6 +30,12 @@ pub fn lines(sheet: &[u8]) -> impl Iterator<Item = &[u8]> {
     sheet.split_inclusive(|&c| c == b'\n')
 }
 
+/// The number of the first line of a kind, which is its two digits.
+pub fn line_of(sheet: &[u8], kind: &str) -> Option<usize> {
+    let before = lines(sheet).position(|line| line.starts_with(kind.as_bytes()));
+    before.map(|before| before + 1)
+}
+
 /// The sheet without its lines of some kinds, each by its two digits.
 pub fn without(sheet: &[u8], kinds: &[&str]) -> Vec<u8> {
     let kept = |line: &&[u8]| !kinds.iter().any(|kind| line.starts_with(kind.as_bytes()));

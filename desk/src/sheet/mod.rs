@@ -17,7 +17,7 @@ mod whole;
 mod tests;
 
 pub use explain::explain;
-pub use locate::{bad_line, without};
+pub use locate::{bad_line, line_of, without};
 pub use tidy::{tidy, Tidied, BYTE_ORDER_MARK};
 
 use crate::fault::Fault;
@@ -54,8 +54,13 @@ pub fn refused(name: &str, sheet: &[u8], kind: Kind, refusal: Refusal) -> Fault 
     Fault::No(format!("{name}: {refusal}\n  {}", words.join("\n  ")))
 }
 
-/// The same of a request sheet that was made of options: no line numbers, the part alone.
+/// The same of a request sheet that was made of options.
 pub fn refused_options(sheet: &[u8], refusal: Refusal) -> Fault {
+    refused_parts("request", sheet, refusal)
+}
+
+/// The same of a request sheet that stands in no file: no line numbers, the part alone.
+pub fn refused_parts(name: &str, sheet: &[u8], refusal: Refusal) -> Fault {
     let kind = Kind::Request;
     let words = match bad_line(sheet, kind) {
         Some(line) => Bad::of(sheet, line, kind).words(refusal),
@@ -65,7 +70,7 @@ pub fn refused_options(sheet: &[u8], refusal: Refusal) -> Fault {
             words.join("\n  ")
         }
     };
-    Fault::No(format!("request: {refusal}\n  {words}"))
+    Fault::No(format!("{name}: {refusal}\n  {words}"))
 }
 
 /// The fault of a line that is no `05` line where a cell is wanted; lines are counted from 1.

@@ -24,6 +24,9 @@ const TOP: f64 = 40.0;
 const NARROW: f64 = 480.0;
 const WIDE: f64 = 900.0;
 
+/// No more panels stand side by side; the others stand below them.
+const ACROSS: usize = 3;
+
 /// The room for the name of the first column, where it is wider than its column.
 const LEFT_LEAST: f64 = 24.0;
 
@@ -34,8 +37,8 @@ pub struct Layout {
     plot_height: f64,
     left: f64,
     panels: usize,
-    /// Panels stand below each other; else side by side.
-    stacked: bool,
+    /// How many panels stand side by side, 1 or more.
+    across: usize,
     title_width: f64,
 }
 
@@ -55,7 +58,7 @@ impl Layout {
             plot_height: cell_height * rows,
             left: left.left_room().max(LEFT_LEAST),
             panels: heat.panels.len(),
-            stacked: flat,
+            across: if flat { 1 } else { ACROSS },
             title_width: title_width(heat.title),
         }
     }
@@ -68,16 +71,25 @@ impl Layout {
         HEAD + self.plot_height.max(LEGEND_LEAST) + BORDER
     }
 
+    fn rows(&self) -> usize {
+        self.panels.div_ceil(self.across)
+    }
+
+    /// Row and column of a panel. Below another row one that is not full stands at the right.
+    fn place(&self, panel: usize) -> (usize, usize) {
+        let (row, column) = (panel / self.across, panel % self.across);
+        if row > 0 && row + 1 == self.rows() {
+            return (row, column + self.rows() * self.across - self.panels);
+        }
+        (row, column)
+    }
+
     /// The plot of a panel.
     pub fn plot(&self, panel: usize) -> Area {
-        let (right, down) = if self.stacked {
-            (0.0, panel as f64)
-        } else {
-            (panel as f64, 0.0)
-        };
+        let (row, column) = self.place(panel);
         Area {
-            x: BORDER + right * self.panel_width() + self.left,
-            y: TOP + down * self.panel_height() + HEAD,
+            x: BORDER + column as f64 * self.panel_width() + self.left,
+            y: TOP + row as f64 * self.panel_height() + HEAD,
             width: self.plot_width,
             height: self.plot_height,
         }
@@ -100,23 +112,13 @@ impl Layout {
     }
 
     pub fn page_width(&self) -> f64 {
-        let across = if self.stacked {
-            self.panels.min(1)
-        } else {
-            self.panels
-        };
-        let panels = across as f64 * self.panel_width();
+        let panels = self.panels.min(self.across) as f64 * self.panel_width();
         2.0 * BORDER + panels.max(self.title_width.clamp(NARROW, WIDE))
     }
 
     /// Where the panels end and the key begins.
     pub fn bottom(&self) -> f64 {
-        let down = if self.stacked {
-            self.panels
-        } else {
-            self.panels.min(1)
-        };
-        TOP + down as f64 * self.panel_height()
+        TOP + self.rows() as f64 * self.panel_height()
     }
 }
 
@@ -158,5 +160,30 @@ mod tests {
         assert_eq!(plot(3, 100_000), (40.0, 1024.0));
         assert_eq!(plot(512, 1), (1024.0, 28.0));
         assert_eq!(plot(0, 0), (0.0, 0.0));
+    }
+
+    #[test]
+    fn panels_in_rows_of_three_and_of_flat_maps_below_each_other() {
+        let places = |panels: usize, across: usize| {
+            let layout = Layout {
+                cell_width: 1.0,
+                cell_height: 1.0,
+                plot_width: 1.0,
+                plot_height: 1.0,
+                left: 0.0,
+                panels,
+                across,
+                title_width: 0.0,
+            };
+            (0..panels)
+                .map(|panel| layout.place(panel))
+                .collect::<Vec<_>>()
+        };
+        assert_eq!(places(2, ACROSS), [(0, 0), (0, 1)]);
+        assert_eq!(places(3, ACROSS), [(0, 0), (0, 1), (0, 2)]);
+        let changes_below_results = [(0, 0), (0, 1), (0, 2), (1, 1), (1, 2)];
+        assert_eq!(places(5, ACROSS), changes_below_results);
+        assert_eq!(places(6, ACROSS)[3..], [(1, 0), (1, 1), (1, 2)]);
+        assert_eq!(places(3, 1), [(0, 0), (1, 0), (2, 0)]);
     }
 }

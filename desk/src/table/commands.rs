@@ -1,5 +1,7 @@
 //! The commands, in the order in which the help lists them.
-use super::options::{BINS, CLOCKS, CSV, DIALECT, GRID, LINES, OUTPUT, SMOOTHED, TABLE, WINDOW};
+use super::options::{
+    BINS, CLOCKS, CSV, DIALECT, GRID, LINES, OUTPUT, SECOND, SMOOTHED, TABLE, WINDOW,
+};
 use super::{Command, Count, Operand};
 use crate::commands;
 
@@ -60,6 +62,30 @@ map, or that lies outside the box, has no result and is empty, or with --rim kee
             "zohmirka smooth torque.csv --slanted --window cross --kernel blend:0.5,0.125 --rim keep -o whole.csv",
         ],
         run: commands::smooth::run,
+    },
+    Command {
+        name: "pair",
+        operands: &[one("REQUEST"), one("REQUEST"), one("MAP")],
+        summary: "a map smoothed by two requests in one trip: two kernels on one chain",
+        details: "\
+Both requests are sheets for the map's own grid, with the same box if any, and each has a plan of its
+own. MAP, in CSV or cells in 05 lines, is streamed once through a chain that is planned for both
+windows together, and each firing gives a result to either map. So a cell has both results or none:
+none where either window leaves the map.
+The first request's map goes to -o, the second's to --second; on standard output the second stands
+below the first, behind an empty line. The picture shows before, both results and both changes.",
+        options: &[
+            CSV,
+            DIALECT,
+            SMOOTHED,
+            SECOND,
+            OUTPUT,
+        ],
+        examples: &[
+            "zohmirka pair fuel.request timing.request map.csv",
+            "zohmirka pair fuel.request timing.request map.csv -o first.csv --second second.csv --svg both.svg",
+        ],
+        run: commands::pair::run,
     },
     Command {
         name: "bin",

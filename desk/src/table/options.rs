@@ -105,6 +105,13 @@ pub(super) const SMOOTHED: &[Flag] = &[
     },
 ];
 
+pub(super) const SECOND: &[Flag] = &[Flag {
+    name: "--second",
+    value: "FILE",
+    words: "where the second request's map goes; standard output without it",
+    choices: &[],
+}];
+
 pub(super) const BINS: &[Flag] = &[
     Flag {
         name: "--rows",

@@ -109,7 +109,7 @@ fn any_cells_are_read_back() {
     let mut dice = Dice::new(3201);
     for _ in 0..300 {
         let (height, width) = (dice.below(30), dice.below(30));
-        let panels = dice.below(4);
+        let panels = dice.below(7);
         let maps: Vec<Map> = (0..panels)
             .map(|_| Map::random(&mut dice, height, width))
             .collect();

@@ -6,6 +6,8 @@ pub mod dice;
 pub mod draft;
 pub mod ground;
 pub mod limits;
+pub mod pair_draft;
+pub mod pair_tally;
 pub mod plans;
 pub mod round;
 pub mod rounds;

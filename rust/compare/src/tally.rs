@@ -1,6 +1,7 @@
 use crate::limits::Limits;
-use zohmirka::native::Report;
+use crate::pair_tally::PairTally;
 use straight::{Chain, Grid, Shape};
+use zohmirka::native::Report;
 
 /// How often each number (0: accepted) and each outcome came up, by function.
 pub struct Tally {
@@ -28,6 +29,7 @@ pub struct Tally {
     /// The iterations in which they were looked at.
     pub iterations: u64,
     pub limits: Limits,
+    pub pairs: PairTally,
 }
 
 #[derive(Clone, Copy)]
@@ -39,12 +41,14 @@ pub enum Function {
     RunChain,
     JudgeChain,
     WriteChain,
+    PlanPair,
+    RunPair,
 }
 
 /// The greatest number of a refusal.
 const NUMBERS: usize = 16;
 /// Each function with the numbers that it can answer.
-const FUNCTIONS: [(&str, &[usize]); 7] = [
+const FUNCTIONS: [(&str, &[usize]); 9] = [
     ("plan", &[1, 2, 3, 4, 5, 6, 7, 8, 9, 12, 13, 15, 16]),
     ("judge", &[1, 2, 3, 4, 5, 6, 7, 8, 9, 14, 15, 16]),
     ("read_chain", &[1, 2, 3, 4, 5, 6, 7, 8, 9, 12, 14, 15, 16]),
@@ -52,6 +56,8 @@ const FUNCTIONS: [(&str, &[usize]); 7] = [
     ("run_chain", &[3, 4, 5, 6, 7, 8, 9, 10, 11, 14, 15, 16]),
     ("judge_chain", &[3, 4, 5, 6, 7, 8, 9, 14, 15, 16]),
     ("write_chain", &[3, 4, 5, 6, 7, 8, 9, 12, 14, 15, 16]),
+    ("plan_pair", &[3, 4, 5, 6, 7, 8, 9, 12, 15, 16]),
+    ("run_pair", &[3, 4, 5, 6, 7, 8, 9, 10, 11, 14, 15, 16]),
 ];
 const KERNELS: [&str; 4] = ["raw", "difference", "scaled", "blend"];
 const STALLED: u32 = 3;
@@ -74,6 +80,7 @@ impl Tally {
             above: 0,
             iterations: 0,
             limits: Limits::default(),
+            pairs: PairTally::default(),
         }
     }
 
@@ -184,6 +191,7 @@ impl Tally {
             self.above
         );
         self.limits.print();
+        self.pairs.print();
     }
 
     /// What should have come up and did not.
@@ -226,6 +234,7 @@ impl Tally {
             }
         }
         missing.extend(self.limits.missing());
+        missing.extend(self.pairs.missing());
         missing
     }
 }

@@ -1,9 +1,10 @@
-//! Chains, states and answers of `straight` as words, in the layout of c/zohmirka.h.
-use zohmirka::native::Report;
+//! Chains, windows, states and answers of `straight` as words, in the layout of c/zohmirka.h.
 use straight::grid::MOST_ROWS;
-use straight::{Answer, Chain, Factors, Grid, Kernel, Rectangle, Row, Rows, State};
+use straight::{Answer, Chain, Factors, Grid, Kernel, Rectangle, Row, Rows, Side, State, Window};
+use zohmirka::native::Report;
 
 pub const CHAIN_WORDS: usize = 212;
+pub const WINDOW_WORDS: usize = 132;
 pub const STATE_WORDS: usize = 33;
 /// 0 a rectangle, else rows.
 pub const GRID_KIND: usize = 210;
@@ -27,8 +28,7 @@ pub fn chain_words(chain: &Chain) -> [u32; CHAIN_WORDS] {
         *word = entry as u16 as u32;
     }
     words[134..165].copy_from_slice(&chain.capacities);
-    let (kind, a, b) = chain.kernel.bits();
-    words[165..168].copy_from_slice(&[kind as u32, a, b]);
+    words[165..168].copy_from_slice(&kernel_words(&chain.kernel));
     words[168] = chain.order.stood as u32;
     for (word, &filter) in words[169..201].iter_mut().zip(&chain.order.filters) {
         *word = filter as u32;
@@ -38,6 +38,22 @@ pub fn chain_words(chain: &Chain) -> [u32; CHAIN_WORDS] {
         words[202 + d] = chain.bounds.lowest[d] as u32;
         words[206 + d] = chain.bounds.highest[d] as u32;
     }
+    words
+}
+
+fn kernel_words(kernel: &Kernel) -> [u32; 3] {
+    let (kind, a, b) = kernel.bits();
+    [kind as u32, a, b]
+}
+
+/// The words of a window.
+pub fn side_words(side: &Side) -> [u32; WINDOW_WORDS] {
+    let mut words = [0; WINDOW_WORDS];
+    words[0] = side.window.count as u32;
+    for (word, &entry) in words[1..129].iter_mut().zip(&side.window.offsets) {
+        *word = entry as u16 as u32;
+    }
+    words[129..].copy_from_slice(&kernel_words(&side.kernel));
     words
 }
 
@@ -78,25 +94,48 @@ fn rows_of(count: u32, words: &[u32]) -> Rows {
     rows
 }
 
+fn window_of(count: u32, entries: &[u32]) -> Window {
+    let mut window = Window {
+        count: count.min(255) as u8,
+        offsets: [0; 128],
+    };
+    for (entry, &word) in window.offsets.iter_mut().zip(entries) {
+        *entry = word as u16 as i16;
+    }
+    window
+}
+
+fn kernel_of(words: &[u32]) -> Kernel {
+    let (a, b) = (f32::from_bits(words[1]), f32::from_bits(words[2]));
+    match words[0] {
+        0 => Kernel::Raw,
+        1 => Kernel::Difference,
+        2 => Kernel::Scaled(a),
+        3 => Kernel::Blend(Factors { a, b }),
+        _ => Kernel::Scaled(f32::NAN),
+    }
+}
+
+/// Fewer words are a window without references.
+pub fn side_of(words: &[u32]) -> Side {
+    if words.len() < WINDOW_WORDS {
+        return Side::new(&[], Kernel::Raw);
+    }
+    Side {
+        window: window_of(words[0], &words[1..129]),
+        kernel: kernel_of(&words[129..WINDOW_WORDS]),
+    }
+}
+
 pub fn chain_of(words: &[u32], rows: &[u32]) -> Chain {
     let mut chain = Chain::blank();
     if words.len() < CHAIN_WORDS {
         return chain;
     }
     chain.grid = grid_of(words, rows);
-    chain.window.count = words[5].min(255) as u8;
-    for (entry, &word) in chain.window.offsets.iter_mut().zip(&words[6..134]) {
-        *entry = word as u16 as i16;
-    }
+    chain.window = window_of(words[5], &words[6..134]);
     chain.capacities.copy_from_slice(&words[134..165]);
-    let (a, b) = (f32::from_bits(words[166]), f32::from_bits(words[167]));
-    chain.kernel = match words[165] {
-        0 => Kernel::Raw,
-        1 => Kernel::Difference,
-        2 => Kernel::Scaled(a),
-        3 => Kernel::Blend(Factors { a, b }),
-        _ => Kernel::Scaled(f32::NAN),
-    };
+    chain.kernel = kernel_of(&words[165..168]);
     chain.order.stood = words[168] != 0;
     for (filter, &word) in chain.order.filters.iter_mut().zip(&words[169..201]) {
         *filter = word.min(255) as u8;

@@ -22,12 +22,23 @@ pub fn run(
         return (Answer::Refused(Refusal::BadState), *state);
     }
     let mut state = *state;
-    let outcome = go(chain, &shape, &mut state, store, cells, out, allowance);
+    let terms = Terms::new(chain);
+    let size = words(&chain.kernel, shape.count);
+    let mut written = 0;
+    let fire = |heads: &[u32]| {
+        if out.len() - written < size {
+            return false;
+        }
+        apply(&chain.kernel, &terms, heads, &mut out[written..]);
+        written += size;
+        true
+    };
+    let outcome = go(chain, &shape, &mut state, store, cells, allowance, fire);
     (Answer::Ended(outcome), state)
 }
 
 /// Number 11.
-fn bad_state(chain: &Chain, shape: &Shape, state: &State) -> bool {
+pub(crate) fn bad_state(chain: &Chain, shape: &Shape, state: &State) -> bool {
     let n = shape.count;
     let fired = state.fired as i64;
     if fired > shape.iterations {
@@ -56,18 +67,18 @@ fn bad_state(chain: &Chain, shape: &Shape, state: &State) -> bool {
     false
 }
 
-fn go(
+/// The clocks of a call. A firing hands its cells, in chain order, to `fire`, which writes nothing and says false where it lacks
+/// places.
+pub(crate) fn go(
     chain: &Chain,
     shape: &Shape,
     state: &mut State,
     store: &mut [u32],
     cells: &[u32],
-    out: &mut [u32],
     allowance: u32,
+    mut fire: impl FnMut(&[u32]) -> bool,
 ) -> Outcome {
     let n = shape.count;
-    let terms = Terms::new(chain);
-    let size = words(&chain.kernel, n);
     let mut start = [0usize; 32];
     for k in 1..n {
         start[k] = start[k - 1] + chain.capacities[k - 1] as usize;
@@ -76,7 +87,6 @@ fn go(
     let place = |k: usize, p: u32| start[k] + (p % chain.capacities[k]) as usize;
     let passed = &mut state.passed;
     let mut counts = Counts::default();
-    let mut written = 0;
     let mut walk = Walk::at(shape, state.fired as i64);
 
     loop {
@@ -93,13 +103,13 @@ fn go(
         let wanted = &walk.reads;
         let fires = (0..n).all(|k| (k == 0 || passed[k - 1] > passed[k]) && passed[k] == wanted[k]);
         if fires {
-            if out.len() - written < size {
-                return Outcome::Full(counts);
-            }
             let mut heads = [0u32; 32];
             heads[0] = next;
             for k in 1..n {
                 heads[k] = store[place(k - 1, passed[k])];
+            }
+            if !fire(&heads[..n]) {
+                return Outcome::Full(counts);
             }
             for k in 0..n {
                 if k + 1 < n {
@@ -107,8 +117,6 @@ fn go(
                 }
                 passed[k] += 1;
             }
-            apply(&chain.kernel, &terms, &heads[..n], &mut out[written..]);
-            written += size;
             counts.cells += 1;
             counts.firings += 1;
             state.fired += 1;

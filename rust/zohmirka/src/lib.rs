@@ -28,10 +28,12 @@
 //! assert_eq!(out, [3, 1, 4, 3]);
 //! ```
 //!
-//! A request may be built instead of written (`Request`), and a chain says what it is (`Chain::sizes`, `offsets`, `kernel` and so on).
+//! A request may be built instead of written (`Request`), and a chain says what it is (`Chain::sizes`, `offsets`, `kernel` and so on). Two kernels may share a chain
+//! (`Pair`).
 mod chain;
 mod kernel;
 pub mod native;
+mod pair;
 mod refusal;
 mod request;
 mod run;
@@ -39,6 +41,7 @@ mod same;
 
 pub use chain::Chain;
 pub use kernel::Kernel;
+pub use pair::{Pair, Window};
 pub use refusal::Refusal;
 pub use request::{NamedWindow, Request};
 pub use run::{run, Counts, Outcome, State};
@@ -47,7 +50,7 @@ use refusal::accepted;
 use std::sync::Once;
 
 /// The version of the interface that this crate is written for.
-pub const VERSION: u32 = 4;
+pub const VERSION: u32 = 5;
 /// No chain sheet has more bytes.
 pub const SHEET_BYTES: usize = 4919;
 /// No accepted chain needs more words of store.
@@ -56,6 +59,7 @@ pub const STORE_WORDS: usize = 16384;
 pub const FIRING_WORDS: usize = 32;
 pub const STATE_WORDS: usize = 33;
 pub const CHAIN_WORDS: usize = 212;
+pub const WINDOW_WORDS: usize = 132;
 /// No accepted chain has more numbers of rows beside its words.
 pub const ROW_NUMBERS: usize = 1024;
 
@@ -101,7 +105,7 @@ mod tests {
     use super::*;
 
     #[test]
-    #[should_panic(expected = "version 5 of the interface")]
+    #[should_panic(expected = "version 6 of the interface")]
     fn another_version_is_not_taken() {
         require(VERSION + 1);
     }

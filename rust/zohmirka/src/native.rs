@@ -76,6 +76,39 @@ extern "C" {
         sheet: *mut u8,
         sheet_len: usize,
     ) -> Sheet;
+    fn zohmirka_plan_pair(
+        grid: *const u32,
+        grid_len: usize,
+        rows: *const u32,
+        rows_len: usize,
+        first: *const u32,
+        first_len: usize,
+        second: *const u32,
+        second_len: usize,
+        chain: *mut u32,
+        chain_len: usize,
+    ) -> u32;
+    fn zohmirka_run_pair(
+        chain: *const u32,
+        chain_len: usize,
+        rows: *const u32,
+        rows_len: usize,
+        first: *const u32,
+        first_len: usize,
+        second: *const u32,
+        second_len: usize,
+        state: *mut u32,
+        state_len: usize,
+        store: *mut u32,
+        store_len: usize,
+        cells: *const u32,
+        cells_len: usize,
+        out_first: *mut u32,
+        out_first_len: usize,
+        out_second: *mut u32,
+        out_second_len: usize,
+        allowance: u32,
+    ) -> Report;
 }
 
 pub fn version() -> u32 {
@@ -178,6 +211,66 @@ pub fn write_chain(chain: &[u32], rows: &[u32], sheet: &mut [u8]) -> Sheet {
             rows.len(),
             sheet.as_mut_ptr(),
             sheet.len(),
+        )
+    }
+}
+
+pub fn plan_pair(
+    grid: &[u32],
+    rows: &[u32],
+    first: &[u32],
+    second: &[u32],
+    chain: &mut [u32],
+) -> u32 {
+    unsafe {
+        zohmirka_plan_pair(
+            grid.as_ptr(),
+            grid.len(),
+            rows.as_ptr(),
+            rows.len(),
+            first.as_ptr(),
+            first.len(),
+            second.as_ptr(),
+            second.len(),
+            chain.as_mut_ptr(),
+            chain.len(),
+        )
+    }
+}
+
+pub fn run_pair(
+    chain: &[u32],
+    rows: &[u32],
+    first: &[u32],
+    second: &[u32],
+    state: &mut [u32],
+    store: &mut [u32],
+    cells: &[u32],
+    out_first: &mut [u32],
+    out_second: &mut [u32],
+    allowance: u32,
+) -> Report {
+    unsafe {
+        zohmirka_run_pair(
+            chain.as_ptr(),
+            chain.len(),
+            rows.as_ptr(),
+            rows.len(),
+            first.as_ptr(),
+            first.len(),
+            second.as_ptr(),
+            second.len(),
+            state.as_mut_ptr(),
+            state.len(),
+            store.as_mut_ptr(),
+            store.len(),
+            cells.as_ptr(),
+            cells.len(),
+            out_first.as_mut_ptr(),
+            out_first.len(),
+            out_second.as_mut_ptr(),
+            out_second.len(),
+            allowance,
         )
     }
 }

@@ -17,6 +17,7 @@ pub enum Refusal {
     BadState,
     ShortOutput,
     BadName,
+    /// Of a chain, an order that does not hold each filter number once; of a pair, a chain whose references are not those of both windows.
     BadOrder,
     BadBox,
     BadRows,

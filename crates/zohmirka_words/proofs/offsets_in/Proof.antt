@@ -13,13 +13,13 @@ use Rattle.zohmirka_words.proofs.offsets_in.Statement.{statement}
 use Rattle.zohmirka_words.proofs.offsets_in.Tie as tie
 
 abbrev Inv-loop : tie.InvT-loop
-Inv-loop words offsets₀ i₀ offsets i = (i ≤ 128) × (offsets ≡ front (λ j. signed (wordAt words (6 + j) % 65536)) i (replicate 128 (pos 0)))
+Inv-loop words from offsets₀ i₀ offsets i = (i ≤ 128) × (offsets ≡ front (λ j. signed (wordAt words (from + j) % 65536)) i (replicate 128 (pos 0)))
 
 abbrev μ-loop : tie.MeasureT-loop
-μ-loop words offsets₀ i₀ offsets i = 128 - i
+μ-loop words from offsets₀ i₀ offsets i = 128 - i
 
 loop-holds : tie.Need-loop-holds Inv-loop μ-loop
-loop-holds c = (omega arith, front-none (λ j. signed (wordAt (c .before .args .words .now) (6 + j) % 65536)) (replicate 128 (pos 0)))
+loop-holds c = (omega arith, front-none (λ j. signed (wordAt (c .before .args .words .now) (c .before .args .from + j) % 65536)) (replicate 128 (pos 0)))
 
 add-low-half : tie.Need-add-low-half Inv-loop μ-loop
 add-low-half c = omega arith
@@ -53,14 +53,14 @@ loop-again c =
     let l = c .before .before .before .before in
     let a = l .before .before .args in (
       omega arith,
-      front-more (λ j. signed (wordAt (a .words .now) (6 + j) % 65536)) (l .loop .i) (replicate 128 (pos 0)) (l .loop .offsets) _ (rw length-replicate (omega arith))
+      front-more (λ j. signed (wordAt (a .words .now) (a .from + j) % 65536)) (l .loop .i) (replicate 128 (pos 0)) (l .loop .offsets) _ (rw length-replicate (omega arith))
           (toZ-ofZ {w = w16} {z = c .entry .result} (record { sfits = c .entry .ok }) ∙ c .entry .ensures ∙ ap signed (c .before .low-half .ensures)) (l .loop .inv .1),
     )
 
 returns : tie.Need-returns Inv-loop μ-loop
 returns c =
     let l = c .before in
-    front-whole (λ j. signed (wordAt (l .before .before .args .words .now) (6 + j) % 65536)) 128 (pos 0) (l .loop .i) (l .loop .offsets) (omega arith) (omega arith) (l .loop .inv .1)
+    front-whole (λ j. signed (wordAt (l .before .before .args .words .now) (l .before .before .args .from + j) % 65536)) 128 (pos 0) (l .loop .i) (l .loop .offsets) (omega arith) (omega arith) (l .loop .inv .1)
 
 pub offsets-in-spec : {M : Type 1} → statement M
 offsets-in-spec =

@@ -70,27 +70,19 @@ struct Table {
 
 impl Table {
     fn of(grid: &Grid, cells: Vec<u32>) -> Result<Table> {
-        let rows: Vec<(usize, usize)> = match grid {
-            Grid::Rows(rows) => rows
-                .iter()
-                .map(|&(start, length)| (start as usize, length as usize))
-                .collect(),
-            Grid::Rectangle(sizes) => match sizes.as_slice() {
-                &[height, width] => vec![(0, width as usize); height as usize],
-                sizes => {
-                    return trouble(format!(
-                        "draw heat: a grid of two dimensions is asked for, and this has {}",
-                        sizes.len()
-                    ))
-                }
-            },
+        let Some(rows) = grid.rows() else {
+            return trouble(format!(
+                "draw heat: a grid of two dimensions is asked for, and this has {}",
+                grid.dimensions()
+            ));
         };
         let mut position = 0usize;
         let rows: Vec<_> = rows
             .into_iter()
             .map(|(start, length)| {
+                let length = length as usize;
                 position += length;
-                (start, length, position - length)
+                (start as usize, length, position - length)
             })
             .collect();
         if position != cells.len() {

@@ -1,6 +1,13 @@
-//! The chains that are timed, by name. Terms go in chain order where the name says no other.
+//! The chains and pairs of windows that are timed, by name. Terms go in chain order where nothing else is said.
 use crate::dice::Dice;
-use straight::{plan, Chain, Grid, Kernel, Request};
+use straight::{plan, Chain, Factors, Grid, Kernel, Request, Side};
+
+/// Cells whose differences have squares that are rounded, so that the order of the terms shows.
+pub fn cells(grid: &Grid) -> Vec<u32> {
+    (0..grid.cells() as u32)
+        .map(|i| ((i % 1000) as f32 * 0.37).to_bits())
+        .collect()
+}
 
 /// Offsets whose entries are -1, 0 and 1, falling.
 fn neighbours(dims: u32, keep: impl Fn(&[i16]) -> bool) -> Vec<Vec<i16>> {
@@ -82,15 +89,19 @@ pub fn planned_chains() -> Vec<(String, Chain)> {
     chains
 }
 
+/// Start and length of 200 rows of 100, a column further each.
+fn slanted() -> Vec<(u16, u16)> {
+    (0..200).map(|row| (row, 100)).collect()
+}
+
 /// The five-point cross on rows: slanted, jagged, and equal ones.
 pub fn skewed_chains() -> Vec<(String, Chain)> {
-    let slanted: Vec<(u16, u16)> = (0..200).map(|row| (row, 100)).collect();
     let mut dice = Dice::new(1);
     let mut any = |low: i64, high: i64| dice.between(low, high) as u16;
     let jagged: Vec<(u16, u16)> = (0..512).map(|_| (any(0, 200), any(200, 1024))).collect();
     let equal = vec![(0, 100); 200];
     let maps = [
-        ("200 rows of 100, a column further each", slanted),
+        ("200 rows of 100, a column further each", slanted()),
         ("512 rows of random starts and lengths", jagged),
         ("200 rows of 100, equal", equal),
     ];
@@ -138,4 +149,45 @@ pub fn other_chains() -> Vec<(String, Chain)> {
     ];
     chains.extend(named.map(|(name, chain)| (name.to_string(), chain)));
     chains
+}
+
+fn side(offsets: &[Vec<i16>], kernel: Kernel) -> Side {
+    let offsets: Vec<&[i16]> = offsets.iter().map(|offset| &offset[..]).collect();
+    Side::new(&offsets, kernel)
+}
+
+/// Two windows over one grid. The three points are a cell and its right and its left neighbour, in this order.
+pub fn pairs() -> Vec<(&'static str, Grid, [Side; 2])> {
+    let case = |number: u8, kernel: Kernel| side(&window(number).1, kernel);
+    let three = |kernel: Kernel| side(&[[0, 0], [0, 1], [0, -1]].map(Vec::from), kernel);
+    let (difference, third) = (Kernel::Difference, Kernel::Scaled(1.0 / 3.0));
+    let blend = Kernel::Blend(Factors { a: 0.5, b: 0.125 });
+    let map = Grid::new(window(1).0);
+    vec![
+        (
+            "768 by 1024: cross and three points, difference each",
+            map,
+            [case(1, difference), three(difference)],
+        ),
+        (
+            "768 by 1024: cross blend, three points scaled",
+            map,
+            [case(1, blend), three(third)],
+        ),
+        (
+            "768 by 1024: 3 by 3 square raw, cross difference",
+            map,
+            [case(3, Kernel::Raw), case(1, difference)],
+        ),
+        (
+            "200 rows of 100, a column further each: cross and three points, difference each",
+            Grid::rows(&slanted()),
+            [case(1, difference), three(difference)],
+        ),
+        (
+            "40 by 32 by 32: seven-point cross and nineteen points, difference each",
+            Grid::new(window(4).0),
+            [case(4, difference), case(5, difference)],
+        ),
+    ]
 }

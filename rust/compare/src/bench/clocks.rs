@@ -1,13 +1,13 @@
 //! Run calls: the library beside the clock rule in plain Rust and beside a nested loop over the grid.
-use super::cases::{other_chains, planned_chains, row, skewed_chains};
-use super::table::{ratio, Table};
+use super::cases::{cells, other_chains, planned_chains, row, skewed_chains};
+use super::runs::{library_run, straight_run, words_of, Sums, PIECE};
+use super::table::{per, ratio, Table};
 use super::timing::least;
-use crate::words::{chain_words, row_words};
 use std::cell::RefCell;
 use std::hint::black_box;
 use straight::judge::capacity_sum;
 use straight::kernel::words;
-use straight::{Answer, Chain, Kernel, Outcome, State};
+use straight::{Chain, Kernel, State};
 use zohmirka::STATE_WORDS;
 
 /// What is lent for a whole run.
@@ -19,17 +19,6 @@ struct Lent {
     out: Vec<u32>,
     width: usize,
 }
-
-#[derive(Clone, Copy, Debug, Default, PartialEq)]
-struct Sums {
-    outcome: u8,
-    cells: usize,
-    firings: usize,
-    clocks: usize,
-}
-
-/// How many cells are lent in a short call.
-const PIECE: usize = 64;
 
 /// How a run is made.
 #[derive(Clone, Copy)]
@@ -59,84 +48,30 @@ impl Way {
     }
 }
 
-fn words_of(chain: &Chain) -> zohmirka::Chain {
-    zohmirka::Chain {
-        words: chain_words(chain),
-        rows: row_words(chain),
-    }
-}
-
 impl Lent {
     fn new(chain: Chain) -> Lent {
-        let total = chain.grid.cells() as u32;
+        let cells = cells(&chain.grid);
         let width = words(&chain.kernel, chain.window.count as usize);
         Lent {
             words: words_of(&chain),
-            // Differences whose squares are rounded, so that the order of the terms shows.
-            cells: (0..total)
-                .map(|i| ((i % 1000) as f32 * 0.37).to_bits())
-                .collect(),
             store: vec![0; capacity_sum(&chain) as usize],
-            out: vec![0; total as usize * width],
+            out: vec![0; cells.len() * width],
+            cells,
             width,
             chain,
         }
     }
 
-    /// A whole run of the library, `block` cells lent in a call, the output from where the last call stopped on.
+    /// A whole run of the library, `block` cells lent in a call.
     fn library(&mut self, block: usize) -> Sums {
-        let mut state = zohmirka::State::fresh();
-        let mut sums = Sums::default();
-        loop {
-            let upto = self.cells.len().min(sums.cells + block);
-            let cells = &self.cells[sums.cells..upto];
-            let out = &mut self.out[sums.firings * self.width..];
-            let chain = black_box(&self.words);
-            let outcome = chain
-                .run(&mut state, &mut self.store, cells, out, u32::MAX)
-                .expect("the chain is accepted");
-            let counts = outcome.counts();
-            sums.cells += counts.cells as usize;
-            sums.firings += counts.firings as usize;
-            sums.clocks += counts.clocks as usize;
-            sums.outcome = match outcome {
-                zohmirka::Outcome::Done(_) => 0,
-                zohmirka::Outcome::Starved(_) if upto < self.cells.len() => continue,
-                zohmirka::Outcome::Starved(_) => 2,
-                zohmirka::Outcome::Stalled(_) => 3,
-                other => unreachable!("{other:?}"),
-            };
-            black_box(&self.out);
-            return sums;
-        }
+        let (store, out) = (&mut self.store, &mut self.out);
+        library_run(&self.words, store, &self.cells, out, block)
     }
 
     /// The same by `straight`.
     fn straight(&mut self, block: usize) -> Sums {
-        let mut state = State::default();
-        let mut sums = Sums::default();
-        loop {
-            let upto = self.cells.len().min(sums.cells + block);
-            let cells = &self.cells[sums.cells..upto];
-            let out = &mut self.out[sums.firings * self.width..];
-            let chain = black_box(&self.chain);
-            let (answer, after) =
-                straight::run(chain, &state, &mut self.store, cells, out, u32::MAX);
-            let Answer::Ended(outcome) = answer else {
-                unreachable!("{answer:?}")
-            };
-            state = after;
-            let counts = outcome.counts();
-            sums.cells += counts.cells as usize;
-            sums.firings += counts.firings as usize;
-            sums.clocks += counts.clocks as usize;
-            sums.outcome = match outcome {
-                Outcome::Starved(_) if upto < self.cells.len() => continue,
-                outcome => outcome.index(),
-            };
-            black_box(&self.out);
-            return sums;
-        }
+        let (store, out) = (&mut self.store, &mut self.out);
+        straight_run(&self.chain, self.width, store, &self.cells, out, block)
     }
 
     /// By a nested loop over the grid; hands back the firings.
@@ -209,10 +144,6 @@ pub fn alone(name: &str, way: &str, goes: usize) -> usize {
         Way::Nested => sums.firings,
         _ => sums.clocks,
     }
-}
-
-fn per(nanos: f64, clocks: usize) -> String {
-    format!("{:.2}", nanos / clocks as f64)
 }
 
 const ALL: [Way; 5] = [

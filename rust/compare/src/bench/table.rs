@@ -51,3 +51,8 @@ pub fn ratio(value: f64, meets: bool) -> String {
     let mark = if meets { "" } else { " !" };
     format!("{value:.2}{mark}")
 }
+
+/// Nanoseconds for each of so many.
+pub fn per(nanos: f64, count: usize) -> String {
+    format!("{:.2}", nanos / count as f64)
+}

@@ -1,6 +1,6 @@
 //! Times the library beside `straight`. ZOHMIRKA_RUN names the program `run`; target/bin/run where it is not set. Words pick tables: planned, others, references,
-//! skewed, empty, sheets, program. `alone NAME WAY GOES` makes one way on a chain of planned, others or skewed and times nothing.
-use compare::bench::{clocks, program, sheets};
+//! skewed, pairs, empty, sheets, program. `alone NAME WAY GOES` makes one way on a chain of planned, others or skewed and times nothing.
+use compare::bench::{clocks, pairs, program, sheets};
 use std::path::{Path, PathBuf};
 
 fn main() {
@@ -27,6 +27,9 @@ fn main() {
     }
     if wanted("skewed") {
         clocks::skewed();
+    }
+    if wanted("pairs") {
+        pairs::two_kernels();
     }
     if wanted("empty") {
         clocks::empty_calls();

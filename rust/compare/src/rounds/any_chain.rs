@@ -158,7 +158,7 @@ fn any_words(dice: &mut Dice) -> (Vec<u32>, Vec<u32>) {
 }
 
 /// Another kind or row count, a row changed, or fewer or more rows than the count.
-fn change_rows(dice: &mut Dice, words: &mut [u32], rows: &mut Vec<u32>) {
+pub fn change_rows(dice: &mut Dice, words: &mut [u32], rows: &mut Vec<u32>) {
     match dice.below(6) {
         0 => words[GRID_KIND] = dice.pick(&[0, 1, 2, 256, 1 << 31, u32::MAX]),
         1 => words[ROW_COUNT] = dice.pick(&[0, 1, 2, 511, 512, 513, 65_536, 65_537, u32::MAX]),
@@ -178,7 +178,7 @@ fn change_rows(dice: &mut Dice, words: &mut [u32], rows: &mut Vec<u32>) {
 }
 
 /// Fills the words that play no part; the kind of a grid that is skewed becomes any other number than 0.
-fn past_counts(dice: &mut Dice, words: &mut [u32]) {
+pub fn past_counts(dice: &mut Dice, words: &mut [u32]) {
     let n = (words[5] as usize).min(32);
     let skewed = words[GRID_KIND] != 0;
     let (dims, sizes) = match words[0] as usize {
@@ -214,7 +214,7 @@ fn past_counts(dice: &mut Dice, words: &mut [u32]) {
     }
 }
 
-fn change(dice: &mut Dice, words: &mut [u32]) {
+pub fn change(dice: &mut Dice, words: &mut [u32]) {
     match dice.below(13) {
         0 => words[0] = dice.pick(&[0, 1, 2, 3, 4, 5, 255, 256, 257, u32::MAX]),
         1 => words[1 + dice.below(4)] = dice.pick(&[0, 1, 2, 5, 1024, 1_048_577, u32::MAX]),

@@ -152,7 +152,12 @@ fn safe_call(
         }
     };
     lent.state[..STATE_WORDS].copy_from_slice(&state.words);
-    Some(match answer {
+    Some(report_of_outcome(answer))
+}
+
+/// What the safe interface answers, as numbers.
+pub fn report_of_outcome(answer: Result<zohmirka::Outcome, zohmirka::Refusal>) -> Report {
+    match answer {
         Err(refusal) => Report {
             refusal: refusal.number(),
             outcome: 5,
@@ -176,5 +181,5 @@ fn safe_call(
                 clocks: counts.clocks,
             }
         }
-    })
+    }
 }

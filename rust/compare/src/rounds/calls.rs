@@ -7,8 +7,8 @@ use crate::words::{chain_words, row_words, STATE_WORDS};
 use straight::judge::capacity_sum;
 use straight::{judge_chain, Chain, Grid, Shape};
 
-const DONE: u32 = 0;
-const MOST_CELLS: usize = 4096;
+pub const DONE: u32 = 0;
+pub const MOST_CELLS: usize = 4096;
 
 /// A chain as planned or changed, then calls that lend as much as they like, with fresh, later, earlier and made-up states.
 pub fn calls(round: &mut Round) -> Result<(), Differs> {
@@ -101,13 +101,13 @@ pub fn calls(round: &mut Round) -> Result<(), Differs> {
 }
 
 /// The counters past the chain's references, and the words past the state.
-fn past_counters<'a>(chain: &Chain, state: &'a mut [u32]) -> impl Iterator<Item = &'a mut u32> {
+pub fn past_counters<'a>(chain: &Chain, state: &'a mut [u32]) -> impl Iterator<Item = &'a mut u32> {
     let n = (chain.window.count as usize).min(32);
     let (counters, rest) = state.split_at_mut(32);
     counters[n..].iter_mut().chain(rest[1..].iter_mut())
 }
 
-fn many(dice: &mut Dice) -> usize {
+pub fn many(dice: &mut Dice) -> usize {
     match dice.below(10) {
         0 => 0,
         1..=2 => 1,
@@ -118,7 +118,7 @@ fn many(dice: &mut Dice) -> usize {
     }
 }
 
-fn allowance(dice: &mut Dice) -> u32 {
+pub fn allowance(dice: &mut Dice) -> u32 {
     match dice.below(10) {
         0 => 0,
         1..=2 => dice.below(6) as u32,
@@ -140,7 +140,7 @@ fn out_places(dice: &mut Dice, chain: &Chain, many: usize) -> usize {
 }
 
 /// A state that no call left: an earlier one, one with a word changed, any words, or one that 11 lets pass; on rows mostly the last.
-fn strange_state(dice: &mut Dice, chain: &Chain, state: &mut [u32], earlier: &[u32]) {
+pub fn strange_state(dice: &mut Dice, chain: &Chain, state: &mut [u32], earlier: &[u32]) {
     let n = chain.window.count as usize;
     let at = if dice.one_in(4) { 32 } else { dice.below(n) };
     let kinds = match chain.grid {

@@ -1,0 +1,3 @@
+pub mod PairCalls
+pub mod PairPlans
+pub mod PairLists

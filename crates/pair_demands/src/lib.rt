@@ -1,0 +1,1 @@
+// Statements alone: what is promised of two kernels on one chain.

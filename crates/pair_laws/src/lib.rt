@@ -1,0 +1,1 @@
+// Laws of two kernels on one chain, for the demands and for code.

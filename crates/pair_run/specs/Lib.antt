@@ -1,0 +1,3 @@
+pub mod Ports
+pub mod Rounds
+pub mod Calls
