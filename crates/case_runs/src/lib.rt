@@ -1,4 +1,7 @@
 // A run of a chain call by call, lent whole or in pieces.
+
+#![tactic(auto)]
+
 pub mod compare;
 
 ghost use Rattle.std.specs.Prelude.{◌≡◌, ◌+◌, ◌*◌, ◌%◌, ◌^◌};

@@ -205,7 +205,7 @@ sorted_writes : (t : Trimmed) → Proper t → judged t ≡ verdict.Accepted →
 unfolding judged sorted words_of written_by terms_of filters_of writes_of reads_of position_of author chain
 sorted_writes t p e stream j =
     let q = value_passes t e in
-    written_alike t.ground t.offsets t.count p.references stream (iteration_of (sorted t) j) (iteration_of t j)
+    written_alike t.the_ground t.offsets t.count p.references stream (iteration_of (sorted t) j) (iteration_of t j)
     (same_iteration (sorted t) t refl (falling_no_other t.offsets) (falling_each t.offsets) refl j) p.entries q.window.distinct t.kernel q.kernel.centre
 
 loop : (r : Request) (rows : List ℕ) → judge_request r rows ≡ verdict.Accepted → (stream : ℕ → ℕ) (j : ℕ) → words_of (trimmed (plan_of r rows).chain rows) stream j ≡ loop_of r rows stream j

@@ -29,7 +29,7 @@ use Rattle.demands.specs.Iterations.{FullBoxRuns}
 -- A value with a box, by its parts.
 module _ (dims : ℕ) (g : Ground) (n : ℕ) (offsets : List (List ℤ)) (capacities : List ℕ) (ordered : Bool) (order : List ℕ) (kernel : Kernel) where
   abbrev with_part : Part → Trimmed
-  with_part p = record { dims = dims; ground = g; count = n; offsets = offsets; part = p; capacities = capacities; ordered = ordered; order = order; kernel = kernel }
+  with_part p = record { dims = dims; the_ground = g; count = n; offsets = offsets; part = p; capacities = capacities; ordered = ordered; order = order; kernel = kernel }
 
   -- Where it has the course of none, and 15 does not hold, it is judged and run as without it.
   module _ (p : Part) (same : course g offsets p ≡ course g offsets whole) (fits : bad_box g offsets p ≡ false) where

@@ -42,44 +42,44 @@ module _ (t : Trimmed) where
   placed : Placed t
   unfolding cells_of is_cell_of position_of
   placed = record {
-    in_order = λ v w a b. let same = inside_order t.ground v w a b in (λ e. ltb-true _ _ (sym same ∙ e), λ l. same ∙ lt-ltb _ _ l);
-    below = inside_below t.ground;
-    each = position_cell t.ground;
-    once = inside_once t.ground;
+    in_order = λ v w a b. let same = inside_order t.the_ground v w a b in (λ e. ltb-true _ _ (sym same ∙ e), λ l. same ∙ lt-ltb _ _ l);
+    below = inside_below t.the_ground;
+    each = position_cell t.the_ground;
+    once = inside_once t.the_ground;
   }
 
   module _ (f : Fitting t) where
     pub enumerated : Enumerated t
     unfolding iterations_of iteration_of course_of is_iteration_of covers_of
     enumerated = record {
-      each = λ j h. (and-eq-true_iff _ _).1 (run.iterates t.ground t.offsets t.part f.suits j h, run.lies t.ground t.offsets t.part f.suits j h);
-      no_other = λ v h. let (a, b) = (and-eq-true_iff (is_iteration_of t v) (in_part t.part v)).0 h in run.complete t.ground t.offsets t.part f.suits v a b;
-      once = run.once t.ground t.offsets t.part f.suits;
-      in_order = run.in_order t.ground t.offsets t.part f.suits;
+      each = λ j h. (and-eq-true_iff _ _).1 (run.iterates t.the_ground t.offsets t.part f.suits j h, run.lies t.the_ground t.offsets t.part f.suits j h);
+      no_other = λ v h. let (a, b) = (and-eq-true_iff (is_iteration_of t v) (in_part t.part v)).0 h in run.complete t.the_ground t.offsets t.part f.suits v a b;
+      once = run.once t.the_ground t.offsets t.part f.suits;
+      in_order = run.in_order t.the_ground t.offsets t.part f.suits;
     }
 
   module _ (proper : Proper t) where
     -- There is no iteration exactly if their count is 0.
-    none_listed : bad_count t.count ≡ false → no_iteration t.ground t.offsets ≡ true ↔ Empty t
+    none_listed : bad_count t.count ≡ false → no_iteration t.the_ground t.offsets ≡ true ↔ Empty t
     unfolding bad_count no_iteration is_iteration_of
     none_listed b = (
-      λ e v. unlisted v (eqb-true all 0 e) (is_iteration t.ground t.offsets v) refl,
+      λ e v. unlisted v (eqb-true all 0 e) (is_iteration t.the_ground t.offsets v) refl,
       λ empty. go empty (dec_lt 0 all),
     )
       where
         all : ℕ
-        all = count (all_iterations t.ground t.offsets)
+        all = count (all_iterations t.the_ground t.offsets)
 
         some : 0 < length t.offsets
         some = let one = eqb-false t.count 0 (neither (eqb t.count 0) (ltb 32 t.count) b).0 in omega (arith, proper.references)
 
-        unlisted : (v : List ℤ) → count (all_iterations t.ground t.offsets) ≡ 0 → (x : Bool) → is_iteration t.ground t.offsets v ≡ x → is_iteration t.ground t.offsets v ≡ false
-        unlisted v z true e = absurd (omega (arith, (whole_complete t.ground t.offsets proper.entries some v e).1))
+        unlisted : (v : List ℤ) → count (all_iterations t.the_ground t.offsets) ≡ 0 → (x : Bool) → is_iteration t.the_ground t.offsets v ≡ x → is_iteration t.the_ground t.offsets v ≡ false
+        unlisted v z true e = absurd (omega (arith, (whole_complete t.the_ground t.offsets proper.entries some v e).1))
         unlisted v z false e = e
 
-        go : Empty t → Dec (0 < count (all_iterations t.ground t.offsets)) → eqb (count (all_iterations t.ground t.offsets)) 0 ≡ true
-        go empty (yes h) = absurd (true≢false (sym (whole_iterations t.ground t.offsets proper.entries 0 h) ∙ empty _))
-        go empty (no h) = eq-eqb (count (all_iterations t.ground t.offsets)) 0 (omega arith)
+        go : Empty t → Dec (0 < count (all_iterations t.the_ground t.offsets)) → eqb (count (all_iterations t.the_ground t.offsets)) 0 ≡ true
+        go empty (yes h) = absurd (true≢false (sym (whole_iterations t.the_ground t.offsets proper.entries 0 h) ∙ empty _))
+        go empty (no h) = eq-eqb (count (all_iterations t.the_ground t.offsets)) 0 (omega arith)
 
 -- 6 is answered exactly if its condition holds, whatever holds of 15, 7, 8, 9 and 14; and behind it 15 likewise.
 from_15 : Bool → Bool → Bool → Bool → Bool → Verdict
@@ -117,9 +117,9 @@ answers_6 false v n = (λ q. absurd (n q), λ q. absurd (true≢false (sym q)))
 module _ (t : Trimmed) where
   abbrev behind : Verdict
   behind =
-      from_15 (bad_box t.ground t.offsets t.part) (lacks_centre t.kernel (centred t.offsets)) (bad_factor t.kernel) (too_large t.capacities) (bad_order t.count t.order)
+      from_15 (bad_box t.the_ground t.offsets t.part) (lacks_centre t.kernel (centred t.offsets)) (bad_factor t.kernel) (too_large t.capacities) (bad_order t.count t.order)
 
-  judged_from_6 : bad_ground t.dims t.ground ≡ false → bad_count t.count ≡ false → repeats t.offsets ≡ false → judged t ≡ from_6 (no_iteration t.ground t.offsets) behind
+  judged_from_6 : bad_ground t.dims t.the_ground ≡ false → bad_count t.count ≡ false → repeats t.offsets ≡ false → judged t ≡ from_6 (no_iteration t.the_ground t.offsets) behind
   unfolding judged value_checks window_checks kernel_checks chain_checks first_of from_6 from_15
   judged_from_6 g n d = rw (g, n, d)
 
@@ -127,7 +127,7 @@ number_6 : (t : Trimmed) → Proper t → Number6 t
 number_6 t proper = record {
   condition = none_listed t proper;
   answer = λ g n d.
-      let six = answers_6 (no_iteration t.ground t.offsets) (behind t) (not_6 _ _ _ _ _) in
+      let six = answers_6 (no_iteration t.the_ground t.offsets) (behind t) (not_6 _ _ _ _ _) in
       let none = none_listed t proper n in
       rw (judged_from_6 t g n d) (λ e. none.0 (six.0 e), λ e. six.1 (none.1 e));
 }
@@ -139,18 +139,18 @@ number_15 t proper = record {
   none = λ e. no_box t e;
   condition = λ l h e n. boxed t proper l h e;
   corners = λ sizes i l h e n. cornered t proper sizes i l h e n;
-  answer = λ g n d z. rw (judged_from_6 t g n d, z) (answers_15 (bad_box t.ground t.offsets t.part) _ _ _ _);
+  answer = λ g n d z. rw (judged_from_6 t g n d, z) (answers_15 (bad_box t.the_ground t.offsets t.part) _ _ _ _);
 }
   where
-    no_box : (t : Trimmed) → t.part ≡ whole → bad_box t.ground t.offsets t.part ≡ false
-    no_box t e = ap (bad_box t.ground t.offsets) e ∙ none_whole t.ground t.offsets
+    no_box : (t : Trimmed) → t.part ≡ whole → bad_box t.the_ground t.offsets t.part ≡ false
+    no_box t e = ap (bad_box t.the_ground t.offsets) e ∙ none_whole t.the_ground t.offsets
 
     boxed : (t : Trimmed) (proper : Proper t) (l h : List ℤ) → t.part ≡ box l h
-        → bad_box t.ground t.offsets t.part ≡ false ↔ ((crossed l h ≡ false) × ((v : List ℤ) → between l h v ≡ true → is_iteration t.ground t.offsets v ≡ true))
-    boxed t proper l h e = rw e (each_of_box t.ground l h (subst (Bounded (dims t.ground)) e proper.bounded) t.offsets)
+        → bad_box t.the_ground t.offsets t.part ≡ false ↔ ((crossed l h ≡ false) × ((v : List ℤ) → between l h v ≡ true → is_iteration t.the_ground t.offsets v ≡ true))
+    boxed t proper l h e = rw e (each_of_box t.the_ground l h (subst (Bounded (dims t.the_ground)) e proper.bounded) t.offsets)
 
-    cornered : (t : Trimmed) (proper : Proper t) (sizes : List ℕ) → t.ground ≡ rectangle sizes → (l h : List ℤ) → t.part ≡ box l h → bad_count t.count ≡ false
-        → bad_box t.ground t.offsets t.part ≡ false ↔ ((crossed l h ≡ false) × (is_iteration t.ground t.offsets l ≡ true) × (is_iteration t.ground t.offsets h ≡ true))
+    cornered : (t : Trimmed) (proper : Proper t) (sizes : List ℕ) → t.the_ground ≡ rectangle sizes → (l h : List ℤ) → t.part ≡ box l h → bad_count t.count ≡ false
+        → bad_box t.the_ground t.offsets t.part ≡ false ↔ ((crossed l h ≡ false) × (is_iteration t.the_ground t.offsets l ≡ true) × (is_iteration t.the_ground t.offsets h ≡ true))
     cornered t proper sizes i l h e n =
         rw (i, e) (corners sizes t.offsets (subst (λ (g : Ground). Sized (dims g) t.offsets) i proper.entries) (omega (arith, proper.references, some_references t.count n)) l h
         (subst (Bounded (length sizes)) e (subst (λ (g : Ground). Bounded (dims g) t.part) i proper.bounded)))

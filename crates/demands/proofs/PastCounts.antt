@@ -93,7 +93,7 @@ trimmed_alike : (g h : Grid) (rows rows' : List ℕ) (v w : Window) (p q : Bound
     → trimmed_of g rows v p xs s os k ≡ trimmed_of h rows' w q ys t ps l
 trimmed_alike g h rows rows' v w p q xs ys s t os ps k l a b x capacities stood order kernel = λ i. record {
   dims = dims_alike g h rows rows' a i;
-  ground = ground_alike g h rows rows' a i;
+  the_ground = ground_alike g h rows rows' a i;
   count = b.count i;
   offsets = offsets_alike (dims_of g) (dims_of h) v w (dims_alike g h rows rows' a) b i;
   part = parts_alike (dims_of g) (dims_of h) p q (dims_alike g h rows rows' a) x i;
@@ -163,7 +163,7 @@ box_from dims whole = []
 box_from dims (box lowest highest) = (8 ∷ flat_map (λ d. word_bytes (word_pattern (get_or lowest d (pos 0))) ++ word_bytes (word_pattern (get_or highest d (pos 0)))) (up_to dims)) ∷ []
 
 lines_from : Trimmed → List (List ℕ)
-lines_from t = ground_line t.dims t.ground ∷ (map offset_line t.offsets ++ (box_from t.dims t.part ++ (map capacity_line t.capacities ++ (cond t.ordered ((6 ∷ t.order) ∷ []) [] ++ (kernel_line t.kernel ∷ [])))))
+lines_from t = ground_line t.dims t.the_ground ∷ (map offset_line t.offsets ++ (box_from t.dims t.part ++ (map capacity_line t.capacities ++ (cond t.ordered ((6 ∷ t.order) ∷ []) [] ++ (kernel_line t.kernel ∷ [])))))
 
 written_from : Trimmed → List ℕ → Written
 written_from t output =

@@ -48,7 +48,7 @@ module _ (t : Trimmed) (proper : Proper t) (ok : Accepted t) (p : Planned t) whe
       (j, h, omega (arith, (p k g).exact, (falls t f j k (suc k) h (omega arith) g).0 (p k g).falls))
 
   -- on a rectangle every iteration has it, and the capacities' sum is the distance of the first and the last reference.
-  module _ (sizes : List ℕ) (is : t.ground ≡ rectangle sizes) where
+  module _ (sizes : List ℕ) (is : t.the_ground ≡ rectangle sizes) where
     every_iteration : (j k : ℕ) → j < iterations_of t → suc k < t.count
         → reads_of t j k ≡ reads_of t j (suc k) + get_or t.capacities k 0
     unfolding layout
@@ -80,7 +80,7 @@ module _ (r : Request) (rows : List ℕ) (ok : judge_request r rows ≡ verdict.
       let os = offsets_of (dims_of r.grid) r.window in
       record {
         dims = refl;
-        ground = refl;
+        the_ground = refl;
         part = refl;
         kernel = refl;
         count = refl;
@@ -95,7 +95,7 @@ module _ (r : Request) (rows : List ℕ) (ok : judge_request r rows ≡ verdict.
         every = every_iteration t proper good planned_pairs;
         total = total_distance t proper good planned_pairs;
         least = λ c rows same right.
-            fewest_places t (trimmed c rows) same.ground same.each same.no_other same.part proper (trimmed_proper c rows) (fitting_of t proper good) good.iterates planned_pairs right;
+            fewest_places t (trimmed c rows) same.the_ground same.each same.no_other same.part proper (trimmed_proper c rows) (fitting_of t proper good) good.iterates planned_pairs right;
       }
 
 pub plan_demand : PlanDemand

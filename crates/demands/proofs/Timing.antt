@@ -76,7 +76,7 @@ module _ (q : ListOfCalls) where
       }
 
   -- On a rectangle an iteration's clock is its newest cell's position.
-  pub on_time : (sizes : List ℕ) (is : (chain_in q).ground ≡ rectangle sizes) → OnTime q sizes is
+  pub on_time : (sizes : List ℕ) (is : (chain_in q).the_ground ≡ rectangle sizes) → OnTime q sizes is
   on_time sizes is =
       let right = planned_right (chain_in q) (setting q).proper (setting q).accepted in
       record {
@@ -88,13 +88,13 @@ module _ (q : ListOfCalls) where
       }
 
 pub same_clocks : (p q : ListOfCalls) → SameClocks p q
-same_clocks p q same = windows.same_clocks (chain_in p) (chain_in q) same.ground same.each same.no_other same.part
+same_clocks p q same = windows.same_clocks (chain_in p) (chain_in q) same.the_ground same.each same.no_other same.part
 
 -- The other's clock is the planned chain's, and not before the newest cell's position.
 pub not_earlier : (p q : ListOfCalls) → NotEarlier p q
 not_earlier p q = record {
-  same_count = λ same. windows.same_count t u same.ground same.each same.no_other same.part;
-  same_iteration = λ same. windows.same_iteration t u same.ground same.each same.no_other same.part;
+  same_count = λ same. windows.same_count t u same.the_ground same.each same.no_other same.part;
+  same_iteration = λ same. windows.same_iteration t u same.the_ground same.each same.no_other same.part;
   newest_first = λ same j v g.
       omega (arith, newest_before t (fitting_of t (setting p).proper (setting p).accepted) j, same_clocks p q same j, (in_its_clock q).clock j v g);
   planned_first = λ same planned j a b f g. omega (arith, (in_its_clock p).clock j a f, same_clocks p q same j, (in_its_clock q).clock j b g);
@@ -102,7 +102,7 @@ not_earlier p q = record {
       let e : v ≡ clock_of t j = (in_its_clock q).clock j v g ∙ sym (same_clocks p q same j) in
       let right = planned_right t (setting p).proper (setting p).accepted planned in
       let h = indexed q j v g in
-      let (a, f) = ((in_its_clock p).fired right j (omega (arith, windows.same_count t u same.ground same.each same.no_other same.part))).1 (omega arith) in
+      let (a, f) = ((in_its_clock p).fired right j (omega (arith, windows.same_count t u same.the_ground same.each same.no_other same.part))).1 (omega arith) in
       let d : a ≡ v = (in_its_clock p).clock j a f ∙ sym e in
       rw d at f;
 }

@@ -80,7 +80,7 @@ module _ (q : ListOfCalls) where
         → (B : ℕ) × FirstBlocked (chain_in q) B × (B < iterations_of (chain_in q))
     pub shorter : Falls (chain_in q) → (B : ℕ) → FirstBlocked (chain_in q) B → StopsAt B
     pub disordered : (Falls (chain_in q) → ⊥) → NeverFires
-    pub rectangular : (sizes : List ℕ) → (chain_in q).ground ≡ rectangle sizes → (Right (chain_in q) → ⊥) → NeverFires
+    pub rectangular : (sizes : List ℕ) → (chain_in q).the_ground ≡ rectangle sizes → (Right (chain_in q) → ⊥) → NeverFires
 
   -- Clocks are numbered from 0 through all calls: there is an event for each, and as many of them fire as firings are made.
   pub record Numbered : Type 0 where
@@ -103,13 +103,13 @@ module _ (q : ListOfCalls) where
     pub clock : (j u : ℕ) → FiresIn events_of u j → u ≡ clock_of (chain_in q) j
     pub fired : Right (chain_in q) → (j : ℕ) → j < iterations_of (chain_in q)
         → ((u : ℕ) × FiresIn events_of u j) ↔ (clock_of (chain_in q) j < clocks_made runs_of)
-    pub newest : (sizes : List ℕ) → (chain_in q).ground ≡ rectangle sizes → (j : ℕ) → j < iterations_of (chain_in q)
+    pub newest : (sizes : List ℕ) → (chain_in q).the_ground ≡ rectangle sizes → (j : ℕ) → j < iterations_of (chain_in q)
         → clock_of (chain_in q) j ≡ newest_of (chain_in q) j
 
   -- "The firing clocks are promised for rectangles only": there, on a planned chain the iterations fired by the list are
   -- exactly those whose newest cell has a position below the clocks made, and each fires in the clock that equals this
   -- position.
-  pub record OnTime (sizes : List ℕ) (is : (chain_in q).ground ≡ rectangle sizes) : Type 0 where
+  pub record OnTime (sizes : List ℕ) (is : (chain_in q).the_ground ≡ rectangle sizes) : Type 0 where
     pub fired : Planned (chain_in q) → (j : ℕ) → j < iterations_of (chain_in q)
         → ((u : ℕ) × FiresIn events_of u j) ↔ (newest_of (chain_in q) j < clocks_made runs_of)
     pub clock : Planned (chain_in q) → (j u : ℕ) → FiresIn events_of u j → u ≡ newest_of (chain_in q) j
@@ -141,5 +141,5 @@ pub record Demand3 : Type 0 where
   pub indexed : (q : ListOfCalls) → Indexed q
   pub in_its_clock : (q : ListOfCalls) → InItsClock q
   pub same_clocks : (p q : ListOfCalls) → SameClocks p q
-  pub on_time : (q : ListOfCalls) (sizes : List ℕ) (is : (chain_in q).ground ≡ rectangle sizes) → OnTime q sizes is
+  pub on_time : (q : ListOfCalls) (sizes : List ℕ) (is : (chain_in q).the_ground ≡ rectangle sizes) → OnTime q sizes is
   pub not_earlier : (p q : ListOfCalls) → NotEarlier p q

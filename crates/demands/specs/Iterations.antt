@@ -21,7 +21,7 @@ module _ (t : Trimmed) where
   -- 4 and 15 let the value pass.
   pub record Passes : Type 0 where
     pub references : bad_count t.count ≡ false
-    pub part : bad_box t.ground t.offsets t.part ≡ false
+    pub part : bad_box t.the_ground t.offsets t.part ≡ false
 
   -- Iterations 0, 1, 2, .. of a run are exactly the vectors that "added to each offset stay inside the grid" and, where there
   -- is a box, lie in it, each once, "in lexicographic order".
@@ -64,8 +64,8 @@ module _ (t : Trimmed) where
   -- "6: no iteration": where there is a reference its condition holds exactly if there is none, and where 3, 16, 4 and 5 do
   -- not hold the answer is 6 exactly then.
   pub record Number6 : Type 0 where
-    pub condition : bad_count t.count ≡ false → no_iteration t.ground t.offsets ≡ true ↔ Empty
-    pub answer : bad_ground t.dims t.ground ≡ false → bad_count t.count ≡ false → repeats t.offsets ≡ false
+    pub condition : bad_count t.count ≡ false → no_iteration t.the_ground t.offsets ≡ true ↔ Empty
+    pub answer : bad_ground t.dims t.the_ground ≡ false → bad_count t.count ≡ false → repeats t.offsets ≡ false
         → verdict_number (judged t) ≡ 6 ↔ Empty
 
   -- "15, a lowest above its highest, or an iteration of the box that reads outside the grid": never without a box; of a box,
@@ -73,17 +73,17 @@ module _ (t : Trimmed) where
   -- an iteration, and for that on a rectangle the two corners decide; where 3 to 6 and 16 do not hold the answer is 15
   -- exactly if it holds.
   pub record Number15 : Type 0 where
-    pub none : t.part ≡ whole → bad_box t.ground t.offsets t.part ≡ false
+    pub none : t.part ≡ whole → bad_box t.the_ground t.offsets t.part ≡ false
     pub condition : (lowest highest : List ℤ) → t.part ≡ box lowest highest → bad_count t.count ≡ false
-        → bad_box t.ground t.offsets t.part ≡ false
+        → bad_box t.the_ground t.offsets t.part ≡ false
         ↔ ((crossed lowest highest ≡ false) × ((v : List ℤ) → between lowest highest v ≡ true → is_iteration_of t v ≡ true))
-    pub corners : (sizes : List ℕ) → t.ground ≡ rectangle sizes → (lowest highest : List ℤ) → t.part ≡ box lowest highest
+    pub corners : (sizes : List ℕ) → t.the_ground ≡ rectangle sizes → (lowest highest : List ℤ) → t.part ≡ box lowest highest
         → bad_count t.count ≡ false
-        → bad_box t.ground t.offsets t.part ≡ false
+        → bad_box t.the_ground t.offsets t.part ≡ false
         ↔ ((crossed lowest highest ≡ false) × (is_iteration_of t lowest ≡ true) × (is_iteration_of t highest ≡ true))
-    pub answer : bad_ground t.dims t.ground ≡ false → bad_count t.count ≡ false → repeats t.offsets ≡ false
-        → no_iteration t.ground t.offsets ≡ false
-        → verdict_number (judged t) ≡ 15 ↔ bad_box t.ground t.offsets t.part ≡ true
+    pub answer : bad_ground t.dims t.the_ground ≡ false → bad_count t.count ≡ false → repeats t.offsets ≡ false
+        → no_iteration t.the_ground t.offsets ≡ false
+        → verdict_number (judged t) ≡ 15 ↔ bad_box t.the_ground t.offsets t.part ≡ true
 
 -- A chain without a box, and the same chain with a box that is the full one of a rectangle of these sizes.
 pub record Filling (c : Chain) (sizes : List ℕ) (b : Bounds) : Type 0 where
@@ -93,7 +93,7 @@ pub record Filling (c : Chain) (sizes : List ℕ) (b : Bounds) : Type 0 where
 -- On a rectangle a full box runs as none: an accepted chain is accepted with it too, and every call does the same in every
 -- word and clock.
 abbrev pub FullBoxRuns : Type 0
-FullBoxRuns = (c : Chain) (rows sizes : List ℕ) → (trimmed c rows).ground ≡ rectangle sizes → (b : Bounds) → Filling c sizes b
+FullBoxRuns = (c : Chain) (rows sizes : List ℕ) → (trimmed c rows).the_ground ≡ rectangle sizes → (b : Bounds) → Filling c sizes b
     → judge_chain c rows ≡ verdict.Accepted
     → (judge_chain (set_bounds b c) rows ≡ verdict.Accepted)
     × ((s : State) (store lent output : List ℕ) (allowance : ℕ)
@@ -106,7 +106,7 @@ pub record Geometry : Type 0 where
   pub request_iterations : (r : Request) (rows : List ℕ) → Passes (trimmed_request r rows) → Enumerated (trimmed_request r rows)
   pub newest : (c : Chain) (rows : List ℕ) → Passes (trimmed c rows) → Newest (trimmed c rows)
   pub largest : (c : Chain) (rows : List ℕ) → judge_chain c rows ≡ verdict.Accepted → Largest (trimmed c rows)
-  pub distances : (c : Chain) (rows sizes : List ℕ) → (trimmed c rows).ground ≡ rectangle sizes → Passes (trimmed c rows)
+  pub distances : (c : Chain) (rows sizes : List ℕ) → (trimmed c rows).the_ground ≡ rectangle sizes → Passes (trimmed c rows)
       → SameDistance (trimmed c rows)
   pub cells : (c : Chain) (rows : List ℕ) → Placed (trimmed c rows)
   pub chain_6 : (c : Chain) (rows : List ℕ) → Number6 (trimmed c rows)

@@ -15,7 +15,7 @@ use Rattle.grid_laws.specs.Right.{Right, Planned}
 -- Values of the same grid, box and window: the same cells, the same box or none, and the same offsets in any order;
 -- capacities, orders and kernels as they like.
 pub record SameWindow (t u : Trimmed) : Type 0 where
-  pub ground : t.ground ≡ u.ground
+  pub the_ground : t.the_ground ≡ u.the_ground
   pub part : t.part ≡ u.part
   pub each : Members t.offsets u.offsets
   pub no_other : Members u.offsets t.offsets
@@ -24,7 +24,7 @@ pub record SameWindow (t u : Trimmed) : Type 0 where
 pub record PlanRight (r : Request) (rows : List ℕ) (t : Trimmed) : Type 0 where
   -- The grid, the box and the kernel are the request's: "Planning copies it", and where none stood there is none.
   pub dims : t.dims ≡ dims_of r.grid
-  pub ground : t.ground ≡ ground_of r.grid rows
+  pub the_ground : t.the_ground ≡ ground_of r.grid rows
   pub part : t.part ≡ part_of (dims_of r.grid) r.bounds
   pub kernel : t.kernel ≡ r.kernel
   -- The offsets are the request's, as many, each once.
@@ -44,10 +44,10 @@ pub record PlanRight (r : Request) (rows : List ℕ) (t : Trimmed) : Type 0 wher
   pub reached : (k : ℕ) → suc k < t.count
       → (j : ℕ) × (j < iterations_of t) × (reads_of t j k ≡ reads_of t j (suc k) + get_or t.capacities k 0)
   -- on a rectangle every iteration has them,
-  pub every : (sizes : List ℕ) → t.ground ≡ rectangle sizes → (j k : ℕ) → j < iterations_of t → suc k < t.count
+  pub every : (sizes : List ℕ) → t.the_ground ≡ rectangle sizes → (j k : ℕ) → j < iterations_of t → suc k < t.count
       → reads_of t j k ≡ reads_of t j (suc k) + get_or t.capacities k 0
   -- and their sum is the reuse distance of the first and the last reference.
-  pub total : (sizes : List ℕ) → t.ground ≡ rectangle sizes → (j : ℕ) → j < iterations_of t
+  pub total : (sizes : List ℕ) → t.the_ground ≡ rectangle sizes → (j : ℕ) → j < iterations_of t
       → reads_of t j 0 ≡ reads_of t j (t.count - 1) + sum t.capacities
   -- No chain of the same grid, box and window, accepted or not, whose order and capacities are right has fewer places.
   pub least : (c : Chain) (rows : List ℕ) → SameWindow t (trimmed c rows) → Right (trimmed c rows)

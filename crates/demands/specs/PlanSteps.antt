@@ -80,7 +80,7 @@ StepThree = (g : Grid) (rows : List ℕ) (w : Window) (b : Bounds) → judge_win
 
 abbrev pub OnRectangles : Type 0
 OnRectangles = (g : Grid) (rows : List ℕ) (w : Window) (b : Bounds) (sizes : List ℕ)
-    → (on_grid g rows w b).ground ≡ rectangle sizes → judge_window g rows w b ≡ verdict.Accepted → OnRectangle g rows w b
+    → (on_grid g rows w b).the_ground ≡ rectangle sizes → judge_window g rows w b ≡ verdict.Accepted → OnRectangle g rows w b
 
 -- A plan is these steps, then what refuses, then the chain.
 pub record PlannedBySteps (r : Request) (rows : List ℕ) (s : Steps) : Type 0 where

@@ -52,7 +52,7 @@ piece = record {
 abbrev pub other : Trimmed
 other = record {
   dims = 2;
-  ground = six.ground;
+  the_ground = six.the_ground;
   count = 5;
   offsets = cross_by_rows;
   part = six.part;
@@ -81,7 +81,7 @@ no_other (suc (suc (suc (suc zero)))) h = (0, omega arith, refl)
 no_other (suc (suc (suc (suc (suc k))))) h = absurd (omega (arith, h))
 
 pub same_window : SameWindow six other
-same_window = record { ground = refl; part = refl; each = each; no_other = no_other }
+same_window = record { the_ground = refl; part = refl; each = each; no_other = no_other }
 
 -- Document 01's chain, with these numbers past its counts: it is accepted, and a state without a count is fresh.
 abbrev pub printed : (past : List ℕ) → Chain

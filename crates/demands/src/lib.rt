@@ -1,1 +1,3 @@
 // Statements and their proofs alone.
+
+#![tactic(auto)]

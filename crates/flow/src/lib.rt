@@ -1,1 +1,3 @@
 // Laws alone: the chain of filters as numbers.
+
+#![tactic(auto)]

@@ -1,1 +1,3 @@
 // Laws alone: grids and windows in arrays.
+
+#![tactic(auto)]

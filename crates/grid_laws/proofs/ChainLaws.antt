@@ -86,23 +86,23 @@ ground_again g rows rs e = go g.skewed (ap rows_in e)
     go false h = subst (λ (rs : List Row). rows_of (length rs) rows ≡ rs) h refl
 
 module _ (t : Trimmed) (rows : List ℕ) where
-  chain_ground : Again rows t.ground → dims t.ground ≡ t.dims → t.dims ≤ 4 → ground_of (chain_of t).grid rows ≡ t.ground
+  chain_ground : Again rows t.the_ground → dims t.the_ground ≡ t.dims → t.dims ≤ 4 → ground_of (chain_of t).grid rows ≡ t.the_ground
   unfolding sizes_of chain_of grid_of ground_of
-  chain_ground again same few = go t.ground again same
+  chain_ground again same few = go t.the_ground again same
     where
       go : (g : Ground) → Again rows g → dims g ≡ t.dims → ground_of (grid_of t.dims g) rows ≡ g
       go (rectangle sizes) again same = ap rectangle (tabulate_back 0 sizes t.dims _ same (λ d h. get_d_tabulate 4 _ d 0 (omega arith)))
       go (skewed rs) again same = ap skewed (again rs refl)
 
-  chain_dims : dims t.ground ≡ t.dims → dims_of (chain_of t).grid ≡ t.dims
+  chain_dims : dims t.the_ground ≡ t.dims → dims_of (chain_of t).grid ≡ t.dims
   unfolding chain_of grid_of dims_of
-  chain_dims same = go t.ground same
+  chain_dims same = go t.the_ground same
     where
       go : (g : Ground) → dims g ≡ t.dims → dims_of (grid_of t.dims g) ≡ t.dims
       go (rectangle sizes) same = refl
       go (skewed rs) same = same
 
-  chain_offsets : dims t.ground ≡ t.dims → length t.offsets ≡ t.count → Sized (dims t.ground) t.offsets → t.dims ≤ 4 → t.count ≤ 32
+  chain_offsets : dims t.the_ground ≡ t.dims → length t.offsets ≡ t.count → Sized (dims t.the_ground) t.offsets → t.dims ≤ 4 → t.count ≤ 32
       → offsets_of t.dims (chain_of t).window ≡ t.offsets
   unfolding chain_of
   chain_offsets same count sized few most = offsets_back t.dims t.count t.offsets count (λ k h. sized k (omega arith) ∙ same) few most
@@ -119,24 +119,24 @@ module _ (t : Trimmed) (rows : List ℕ) where
       go true e = tabulate_back 0 t.order t.count (λ i. get_or (tabulate 32 (λ i. get_or t.order i 0)) i 0) e (λ k h. get_d_tabulate 32 (λ i. get_or t.order i 0) k 0 (omega arith))
       go false e = tabulate_back 0 t.order 0 (λ k. k) e (λ k h. absurd (omega arith))
 
-  chain_part : dims t.ground ≡ t.dims → Bounded (dims t.ground) t.part → t.dims ≤ 4 → part_of t.dims (chain_of t).bounds ≡ t.part
+  chain_part : dims t.the_ground ≡ t.dims → Bounded (dims t.the_ground) t.part → t.dims ≤ 4 → part_of t.dims (chain_of t).bounds ≡ t.part
   unfolding chain_of part_of bounds_of
   chain_part same bounded few = go t.part bounded
     where
-      back : (xs : List ℤ) → length xs ≡ dims t.ground → tabulate t.dims (λ d. get_or (index_array xs) d (pos 0)) ≡ xs
+      back : (xs : List ℤ) → length xs ≡ dims t.the_ground → tabulate t.dims (λ d. get_or (index_array xs) d (pos 0)) ≡ xs
       back xs n = tabulate_back (pos 0) xs t.dims _ (n ∙ same) (λ d h. get_d_tabulate 4 _ d (pos 0) (omega arith))
 
-      go : (p : Part) → Bounded (dims t.ground) p → part_of t.dims (bounds_of p) ≡ p
+      go : (p : Part) → Bounded (dims t.the_ground) p → part_of t.dims (bounds_of p) ≡ p
       go whole b = refl
       go (box lowest highest) b = ap₂ box (back lowest b.0) (back highest b.1)
 
   -- Of the chain that is made of it the value plays a part again, where its lists are of the lengths that the counts say and no longer than a chain's.
-  pub trimmed_chain : Again rows t.ground → dims t.ground ≡ t.dims → length t.offsets ≡ t.count → Sized (dims t.ground) t.offsets → Bounded (dims t.ground) t.part
+  pub trimmed_chain : Again rows t.the_ground → dims t.the_ground ≡ t.dims → length t.offsets ≡ t.count → Sized (dims t.the_ground) t.offsets → Bounded (dims t.the_ground) t.part
       → length t.capacities ≡ t.count - 1 → length t.order ≡ cond t.ordered t.count 0 → t.dims ≤ 4 → t.count ≤ 32 → trimmed (chain_of t) rows ≡ t
   unfolding trimmed chain_of
   trimmed_chain again same count sized bounded fifos terms few most = λ i. record {
     dims = chain_dims same i;
-    ground = chain_ground again same few i;
+    the_ground = chain_ground again same few i;
     count = t.count;
     offsets = (ap (λ (d : ℕ). offsets_of d (chain_of t).window) (chain_dims same) ∙ chain_offsets same count sized few most) i;
     part = (ap (λ (d : ℕ). part_of d (chain_of t).bounds) (chain_dims same) ∙ chain_part same bounded few) i;

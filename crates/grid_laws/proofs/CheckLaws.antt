@@ -44,11 +44,11 @@ both_pass cs ds e = go (first_of cs) refl (sym (then_checks cs ds) ∙ e)
 
 -- What each group says where none of its checks holds.
 pub record WindowPasses (t : Trimmed) : Type 0 where
-  pub grid : bad_ground t.dims t.ground ≡ false
+  pub grid : bad_ground t.dims t.the_ground ≡ false
   pub count : bad_count t.count ≡ false
   pub distinct : repeats t.offsets ≡ false
-  pub iterates : no_iteration t.ground t.offsets ≡ false
-  pub fits : bad_box t.ground t.offsets t.part ≡ false
+  pub iterates : no_iteration t.the_ground t.offsets ≡ false
+  pub fits : bad_box t.the_ground t.offsets t.part ≡ false
 
 pub window_passes : (t : Trimmed) → first_of (window_checks t) ≡ verdict.Accepted → WindowPasses t
 unfolding window_checks

@@ -42,7 +42,7 @@ module _ (t : Trimmed) (f : Fitting t) where
   newest_before j = let (k, h, e) = newest_read t f j in omega (arith, e, reads_before j k h)
 
   -- On a rectangle it is the newest cell's position.
-  pub rectangle_clock : (sizes : List ℕ) → t.ground ≡ rectangle sizes → (j : ℕ) → j < iterations_of t → clock_of t j ≡ newest_of t j
+  pub rectangle_clock : (sizes : List ℕ) → t.the_ground ≡ rectangle sizes → (j : ℕ) → j < iterations_of t → clock_of t j ≡ newest_of t j
   unfolding clock_of
   rectangle_clock sizes is zero h = refl
   rectangle_clock sizes is (suc j) h =

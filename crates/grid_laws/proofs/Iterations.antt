@@ -29,7 +29,7 @@ use Rattle.grid_laws.proofs.DistanceLaws.{greatest_first, first_reached, distanc
 use Rattle.grid_laws.proofs.RectangleCourses.{length_course, count_product}
 use Rattle.grid_laws.proofs.RectangleCourses as box
 
-pub fitting : (t : Trimmed) → Proper t → 0 < t.count → bad_box t.ground t.offsets t.part ≡ false → Fitting t
+pub fitting : (t : Trimmed) → Proper t → 0 < t.count → bad_box t.the_ground t.offsets t.part ≡ false → Fitting t
 fitting t p some fits = record { references = p.references; suits = record { some = omega (arith, p.references); entries = p.entries; bounded = p.bounded; fits = fits } }
 
 -- What 3 and 16 let pass has no more cells than a grid may have.
@@ -58,18 +58,18 @@ on_rectangle_lem P g sizes e x = subst P (sym e) x
 
 module _ (t : Trimmed) where
   -- What 3, 16 and 6 let pass.
-  pub few_cells : bad_ground t.dims t.ground ≡ false → cells_of t ≤ most_cells
+  pub few_cells : bad_ground t.dims t.the_ground ≡ false → cells_of t ≤ most_cells
   unfolding cells_of
-  few_cells e = few_in t.dims t.ground e
+  few_cells e = few_in t.dims t.the_ground e
 
-  pub some_iteration : no_iteration t.ground t.offsets ≡ false → 0 < count (all_iterations t.ground t.offsets)
+  pub some_iteration : no_iteration t.the_ground t.offsets ≡ false → 0 < count (all_iterations t.the_ground t.offsets)
   unfolding no_iteration
-  some_iteration e = let none = eqb-false (count (all_iterations t.ground t.offsets)) 0 e in omega arith
+  some_iteration e = let none = eqb-false (count (all_iterations t.the_ground t.offsets)) 0 e in omega arith
 
   -- What 6 and 15 let pass has an iteration that a run covers.
-  pub some_covered : Bounded (dims t.ground) t.part → bad_box t.ground t.offsets t.part ≡ false → no_iteration t.ground t.offsets ≡ false → 0 < iterations_of t
+  pub some_covered : Bounded (dims t.the_ground) t.part → bad_box t.the_ground t.offsets t.part ≡ false → no_iteration t.the_ground t.offsets ≡ false → 0 < iterations_of t
   unfolding iterations_of course_of
-  some_covered bounded fits e = course_some t.ground t.offsets t.part bounded fits (some_iteration e)
+  some_covered bounded fits e = course_some t.the_ground t.offsets t.part bounded fits (some_iteration e)
 
   module _ (f : Fitting t) where
     reference : (k : ℕ) → k < t.count → k < length t.offsets
@@ -78,36 +78,36 @@ module _ (t : Trimmed) where
     -- There are at most as many iterations as cells.
     pub at_most_cells : iterations_of t ≤ cells_of t
     unfolding iterations_of course_of cells_of
-    at_most_cells = run.at_most_cells t.ground t.offsets t.part f.suits
+    at_most_cells = run.at_most_cells t.the_ground t.offsets t.part f.suits
 
     -- Each reference reads later positions in later iterations.
     pub rises : (i j k : ℕ) → i < j → j < iterations_of t → k < t.count → reads_of t i k < reads_of t j k
     unfolding iterations_of course_of reads_of position_of iteration_of
-    rises i j k l b h = run.rises t.ground t.offsets t.part f.suits i j k l b (reference k h)
+    rises i j k l b h = run.rises t.the_ground t.offsets t.part f.suits i j k l b (reference k h)
 
     -- Each position read is that of a cell.
     pub below_cells : (j k : ℕ) → j < iterations_of t → k < t.count → reads_of t j k < cells_of t
     unfolding iterations_of course_of reads_of position_of iteration_of cells_of
-    below_cells j k b h = run.below_cells t.ground t.offsets t.part f.suits j k b (reference k h)
+    below_cells j k b h = run.below_cells t.the_ground t.offsets t.part f.suits j k b (reference k h)
 
     -- Offsets fall lexicographically exactly if the positions read fall.
     pub falls : (j k l : ℕ) → j < iterations_of t → k < t.count → l < t.count
         → before (get_or t.offsets l []) (get_or t.offsets k []) ≡ true ↔ reads_of t j l < reads_of t j k
     unfolding iterations_of course_of reads_of position_of iteration_of
     falls j k l b g h =
-        let same = run.falls t.ground t.offsets t.part f.suits j k l b (reference k g) (reference l h) in
+        let same = run.falls t.the_ground t.offsets t.part f.suits j k l b (reference k g) (reference l h) in
         (λ e. ltb-true (reads_of t j l) (reads_of t j k) (sym same ∙ e), λ m. same ∙ lt-ltb (reads_of t j l) (reads_of t j k) m)
 
     -- The reuse distance bounds the distance in every iteration, and one has it.
     pub distance_most : (j k : ℕ) → j < iterations_of t → suc k < t.count → distance_in t j k ≤ distance_of t k
     unfolding iterations_of course_of reads_of position_of iteration_of distance_in distance_of count
     distance_most j k b h =
-        greatest_first (course t.ground t.offsets t.part).shape (λ j. distance_in t j k)
-        (distance_steady t.ground t.offsets t.part f.suits k (reference (suc k) h)) j b
+        greatest_first (course t.the_ground t.offsets t.part).shape (λ j. distance_in t j k)
+        (distance_steady t.the_ground t.offsets t.part f.suits k (reference (suc k) h)) j b
 
     pub distance_reached : (k : ℕ) → 0 < iterations_of t → (j : ℕ) × (j < iterations_of t) × (distance_in t j k ≡ distance_of t k)
     unfolding iterations_of course_of distance_of count
-    distance_reached k some = first_reached (course t.ground t.offsets t.part).shape (λ j. distance_in t j k) some
+    distance_reached k some = first_reached (course t.the_ground t.offsets t.part).shape (λ j. distance_in t j k) some
 
     -- No reference reads past the newest cell, and one reads it.
     pub newest_most : (j k : ℕ) → k < t.count → reads_of t j k ≤ newest_of t j
@@ -140,18 +140,18 @@ module _ (t : Trimmed) where
         record { falls = (falls 0 k (suc k) some (omega arith) h).1 (each 0 some).0; holds = omega (arith, e, (each j b).0, (each j b).1) }
 
     -- On a rectangle:
-    module _ (sizes : List ℕ) (e : t.ground ≡ rectangle sizes) where
+    module _ (sizes : List ℕ) (e : t.the_ground ≡ rectangle sizes) where
       -- The iterations are those of a box of these extents.
       pub iterations_product : iterations_of t ≡ product (extents_of t)
       unfolding iterations_of extents_of course_of
       iterations_product =
-          on_rectangle_lem (λ g. count (course g t.offsets t.part) ≡ product (ground_sizes (course g t.offsets t.part).shape)) t.ground sizes e
+          on_rectangle_lem (λ g. count (course g t.offsets t.part) ≡ product (ground_sizes (course g t.offsets t.part).shape)) t.the_ground sizes e
           (count_product sizes t.offsets t.part)
 
       pub extents_count : length (extents_of t) ≡ length sizes
       unfolding extents_of course_of
       extents_count =
-          on_rectangle_lem (λ g. Bounded (dims g) t.part → length (ground_sizes (course g t.offsets t.part).shape) ≡ length sizes) t.ground sizes e
+          on_rectangle_lem (λ g. Bounded (dims g) t.part → length (ground_sizes (course g t.offsets t.part).shape) ≡ length sizes) t.the_ground sizes e
           (length_course sizes t.offsets t.part) f.suits.bounded
 
       -- All references read as far behind their first positions as the iteration lies behind the first.
@@ -160,7 +160,7 @@ module _ (t : Trimmed) where
       reads_from_first j k b h =
           on_rectangle_lem (λ g. (s : Suits g t.offsets t.part) → j < count (course g t.offsets t.part)
           → reads_in g t.offsets t.part s j k ≡ reads_in g t.offsets t.part s 0 k + place sizes (indices (ground_sizes (course g t.offsets t.part).shape) j))
-          t.ground sizes e (λ s a. box.reads_from_first sizes t.offsets t.part s j k a (reference k h)) f.suits b
+          t.the_ground sizes e (λ s a. box.reads_from_first sizes t.offsets t.part s j k a (reference k h)) f.suits b
 
       -- Iteration j lies less than the cell count behind the first.
       pub way_below : (j : ℕ) → j < iterations_of t → place sizes (indices (extents_of t) j) < cells_of t

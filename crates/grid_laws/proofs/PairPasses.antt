@@ -16,15 +16,15 @@ use Rattle.grid_laws.proofs.Tests.{neither, both_false}
 
 module _ (t : Trimmed) (a b : Own) where
   pub record PairPasses : Type 0 where
-    pub grid : bad_ground t.dims t.ground ≡ false
+    pub grid : bad_ground t.dims t.the_ground ≡ false
     pub count : bad_count t.count ≡ false
     pub first_count : bad_count a.count ≡ false
     pub second_count : bad_count b.count ≡ false
     pub distinct : repeats t.offsets ≡ false
     pub first_distinct : repeats a.offsets ≡ false
     pub second_distinct : repeats b.offsets ≡ false
-    pub iterates : no_iteration t.ground t.offsets ≡ false
-    pub fits : bad_box t.ground t.offsets t.part ≡ false
+    pub iterates : no_iteration t.the_ground t.offsets ≡ false
+    pub fits : bad_box t.the_ground t.offsets t.part ≡ false
     pub first_centre : lacks_centre a.kernel (centred a.offsets) ≡ false
     pub second_centre : lacks_centre b.kernel (centred b.offsets) ≡ false
     pub first_factors : bad_factor a.kernel ≡ false

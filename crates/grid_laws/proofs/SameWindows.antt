@@ -41,10 +41,10 @@ same_fits g a b (box l h) n bounded fits =
     let (x, f) = box_passes g l h bounded a fits in
     passes_box g l h bounded b x (λ j i. same_iterations g a b n (vector (box_course g l h) j) (f j i))
 
-module _ (t u : Trimmed) (e : t.ground ≡ u.ground) (m : Members t.offsets u.offsets) (n : Members u.offsets t.offsets) (d : t.part ≡ u.part) where
+module _ (t u : Trimmed) (e : t.the_ground ≡ u.the_ground) (m : Members t.offsets u.offsets) (n : Members u.offsets t.offsets) (d : t.part ≡ u.part) where
   same_courses : course_of t ≡ course_of u
   unfolding course_of
-  same_courses = same_course t.offsets u.offsets m n t.ground t.part ∙ ap₂ (λ (g : Ground) (p : Part). course g u.offsets p) e d
+  same_courses = same_course t.offsets u.offsets m n t.the_ground t.part ∙ ap₂ (λ (g : Ground) (p : Part). course g u.offsets p) e d
 
   pub same_count : iterations_of t ≡ iterations_of u
   unfolding iterations_of
@@ -61,7 +61,7 @@ module _ (t u : Trimmed) (e : t.ground ≡ u.ground) (m : Members t.offsets u.of
       let (l, c, f) = m k b in (
         l,
         c,
-        λ j. ap₂ (λ (v o : List ℤ). position u.ground (plus v o)) (sym (same_iteration j)) f
+        λ j. ap₂ (λ (v o : List ℤ). position u.the_ground (plus v o)) (sym (same_iteration j)) f
             ∙ ap (λ (g : Ground). position g (plus (iteration_of t j) (get_or t.offsets k []))) (sym e),
       )
 
@@ -72,12 +72,12 @@ module _ (t u : Trimmed) (e : t.ground ≡ u.ground) (m : Members t.offsets u.of
       let (l, c, f) = n k b in (
         l,
         c,
-        λ j. ap₂ (λ (v o : List ℤ). position t.ground (plus v o)) (same_iteration j) f
+        λ j. ap₂ (λ (v o : List ℤ). position t.the_ground (plus v o)) (same_iteration j) f
             ∙ ap (λ (g : Ground). position g (plus (iteration_of u j) (get_or u.offsets k []))) e,
       )
 
   -- Where the one's box passes 15, so does the other's.
-  pub fitting_too : Fitting t → length u.offsets ≡ u.count → Sized (dims u.ground) u.offsets → Bounded (dims u.ground) u.part → Fitting u
+  pub fitting_too : Fitting t → length u.offsets ≡ u.count → Sized (dims u.the_ground) u.offsets → Bounded (dims u.the_ground) u.part → Fitting u
   fitting_too f count sized bounded =
       let (l, b, x) = m 0 f.suits.some in
       record {
@@ -86,7 +86,7 @@ module _ (t u : Trimmed) (e : t.ground ≡ u.ground) (m : Members t.offsets u.of
           some = omega arith;
           entries = sized;
           bounded = bounded;
-          fits = rw (e, d) at (same_fits t.ground t.offsets u.offsets t.part n f.suits.bounded f.suits.fits);
+          fits = rw (e, d) at (same_fits t.the_ground t.offsets u.offsets t.part n f.suits.bounded f.suits.fits);
         };
       }
 
@@ -119,7 +119,7 @@ module _ (t u : Trimmed) (e : t.ground ≡ u.ground) (m : Members t.offsets u.of
     unfolding distance_of distance_in reads_of position_of iteration_of
     same_distances k =
         ap₂ (λ (g : Ground) (c : Course). greatest (map (λ j. position g (plus (vector c j) (get_or t.offsets k [])) - position g (plus (vector c j) (get_or t.offsets (suc k) []))) (firsts c.shape))) e same_courses
-        ∙ ap (λ (os : List (List ℤ)). greatest (map (λ j. position u.ground (plus (vector (course_of u) j) (get_or os k [])) - position u.ground (plus (vector (course_of u) j) (get_or os (suc k) []))) (firsts (course_of u).shape))) same_order
+        ∙ ap (λ (os : List (List ℤ)). greatest (map (λ j. position u.the_ground (plus (vector (course_of u) j) (get_or os k [])) - position u.the_ground (plus (vector (course_of u) j) (get_or os (suc k) []))) (firsts (course_of u).shape))) same_order
 
 -- Lists of numbers of which each is at most the other's.
 sum_most : (xs ys : List ℕ) → length xs ≡ length ys → ((k : ℕ) → k < length xs → get_or xs k 0 ≤ get_or ys k 0) → sum xs ≤ sum ys
@@ -129,7 +129,7 @@ sum_most (x ∷ xs) [] n f = absurd (omega arith)
 sum_most (x ∷ xs) (y ∷ ys) n f = omega (arith, f 0 (omega arith), sum_most xs ys (suc_inj n) (λ k h. f (suc k) (omega arith)))
 
 -- Of two values of the same grid, window and box the planned one has no more places than the other, if that is right.
-pub fewest_places : (t u : Trimmed) → t.ground ≡ u.ground → Members t.offsets u.offsets → Members u.offsets t.offsets → t.part ≡ u.part
+pub fewest_places : (t u : Trimmed) → t.the_ground ≡ u.the_ground → Members t.offsets u.offsets → Members u.offsets t.offsets → t.part ≡ u.part
     → Proper t → Proper u → Fitting t → 0 < iterations_of t → Planned t → Right u → sum t.capacities ≤ sum u.capacities
 fewest_places t u e m n d pt pu ft some planned right =
     sum_most t.capacities u.capacities (omega (arith, pt.fifos, pu.fifos, same_counts)) (λ k h.
@@ -163,7 +163,7 @@ same_greatest t u f there back =
         let (l, b, x) = g k c in
         (l, rw length_tabulate b, get_d_tabulate (length u.offsets) (f u) l 0 b ∙ x ∙ sym (get_d_tabulate (length t.offsets) (f t) k 0 c))
 
-module _ (t u : Trimmed) (e : t.ground ≡ u.ground) (m : Members t.offsets u.offsets) (n : Members u.offsets t.offsets) (d : t.part ≡ u.part) where
+module _ (t u : Trimmed) (e : t.the_ground ≡ u.the_ground) (m : Members t.offsets u.offsets) (n : Members u.offsets t.offsets) (d : t.part ≡ u.part) where
   -- They have the same newest cells
   pub same_newest : (j : ℕ) → newest_of t j ≡ newest_of u j
   unfolding newest_of

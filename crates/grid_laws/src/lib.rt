@@ -1,1 +1,3 @@
 // Definitions alone.
+
+#![tactic(auto)]

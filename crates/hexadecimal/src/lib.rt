@@ -1,4 +1,7 @@
 // Bytes as two hexadecimal digits each.
+
+#![tactic(auto)]
+
 ghost use Rattle.std.specs.Prelude.{◌≡◌, ◌+◌, ◌-◌, ◌*◌, ◌/◌, ◌%◌, ◌≤◌, ◌<◌};
 ghost use Rattle.model_sheet.specs.Frames.{is_digit, value_of, digit_of};
 

@@ -1,5 +1,8 @@
 // Judging a chain that is handed over as a value, by 3 to 9, lowest first, with 15 after 6, then 14; and a request behind the
 // steps of its plan.
+
+#![tactic(auto)]
+
 ghost use Rattle.std.specs.Prelude.{◌≡◌, false, ◌-◌, ◌≤◌};
 ghost use Rattle.model.specs.Lists.{tabulate};
 ghost use Rattle.model.specs.Judging.{bad_count, lacks_centre, bad_order, judge_behind, judge_chain};

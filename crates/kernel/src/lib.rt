@@ -1,4 +1,7 @@
 // A firing of the four kernels (document 01, "Kernels").
+
+#![tactic(auto)]
+
 ghost use Rattle.std.specs.Prelude.{◌≡◌, ◌+◌, ◌≤◌, length};
 ghost use Rattle.std.proofs.lemmas.List.Edits.{sets};
 ghost use Rattle.model_run.specs.Kernels.{words_at};

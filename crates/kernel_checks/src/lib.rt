@@ -1,4 +1,7 @@
 // Checks 7 and 8 of a kernel.
+
+#![tactic(auto)]
+
 ghost use Rattle.std.specs.Prelude.{◌≡◌};
 ghost use Rattle.model.specs.Judging.{not_finite, bad_factor, needs_centre};
 

@@ -1,4 +1,7 @@
 // A kernel over the rows of many firings (document 02, request 6).
+
+#![tactic(auto)]
+
 ghost use Rattle.std.specs.Prelude.{◌≡◌, ◌+◌, ◌≤◌, length, get_or};
 ghost use Rattle.std.proofs.lemmas.List.Edits.{sets};
 ghost use Rattle.model_run.specs.Kernels.{words_at, written, width as width_of};

@@ -1,4 +1,7 @@
 // The filters whose words a kernel adds, and how many words it writes (document 01, "Kernels").
+
+#![tactic(auto)]
+
 ghost use Rattle.std.specs.Prelude.{cond, ◌≡◌, ℕ, ◌≤◌, ◌<◌, min, eqb, get_or};
 ghost use Rattle.model.specs.Lists.{tabulate, without};
 ghost use Rattle.model_run.specs.Kernels.{width as width_of, terms as terms_of};

@@ -1,4 +1,7 @@
 // f32 words, their sums, and the words of difference, scaled and blend (document 01, "Kernels").
+
+#![tactic(auto)]
+
 ghost use Rattle.std.specs.Prelude.{◌≡◌, get_or};
 ghost use Rattle.model_run.specs.Kernels.{float, word, words_at, squared as squared_of};
 ghost use Rattle.model_run.specs.Kernels.{difference as difference_of, scaled as scaled_of, blend as blend_of};

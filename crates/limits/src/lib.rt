@@ -1,4 +1,7 @@
 // The limits of a grid, a window, rows and capacities: each test once, for values, sheets and plans.
+
+#![tactic(auto)]
+
 ghost use Rattle.std.specs.Prelude.{◌≡◌, leb, ltb, take};
 ghost use Rattle.model.specs.Values.{sizes_of, rows_of};
 ghost use Rattle.model.specs.Judging.{most_places, bad_dims, bad_sizes, bad_grid, bad_count, bad_row, bad_row_count, bad_rows};

@@ -1,4 +1,7 @@
 // The two printed listings of document 01, with the line that document 02 adds: the library's plan and run of a grid of 5 cells.
+
+#![tactic(auto)]
+
 use case_runs::fresh;
 use libc::STDOUT_FILENO;
 use model::{Answer, Chain, Outcome};

@@ -1,1 +1,3 @@
 // Laws alone: filters that stand as far apart as their references read.
+
+#![tactic(auto)]

@@ -18,7 +18,7 @@ use Rattle.model.specs.Iterations.{firsts, distance_in, distance_of}
 use Rattle.model.specs.declared.Kernel.TheVariants as kernel
 
 pub record Case : Type 0 where
-  pub ground : Ground
+  pub the_ground : Ground
   pub part : Part
   pub offsets : List (List ℤ)
   pub reads : List (List ℕ)
@@ -37,7 +37,7 @@ answered c =
     let n = length c.offsets in
     let t : Trimmed = record {
       dims = 0;
-      ground = c.ground;
+      the_ground = c.the_ground;
       count = n;
       offsets = c.offsets;
       part = c.part;
@@ -58,7 +58,7 @@ expected c = record { reads = c.reads; newest = c.newest; clocks = c.clocks; dis
 
 abbrev case : Ground → Part → List (List ℤ) → List (List ℕ) → (newest clocks distances : List ℕ) → Case
 case g p offsets reads newest clocks distances = record
-    { ground = g; part = p; offsets = offsets; reads = reads; newest = newest; clocks = clocks; distances = distances }
+    { the_ground = g; part = p; offsets = offsets; reads = reads; newest = newest; clocks = clocks; distances = distances }
 
 abbrev row : ℕ → ℕ → Row
 row start length = record { start = start; length = length }

@@ -24,25 +24,25 @@ firsts (skewed rs) = firsts_from 0 rs
 module _ (t : Trimmed) where
   -- "Its cells are .. streamed in lexicographic order": how many there are.
   unfoldable pub cells_of : ℕ
-  cells_of = cell_count t.ground
+  cells_of = cell_count t.the_ground
 
   -- The vector is the index of a cell, and the position of that cell.
   unfoldable pub is_cell_of : List ℤ → Bool
-  is_cell_of v = inside t.ground v
+  is_cell_of v = inside t.the_ground v
 
   unfoldable pub position_of : List ℤ → ℕ
-  position_of v = position t.ground v
+  position_of v = position t.the_ground v
 
   -- "An iteration is every whole-number vector .. that added to each offset stays inside the grid."
   unfoldable pub is_iteration_of : List ℤ → Bool
-  is_iteration_of v = is_iteration t.ground t.offsets v
+  is_iteration_of v = is_iteration t.the_ground t.offsets v
 
   -- The iterations that a run covers: "Without it the run covers all iterations", else those of the box.
   unfoldable pub covers_of : List ℤ → Bool
   covers_of v = is_iteration_of v && in_part t.part v
 
   unfoldable pub course_of : Course
-  course_of = course t.ground t.offsets t.part
+  course_of = course t.the_ground t.offsets t.part
 
   -- How many there are, and on a rectangle how many indices they have in each dimension.
   unfoldable pub iterations_of : ℕ

@@ -110,11 +110,11 @@ bad_order n order = any (λ k. leb n k) order || twice order
 -- The checks of a value, in groups: 3, or 16 in its place, to 6, of a window on a grid, and "15 .. after 6", of its box,
 unfoldable pub window_checks : Trimmed → List Check
 window_checks t =
-    check (bad_ground t.dims t.ground) (ground_refusal t.ground)
+    check (bad_ground t.dims t.the_ground) (ground_refusal t.the_ground)
     ∷ check (bad_count t.count) refusal.BadCount
     ∷ check (repeats t.offsets) refusal.EqualOffsets
-    ∷ check (no_iteration t.ground t.offsets) refusal.NoIteration
-    ∷ check (bad_box t.ground t.offsets t.part) refusal.BadBox
+    ∷ check (no_iteration t.the_ground t.offsets) refusal.NoIteration
+    ∷ check (bad_box t.the_ground t.offsets t.part) refusal.BadBox
     ∷ []
 
 -- (what they answer by themselves)

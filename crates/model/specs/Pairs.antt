@@ -55,7 +55,7 @@ not_union os a b = any (λ o. not (member os o)) (a.offsets ++ b.offsets)
 unfoldable pub raw_of : Trimmed → Trimmed
 raw_of t = record {
   dims = t.dims;
-  ground = t.ground;
+  the_ground = t.the_ground;
   count = t.count;
   offsets = t.offsets;
   part = t.part;
@@ -73,11 +73,11 @@ raw_chain c = set_order no_order (set_kernel kernel.Raw c)
 -- and to the union"; "the chain's own kernel and order play no part".
 unfoldable pub pair_checks : Trimmed → Own → Own → List Check
 pair_checks t a b =
-    check (bad_ground t.dims t.ground) (ground_refusal t.ground)
+    check (bad_ground t.dims t.the_ground) (ground_refusal t.the_ground)
     ∷ check (any bad_count (t.count ∷ a.count ∷ b.count ∷ length (union a b) ∷ [])) refusal.BadCount
     ∷ check (any repeats (t.offsets ∷ a.offsets ∷ b.offsets ∷ [])) refusal.EqualOffsets
-    ∷ check (no_iteration t.ground t.offsets) refusal.NoIteration
-    ∷ check (bad_box t.ground t.offsets t.part) refusal.BadBox
+    ∷ check (no_iteration t.the_ground t.offsets) refusal.NoIteration
+    ∷ check (bad_box t.the_ground t.offsets t.part) refusal.BadBox
     ∷ check (lacks_centre a.kernel (centred a.offsets) || lacks_centre b.kernel (centred b.offsets)) refusal.NoCentre
     ∷ check (bad_factor a.kernel || bad_factor b.kernel) refusal.BadFactor
     ∷ check (too_large t.capacities) refusal.TooLarge
@@ -101,7 +101,7 @@ planned_union r rows =
     let t = sorted (trimmed_request r rows) in
     record {
       dims = t.dims;
-      ground = t.ground;
+      the_ground = t.the_ground;
       count = t.count;
       offsets = t.offsets;
       part = t.part;

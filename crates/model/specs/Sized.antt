@@ -25,13 +25,13 @@ pub record Suits (g : Ground) (offsets : List (List ℤ)) (p : Part) : Type 0 wh
 -- Lists of the lengths that the counts say.
 pub record Proper (t : Trimmed) : Type 0 where
   pub references : length t.offsets ≡ t.count
-  pub dimensions : dims t.ground ≡ t.dims
-  pub entries : Sized (dims t.ground) t.offsets
-  pub bounded : Bounded (dims t.ground) t.part
+  pub dimensions : dims t.the_ground ≡ t.dims
+  pub entries : Sized (dims t.the_ground) t.offsets
+  pub bounded : Bounded (dims t.the_ground) t.part
   pub fifos : length t.capacities ≡ t.count - 1
   pub terms : length t.order ≡ cond t.ordered t.count 0
 
 -- What the laws of iterations ask of a value.
 pub record Fitting (t : Trimmed) : Type 0 where
   pub references : length t.offsets ≡ t.count
-  pub suits : Suits t.ground t.offsets t.part
+  pub suits : Suits t.the_ground t.offsets t.part

@@ -61,7 +61,7 @@ part_of dims b = cond b.stood
 -- A request or a chain without the entries past its counts and without an absent part: all of it that plays a part.
 pub record Trimmed : Type 0 where
   pub dims : ℕ
-  pub ground : Ground
+  pub the_ground : Ground
   pub count : ℕ
   pub offsets : List (List ℤ)
   pub part : Part
@@ -75,7 +75,7 @@ abbrev pub trimmed_of : Grid → (rows : List ℕ) → Window → Bounds → (ca
     → Kernel → Trimmed
 trimmed_of g rows w b capacities ordered order k = record {
   dims = dims_of g;
-  ground = ground_of g rows;
+  the_ground = ground_of g rows;
   count = w.count;
   offsets = offsets_of (dims_of g) w;
   part = part_of (dims_of g) b;
@@ -101,7 +101,7 @@ on_grid g rows w b = trimmed_of g rows w b [] false [] kernel.Raw
 abbrev pub on_rectangle : Grid → Window → Bounds → Trimmed
 on_rectangle g w b = record {
   dims = g.dims;
-  ground = rectangle (sizes_of g);
+  the_ground = rectangle (sizes_of g);
   count = w.count;
   offsets = offsets_of g.dims w;
   part = part_of g.dims b;
@@ -114,7 +114,7 @@ on_rectangle g w b = record {
 abbrev pub on_rows : (count : ℕ) → (rows : List ℕ) → Window → Bounds → Trimmed
 on_rows count rows w b = record {
   dims = 2;
-  ground = skewed (rows_of count rows);
+  the_ground = skewed (rows_of count rows);
   count = w.count;
   offsets = offsets_of 2 w;
   part = part_of 2 b;
@@ -164,7 +164,7 @@ normal_grid g = record {
 -- The chain of which this plays a part, with 0 past its counts: a chain's normal form. Its rows are lent beside it.
 unfoldable pub chain_of : Trimmed → Chain
 chain_of t = record {
-  grid = grid_of t.dims t.ground;
+  grid = grid_of t.dims t.the_ground;
   window = window_of t.count t.offsets;
   bounds = bounds_of t.part;
   capacities = capacity_array t.capacities;

@@ -1,5 +1,7 @@
 // The types of the reuse chain. Their meaning stands in specs/, in the terms of document 01.
 
+#![tactic(auto)]
+
 // Cells that passed a filter's splitter: its input counter.
 #[derive(Drop)]
 pub struct CellsPassed(pub u32);

@@ -75,18 +75,18 @@ unfolding number_of
 grid_number_lem (rectangle sizes) = refl
 grid_number_lem (skewed rs) = refl
 
-value_behind : (t : Trimmed) (cs : List Check) → AnswersFirst (value_numbers t.ground ++ numbers_of cs) (value_conditions t ++ conditions_of cs) (first_of (value_checks t ++ cs))
+value_behind : (t : Trimmed) (cs : List Check) → AnswersFirst (value_numbers t.the_ground ++ numbers_of cs) (value_conditions t ++ conditions_of cs) (first_of (value_checks t ++ cs))
 unfolding numbers_of conditions_of number_of value_conditions value_checks window_checks kernel_checks chain_checks
 value_behind t cs =
-    subst (λ (n : ℕ). AnswersFirst (n ∷ 4 ∷ 5 ∷ 6 ∷ 15 ∷ 7 ∷ 8 ∷ 9 ∷ 14 ∷ numbers_of cs) (conditions_of (value_checks t ++ cs)) (first_of (value_checks t ++ cs))) (grid_number_lem t.ground)
+    subst (λ (n : ℕ). AnswersFirst (n ∷ 4 ∷ 5 ∷ 6 ∷ 15 ∷ 7 ∷ 8 ∷ 9 ∷ 14 ∷ numbers_of cs) (conditions_of (value_checks t ++ cs)) (first_of (value_checks t ++ cs))) (grid_number_lem t.the_ground)
     (checks (value_checks t ++ cs))
 
-value : (t : Trimmed) → AnswersFirst (value_numbers t.ground) (value_conditions t) (first_of (value_checks t))
+value : (t : Trimmed) → AnswersFirst (value_numbers t.the_ground) (value_conditions t) (first_of (value_checks t))
 unfolding numbers_of conditions_of number_of value_conditions value_checks window_checks kernel_checks chain_checks
 value t = value_behind t []
 
 run : (t : Trimmed) (s : State) (store : List ℕ)
-    → AnswersFirst (value_numbers t.ground ++ (10 ∷ 11 ∷ [])) (value_conditions t ++ (short_store t store ∷ bad_state (layout t) (counters_of t.count s) ∷ [])) (judge_run t s store)
+    → AnswersFirst (value_numbers t.the_ground ++ (10 ∷ 11 ∷ [])) (value_conditions t ++ (short_store t store ∷ bad_state (layout t) (counters_of t.count s) ∷ [])) (judge_run t s store)
 unfolding numbers_of conditions_of number_of judge_run
 run t s store = value_behind t _
 
@@ -151,9 +151,9 @@ lines_numbers chain_sheet rows r (l ∷ ls) =
     let seen = seen_of l.ended l.chars in
     ap (λ (ns : List ℕ). 1 ∷ 2 ∷ 3 ∷ 16 ∷ 1 ∷ 3 ∷ 16 ∷ 4 ∷ 13 ∷ ns) (lines_numbers chain_sheet rows (taken r seen.first) ls)
 
-value_numbers_lem : (t : Trimmed) → numbers_of (value_checks t) ≡ value_numbers t.ground
+value_numbers_lem : (t : Trimmed) → numbers_of (value_checks t) ≡ value_numbers t.the_ground
 unfolding numbers_of number_of value_checks window_checks kernel_checks chain_checks
-value_numbers_lem t = ap (λ (n : ℕ). n ∷ 4 ∷ 5 ∷ 6 ∷ 15 ∷ 7 ∷ 8 ∷ 9 ∷ 14 ∷ []) (grid_number_lem t.ground)
+value_numbers_lem t = ap (λ (n : ℕ). n ∷ 4 ∷ 5 ∷ 6 ∷ 15 ∷ 7 ∷ 8 ∷ 9 ∷ 14 ∷ []) (grid_number_lem t.the_ground)
 
 sheet_numbers_lem : (chain_sheet : Bool) (sheet : List ℕ) → numbers_of (sheet_checks chain_sheet sheet) ≡ sheet_numbers chain_sheet sheet
 unfolding sheet_checks sheet_numbers numbers_of number_of

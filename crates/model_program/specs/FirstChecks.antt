@@ -86,7 +86,7 @@ line_numbers = 1 ∷ 2 ∷ 3 ∷ 16 ∷ 1 ∷ 3 ∷ 16 ∷ 4 ∷ 13 ∷ []
 
 unfoldable pub sheet_numbers : (chain_sheet : Bool) → (sheet : List ℕ) → List ℕ
 sheet_numbers chain_sheet sheet =
-    flat_map (λ _. line_numbers) (lines_of sheet) ++ (2 ∷ value_numbers (value_read chain_sheet sheet).ground)
+    flat_map (λ _. line_numbers) (lines_of sheet) ++ (2 ∷ value_numbers (value_read chain_sheet sheet).the_ground)
 
 pub record FirstChecks : Type 0 where
   pub checks : (cs : List Check) → AnswersFirst (numbers_of cs) (conditions_of cs) (first_of cs)
@@ -97,7 +97,7 @@ pub record FirstChecks : Type 0 where
       → AnswersFirst (value_numbers (ground_of r.grid rows)) (value_conditions (trimmed_request r rows)) (judge_request r rows)
   -- "A run looks at the chain first, then 10, then 11."
   pub run : (t : Trimmed) (s : State) (store : List ℕ)
-      → AnswersFirst (value_numbers t.ground ++ (10 ∷ 11 ∷ []))
+      → AnswersFirst (value_numbers t.the_ground ++ (10 ∷ 11 ∷ []))
       (value_conditions t ++ (short_store t store ∷ bad_state (layout t) (counters_of t.count s) ∷ []))
       (judge_run t s store)
   -- 12 is "looked at last".

@@ -75,7 +75,7 @@ abbrev raw_chain : Part → List ℕ → List (List ℤ) → List ℕ → Chain
 raw_chain part sizes offsets capacities =
     chain_of (record {
       dims = length sizes;
-      ground = rectangle sizes;
+      the_ground = rectangle sizes;
       count = length offsets;
       offsets = offsets;
       part = part;

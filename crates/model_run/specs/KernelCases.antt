@@ -41,7 +41,7 @@ blend_by a b = kernel.Blend (record { a = float a; b = float b })
 abbrev chain : Case → Trimmed
 chain c = record {
   dims = 1;
-  ground = rectangle (8 ∷ []);
+  the_ground = rectangle (8 ∷ []);
   count = length c.offsets;
   offsets = c.offsets;
   part = whole;

@@ -32,7 +32,7 @@ use Rattle.model_run.specs.Cases.{cross, start}
 abbrev pub six : Trimmed
 six = record {
   dims = 2;
-  ground = rectangle (4 ∷ 5 ∷ []);
+  the_ground = rectangle (4 ∷ 5 ∷ []);
   count = 5;
   offsets = cross;
   part = whole;

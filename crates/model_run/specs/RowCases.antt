@@ -32,7 +32,7 @@ use Rattle.model.specs.declared.Kernel.TheVariants as kernel
 abbrev raw : List Row → Part → List (List ℤ) → List ℕ → Trimmed
 raw rs part offsets capacities = record {
   dims = 2;
-  ground = skewed rs;
+  the_ground = skewed rs;
   count = length offsets;
   offsets = offsets;
   part = part;

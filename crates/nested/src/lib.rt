@@ -1,4 +1,7 @@
 // What each firing must write, straight from the cells: no function of the library has a part in it.
+
+#![tactic(auto)]
+
 pub mod requests;
 pub mod windows;
 

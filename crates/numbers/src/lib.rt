@@ -1,4 +1,7 @@
 // Small functions on numbers.
+
+#![tactic(auto)]
+
 ghost use Rattle.std.specs.Prelude.{◌≡◌, ◌-◌, ◌<◌, min, max, get_or};
 
 // A number of 32 bits as a wider one.

@@ -1,5 +1,8 @@
 // Two kernels on one chain: over 48 rows of 64 cells, fuel takes the cell and its neighbours in the row, timing the cells above
 // and below; the library's plan and runs, and every word of both outputs beside two plain nested loops.
+
+#![tactic(auto)]
+
 ghost use Rattle.std.specs.Prelude.{◌≡◌, length};
 
 use case_runs::{fresh, words_of};

@@ -230,14 +230,14 @@ module _ (g : Grid) (rows : List ℕ) (c : Window) (bounds : Bounds) (capacities
   raw = trimmed_of g rows c bounds capacities false [] kernel.Raw
 
   abbrev bad : Bool
-  bad = bad_ground raw.dims raw.ground
+  bad = bad_ground raw.dims raw.the_ground
 
   abbrev refused : Verdict
-  refused = verdict.Refused (ground_refusal raw.ground)
+  refused = verdict.Refused (ground_refusal raw.the_ground)
 
   -- What is looked at behind its grid.
   abbrev rest : Verdict
-  rest = first_of (raw_rest (bad_count c.count) (repeats raw.offsets) (no_iteration raw.ground raw.offsets) (bad_box raw.ground raw.offsets raw.part) (too_large capacities))
+  rest = first_of (raw_rest (bad_count c.count) (repeats raw.offsets) (no_iteration raw.the_ground raw.offsets) (bad_box raw.the_ground raw.offsets raw.part) (too_large capacities))
 
   raw_verdict : judged raw ≡ cond bad refused rest
   unfolding judged value_checks window_checks kernel_checks chain_checks first_of lacks_centre needs_centre bad_factor bad_order any twice
@@ -260,10 +260,10 @@ module _ (g : Grid) (rows : List ℕ) (c : Window) (bounds : Bounds) (capacities
   pair_verdict = ap (λ (v : Verdict). earlier_of v sides) raw_verdict ∙ go bad refl
     where
       go : (t : Bool) → bad ≡ t → earlier_of (cond t refused rest) sides ≡ pair
-      go true e = turned (ground_refusal raw.ground) sides (ground_first raw.ground) ∙ rw e
+      go true e = turned (ground_refusal raw.the_ground) sides (ground_first raw.the_ground) ∙ rw e
       go false e =
-          ap (earlier_of rest) (sides_are (dims_of g) c x y (few_dims (dims_of g) raw.ground (ground_dims g rows) e))
-          ∙ merged (bad_count c.count) (repeats raw.offsets) (no_iteration raw.ground raw.offsets) (bad_box raw.ground raw.offsets raw.part) (too_large capacities)
+          ap (earlier_of rest) (sides_are (dims_of g) c x y (few_dims (dims_of g) raw.the_ground (ground_dims g rows) e))
+          ∙ merged (bad_count c.count) (repeats raw.offsets) (no_iteration raw.the_ground raw.offsets) (bad_box raw.the_ground raw.offsets raw.part) (too_large capacities)
           (any bad_count (a.count ∷ b.count ∷ length (union a b) ∷ [])) (any repeats (a.offsets ∷ b.offsets ∷ []))
           (lacks_centre x.kernel (centred a.offsets) || lacks_centre y.kernel (centred b.offsets)) (bad_factor x.kernel || bad_factor y.kernel) (not_union raw.offsets a b)
           ∙ rw e

@@ -1,5 +1,8 @@
 // Judging a chain with two windows and their kernels (document 02, request 6): the verdict on the raw chain, that on the
 // windows and kernels, and which of them comes first in the order of the checks.
+
+#![tactic(auto)]
+
 ghost use Rattle.std.specs.Prelude.{◌||◌, [], ◌∷◌, ◌≡◌, length};
 ghost use Rattle.model.specs.Lists.{any};
 ghost use Rattle.model.specs.Values.{trimmed, dims_of};

@@ -1,1 +1,3 @@
 // Laws of two kernels on one chain, for the demands and for code.
+
+#![tactic(auto)]

@@ -1,5 +1,8 @@
 // Planning the chain that two kernels share (document 02, request 6): the plan of the union of their windows, raw, with its
 // terms in chain order.
+
+#![tactic(auto)]
+
 ghost use Rattle.std.specs.Prelude.{◌≡◌};
 ghost use Rattle.model.specs.Pairs.{plan_pair_of};
 ghost use Rattle.pair_plan.specs.Orders.{rising_order};

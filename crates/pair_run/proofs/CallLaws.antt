@@ -289,7 +289,7 @@ module _ (c : Chain) (rows : List ℕ) (x y : Side) (s : State) (store lent out 
 
     few : D ≤ 4
     unfolding trimmed
-    few = few_dims t.dims t.ground (trimmed_proper c rows).dimensions p.grid
+    few = few_dims t.dims t.the_ground (trimmed_proper c rows).dimensions p.grid
 
     sc : c.window.count ≤ 32
     unfolding trimmed

@@ -1,5 +1,8 @@
 // A run call of two kernels on one chain (document 02, request 6): the raw chain's call in rounds (rounds.rt), and both kernels
 // over the rows of its firings (ports.rt).
+
+#![tactic(auto)]
+
 mod ports;
 mod rounds;
 

@@ -1,5 +1,8 @@
 // The tables by which a run gives one of two kernels the words of its own window (document 02, request 6). What is answered of
 // what an array does not hold is fixed in specs/.
+
+#![tactic(auto)]
+
 ghost use Rattle.std.specs.Prelude.{◌≡◌, ◌≤◌};
 ghost use Rattle.model.specs.Lists.{tabulate};
 ghost use Rattle.model.specs.Steps.{which_of};

@@ -1,5 +1,8 @@
 // Two windows against each other and against a chain's (document 02, request 6), on any value. What a public function answers
 // of what an array does not hold is fixed in specs/.
+
+#![tactic(auto)]
+
 ghost use Rattle.std.specs.Prelude.{not, ◌≡◌, ◌+◌, ◌≤◌, length};
 ghost use Rattle.model.specs.Lists.{any};
 ghost use Rattle.model.specs.Pairs.{member, distinct};

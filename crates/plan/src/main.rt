@@ -1,4 +1,7 @@
 // Plans the request sheet on standard input: writes its chain sheet, or `1F` and the number of the refusal.
+
+#![tactic(auto)]
+
 ghost use Rattle.std.specs.Prelude.{◌≡◌, replicate};
 ghost use Rattle.model_sheet.specs.Frames.{row_numbers};
 ghost use Rattle.program_laws.specs.Loops.{TakenUnless, PlanDue};

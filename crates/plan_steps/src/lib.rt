@@ -1,5 +1,8 @@
 // The three steps of planning, in the order of document 003, section 3.3: the offsets sorted (sorting.rt), the distances of
 // neighbours (distances.rt), their sum (total.rt).
+
+#![tactic(auto)]
+
 mod distances;
 mod sorting;
 pub mod total;

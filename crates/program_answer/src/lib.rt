@@ -1,4 +1,7 @@
 // What the program `plan` writes at the end of its input.
+
+#![tactic(auto)]
+
 ghost use Rattle.std.specs.Prelude.{◌≡◌};
 ghost use Rattle.program_writer.specs.Texts.{laid, laid_if_fits, Within};
 ghost use Rattle.program_answer.specs.Answer.{plan_answer};

@@ -1,4 +1,7 @@
 // Cells as they arrive behind a chain sheet, block by block and in fixed memory.
+
+#![tactic(auto)]
+
 ghost use Rattle.std.specs.Prelude.{◌≡◌};
 ghost use Rattle.model.specs.declared.Verdict.TheVariants.{Accepted};
 ghost use Rattle.model_sheet.specs.Arriving.{new_line};

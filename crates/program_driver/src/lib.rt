@@ -1,4 +1,7 @@
 // The program `run`, step by step: what it does between reading and writing.
+
+#![tactic(auto)]
+
 ghost use Rattle.std.specs.Prelude.{◌≡◌, ◌+◌, ◌≤◌, length};
 ghost use Rattle.model.specs.Answers.{answer_counts};
 ghost use Rattle.model_run.specs.Kernels.{width};

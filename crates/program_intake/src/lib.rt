@@ -1,4 +1,7 @@
 // A sheet as its characters arrive, block by block and in fixed memory.
+
+#![tactic(auto)]
+
 ghost use Rattle.std.specs.Prelude.{◌≡◌};
 ghost use Rattle.model_sheet.specs.Arriving.{opened, closed, stood_first, arrive, finished};
 ghost use Rattle.model_sheet.specs.Frames.{shown};

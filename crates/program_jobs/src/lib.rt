@@ -1,4 +1,7 @@
 // Where a run of the program `run` stands.
+
+#![tactic(auto)]
+
 ghost use Rattle.std.specs.Prelude.{◌≡◌};
 ghost use Rattle.program_jobs.specs.Jobs.{begun, staged, closed, after_read};
 

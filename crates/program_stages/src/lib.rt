@@ -1,4 +1,7 @@
 // What the program `run` does next.
+
+#![tactic(auto)]
+
 ghost use Rattle.std.specs.Prelude.{◌≡◌};
 ghost use Rattle.program_stages.specs.Stages.{sheet_stage, cells_stage, answer_stage, wants_by, over};
 

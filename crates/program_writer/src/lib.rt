@@ -1,4 +1,7 @@
 // The lines that the programs write: `10` for a firing, `11` at the end of a run, `1F` for a refusal.
+
+#![tactic(auto)]
+
 ghost use Rattle.std.specs.Prelude.{◌≡◌, ◌+◌, ◌*◌, ◌≤◌, ◌<◌, length, take, drop};
 ghost use Rattle.std.proofs.lemmas.List.Edits.{sets};
 ghost use mathlib.Core.List.{◌∷◌, [], flat_map};

@@ -1,5 +1,8 @@
 // A run on rows, row by row (document 02, request 5): the tables of what lies above each row, the row of an iteration, what
 // is read there, and the reuse distances. What a public function answers on any value is fixed in specs/CourseTables.antt.
+
+#![tactic(auto)]
+
 ghost use Rattle.std.specs.Prelude.{◌≡◌, ℕ, ◌+◌, ◌-◌, ◌≤◌, ◌<◌, min, max};
 ghost use Rattle.model.specs.Grounds.{row, cells_above};
 ghost use Rattle.model.specs.Lists.{tabulate, greatest};

@@ -1,5 +1,8 @@
 // Rows of cells that are lent beside a value (document 02, request 5): row i's start is number 2 i, its length number 2 i +
 // 1. What a public function answers on any value is fixed in specs/.
+
+#![tactic(auto)]
+
 mod boxed;
 mod common;
 

@@ -1,5 +1,8 @@
 // Runs the chain sheet on standard input over the cells behind it: writes a `10` line for each firing, then `11`, or `1F` and
 // the number of the refusal.
+
+#![tactic(auto)]
+
 ghost use Rattle.std.specs.Prelude.{◌≤◌, length};
 ghost use Rattle.program_writer.specs.Texts.{Within};
 ghost use Rattle.program_laws.specs.Loops.{Supplied, RunDue};

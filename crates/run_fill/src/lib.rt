@@ -1,4 +1,7 @@
 // The clocks of a call before its filters are aligned (document 01, "One clock" and "Running"): none of them fires.
+
+#![tactic(auto)]
+
 ghost use Rattle.std.specs.Prelude.{List, ◌≡◌, true, false, ℕ, suc, ◌+◌, ◌-◌, ◌*◌, ◌%◌, ◌<◌, ◌≤◌, length, get_or};
 ghost use Rattle.model_run.specs.Clock.{Layout, turn as turn_of};
 ghost use Rattle.loop_laws.specs.Passes.{of, step, FullFifos};

@@ -1,4 +1,7 @@
 // The clocks of a call whose filters are aligned: every filter moves in each (document 01, "One clock" and "Running").
+
+#![tactic(auto)]
+
 ghost use Rattle.std.specs.Prelude.{List, ◌≡◌, true, false, ℕ, ◌+◌, ◌-◌, ◌*◌, ◌%◌, ◌<◌, ◌≤◌, length};
 ghost use Rattle.model_run.specs.Kernels.{width as width_for, terms as terms_of};
 ghost use Rattle.model_run.specs.Clock.{Layout};

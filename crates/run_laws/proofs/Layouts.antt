@@ -131,7 +131,7 @@ module _ (t : Trimmed) (proper : Proper t) (ok : Accepted t) where
   planned_right p k g = record { falls = (p k g).falls; holds = omega (arith, (p k g).exact) }
 
   -- On a rectangle:
-  module _ (sizes : List ℕ) (e : t.ground ≡ rectangle sizes) where
+  module _ (sizes : List ℕ) (e : t.the_ground ≡ rectangle sizes) where
     -- One iteration that flows shows that the chain is right, so one that is not does not flow at all.
     pub flow_right : (f : ℕ) → f < iterations_of t → Flows (layout t) f → Right t
     unfolding layout

@@ -31,7 +31,7 @@ sorted_fits : (t : Trimmed) → Fitting t → Fitting (sorted t)
 unfolding sorted
 sorted_fits t f =
     fitting_too t (sorted t) refl (falling_each t.offsets) (falling_no_other t.offsets) refl f (length_falling t.offsets ∙ f.references)
-    (sized_falling (dims t.ground) t.offsets f.suits.entries) f.suits.bounded
+    (sized_falling (dims t.the_ground) t.offsets f.suits.entries) f.suits.bounded
 
 -- A value that no number turns back is judged as before with its offsets sorted: the order that is recorded is each filter number once.
 pub same_checks : (t : Trimmed) → Proper t → judged t ≡ verdict.Accepted → value_checks (sorted t) ≡ value_checks t
@@ -41,15 +41,15 @@ same_checks t p e =
     let q = value_passes t e in
     let recorded : bad_order t.count (authors_order os) ≡ false = rw p.references at (authors_good os q.window.distinct) in
     let good = fitting t p (some_references t.count q.window.count) q.window.fits in
-    let boxed : bad_box t.ground (falling os) t.part ≡ false = (sorted_fits t good).suits.fits in
-    rw (repeats_falling os, ap count (same_course (falling os) os (falling_no_other os) (falling_each os) t.ground whole), boxed, q.window.fits, any_falling is_zero os, recorded, q.chain.once)
+    let boxed : bad_box t.the_ground (falling os) t.part ≡ false = (sorted_fits t good).suits.fits in
+    rw (repeats_falling os, ap count (same_course (falling os) os (falling_no_other os) (falling_each os) t.the_ground whole), boxed, q.window.fits, any_falling is_zero os, recorded, q.chain.once)
 
 pub sorted_proper : (t : Trimmed) → Proper t → Proper (sorted t)
 unfolding sorted
 sorted_proper t p = record {
   references = length_falling t.offsets ∙ p.references;
   dimensions = p.dimensions;
-  entries = sized_falling (dims t.ground) t.offsets p.entries;
+  entries = sized_falling (dims t.the_ground) t.offsets p.entries;
   bounded = p.bounded;
   fifos = p.fifos;
   terms = length_authors t.offsets ∙ p.references;

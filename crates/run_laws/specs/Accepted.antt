@@ -14,5 +14,5 @@ pub record Accepted (t : Trimmed) : Type 0 where
   pub some : 0 < t.count
   pub few : t.count ≤ 32
   pub iterates : 0 < iterations_of t
-  pub fits : bad_box t.ground t.offsets t.part ≡ false
+  pub fits : bad_box t.the_ground t.offsets t.part ≡ false
   pub places : sum t.capacities ≤ most_places

@@ -1,1 +1,3 @@
 // Laws alone: an accepted chain, and run calls on it.
+
+#![tactic(auto)]

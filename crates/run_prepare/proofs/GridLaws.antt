@@ -19,7 +19,7 @@ pub record GoodGrid (t : Trimmed) : Type 0 where
   pub few : t.dims ≤ 4
   pub cells : cells_of t ≤ 1048576
 
-pub good_grid : (t : Trimmed) (sizes : List ℕ) → t.ground ≡ rectangle sizes → Accepted t → GoodGrid t
+pub good_grid : (t : Trimmed) (sizes : List ℕ) → t.the_ground ≡ rectangle sizes → Accepted t → GoodGrid t
 unfolding bad_grid bad_dims
 good_grid t sizes e a =
     let g = neither (eqb t.dims 0 || ltb 4 t.dims) (bad_sizes sizes) (sym (ap (bad_ground t.dims) e) ∙ (value_passes t a.checks).window.grid) in

@@ -8,7 +8,7 @@ use lib.Dec.{eqb, ltb}
 use lib.ListN.{length, drop}
 use borrow.Author.Tests.{ltb-false}
 use Rattle.model.specs.Geometry.{cell_count}
-use Rattle.model.specs.Grounds as ground
+use Rattle.model.specs.Grounds as the_ground
 use Rattle.model.specs.Values.{sizes_of, ground_of, dims_of, capacities_of, capacity_of, trimmed}
 use Rattle.model.specs.Iterations.{cells_of, course_of, iterations_of, extents_of, position_of, iteration_of, reads_of}
 use Rattle.model.specs.Judging.{bad_dims, bad_sizes, bad_grid}
@@ -54,7 +54,7 @@ module _ (c : Chain) (ok : Accepted (trimmed (flattened c) [])) where
   -- The arrays of the window's shape on the grid, widened.
   pub chain_shaped : (shape : Shape) (es ss at : List ℕ) → shape ≡ chain_shape (flattened c) → Widened 4 shape.extents 4 es → Widened 4 shape.strides 4 ss
       → Widened 32 shape.at 32 at → Shaped (trimmed (flattened c) []) c.grid.dims c.window.count shape.cells shape.iterations es ss at
-  unfolding trimmed ground_of dims_of cells_of ground.cell_count iterations_of extents_of course_of reads_of position_of iteration_of shape_for chain_shape
+  unfolding trimmed ground_of dims_of cells_of the_ground.cell_count iterations_of extents_of course_of reads_of position_of iteration_of shape_for chain_shape
   chain_shaped shape es ss at is e s a =
       let all = sizes_count (flattened c).grid in
       let few = few_dimensions in

@@ -115,7 +115,7 @@ some_extent (e ∷ es) h (suc d) l = some_extent es (factors_above_0 e (product 
 
 module _ {t : Trimmed} {dims : ℕ} {es ss : List ℕ} (spaced : Spaced t dims es ss) where
   abbrev sizes : List ℕ
-  sizes = ground_sizes t.ground
+  sizes = ground_sizes t.the_ground
 
   same_dimensions : length (extents_of t) ≡ length sizes
   same_dimensions = extents_count t spaced.fitting sizes spaced.rectangular

@@ -45,7 +45,7 @@ module _ {t : Trimmed} {dims n cells iterations : ℕ} {es ss at : List ℕ} (sh
     reads_at : (k : ℕ) → k < n → number_at at k + way ≡ reads_of t j k
     reads_at k g =
         ap₂ ◌+◌ (shaped.reads_are k g) (e ∙ walk_is shaped.spaced j below)
-        ∙ sym (reads_from_first t shaped.spaced.fitting (ground_sizes t.ground) shaped.spaced.rectangular j k below (reference k g))
+        ∙ sym (reads_from_first t shaped.spaced.fitting (ground_sizes t.the_ground) shaped.spaced.rectangular j k below (reference k g))
 
     pub wants_at : (k : ℕ) → k < n → number_at at k + way ≡ (layout t).wants j k
     wants_at k g = reads_at k g ∙ wants_here shaped.counted j k h

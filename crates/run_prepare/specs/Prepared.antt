@@ -49,12 +49,12 @@ pub record Walks (dims : ℕ) (es ss : List ℕ) (j : ℕ) : Type 0 where
 -- number of cells of the dimensions behind it.
 pub record Spaced (t : Trimmed) (dims : ℕ) (es ss : List ℕ) : Type 0 where
   pub fitting : Fitting t
-  pub rectangular : t.ground ≡ rectangle (ground_sizes t.ground)
-  pub dimensions : length (ground_sizes t.ground) ≡ dims
+  pub rectangular : t.the_ground ≡ rectangle (ground_sizes t.the_ground)
+  pub dimensions : length (ground_sizes t.the_ground) ≡ dims
   pub few : dims ≤ 4
   pub cells : cells_of t ≤ most_cells
   pub extents_are : (d : ℕ) → d < dims → number_at es d ≡ get_or (extents_of t) d 0
-  pub strides_are : (d : ℕ) → d < dims → number_at ss d ≡ cell_count (drop (suc d) (ground_sizes t.ground))
+  pub strides_are : (d : ℕ) → d < dims → number_at ss d ≡ cell_count (drop (suc d) (ground_sizes t.the_ground))
 
 -- An accepted chain of n filters, its cells and its iterations counted.
 pub record Counted (t : Trimmed) (n cells iterations : ℕ) : Type 0 where

@@ -23,14 +23,14 @@ use Rattle.run_prepare.specs.declared.Ready.{Ready}
 -- iterations a row has.
 pub record Prepared (t : Trimmed) (row iterations cells centre : ℕ) (at caps bases tops spans strides : List ℕ) : Type 0 where
   pub accepted : Accepted t
-  pub rectangular : t.ground ≡ rectangle (ground_sizes t.ground)
+  pub rectangular : t.the_ground ≡ rectangle (ground_sizes t.the_ground)
   pub at_there : length at ≡ 32
   pub at_are : (k : ℕ) → k < t.count → get_or at k 0 ≡ reads_of t 0 k
   pub caps_are : (k : ℕ) → suc k < t.count → get_or caps k 0 ≡ get_or t.capacities k 0
   pub bases_are : (k : ℕ) → suc k < t.count → get_or bases k 0 ≡ first_place (λ i. get_or t.capacities i 0) k
   pub tops_are : (k : ℕ) → suc k < t.count → get_or tops k 0 ≡ get_or bases k 0 + get_or caps k 0
   pub spans_are : (d : ℕ) → d < t.dims → get_or spans d 0 ≡ product (drop (suc d) (extents_of t))
-  pub strides_are : (d : ℕ) → d < t.dims → get_or strides d 0 ≡ cell_count (drop (suc d) (ground_sizes t.ground))
+  pub strides_are : (d : ℕ) → d < t.dims → get_or strides d 0 ≡ cell_count (drop (suc d) (ground_sizes t.the_ground))
   pub row_is : row ≡ get_or (extents_of t) (t.dims - 1) 0
   pub iterations_are : iterations ≡ iterations_of t
   pub cells_are : cells ≡ cells_of t

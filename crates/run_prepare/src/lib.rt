@@ -1,5 +1,8 @@
 // What a run call prepares before its clocks: the chain's numbers in arrays, and numbers 10 and 11 (document 01, "Running"
 // and "Turned back on account of the state"). On rows: skewed.rt.
+
+#![tactic(auto)]
+
 pub mod skewed;
 
 ghost use Rattle.std.specs.Prelude.{false, List, [], ◌≡◌, ℕ, suc, ◌+◌, ◌-◌, ◌≤◌, ◌<◌, ltb, length, take};

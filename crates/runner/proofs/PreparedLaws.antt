@@ -9,7 +9,7 @@ use lib.ListN.{length, get_or, drop}
 use Rattle.model.specs.Lists.{up_to, sum, product}
 use Rattle.model.specs.Geometry.{cell_count, place, indices}
 use Rattle.model.specs.Grounds.{ground_sizes, dims}
-use Rattle.model.specs.Grounds as ground
+use Rattle.model.specs.Grounds as the_ground
 use Rattle.model_run.specs.Kernels.{written, terms}
 use Rattle.model.specs.Values.{Trimmed}
 use Rattle.model.specs.Iterations.{cells_of, extents_of}
@@ -56,7 +56,7 @@ product_below (s ∷ ss) (suc k) h =
 module _ (t : Trimmed) (proper : Proper t) (row iterations cells centre : ℕ) (at caps bases tops spans strides : List ℕ)
     (P : Prepared t row iterations cells centre at caps bases tops spans strides) where
   abbrev sizes : List ℕ
-  sizes = ground_sizes t.ground
+  sizes = ground_sizes t.the_ground
 
   abbrev es : List ℕ
   es = extents_of t
@@ -71,8 +71,8 @@ module _ (t : Trimmed) (proper : Proper t) (row iterations cells centre : ℕ) (
   sized = sym (ap dims P.rectangular) ∙ proper.dimensions
 
   all_cells : cells_of t ≡ product sizes
-  unfolding cells_of ground.cell_count cell_count
-  all_cells = ap ground.cell_count P.rectangular
+  unfolding cells_of the_ground.cell_count cell_count
+  all_cells = ap the_ground.cell_count P.rectangular
 
   dimensions : length es ≡ t.dims
   dimensions = extents_count t fit sizes P.rectangular ∙ sized

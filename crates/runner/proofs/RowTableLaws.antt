@@ -73,15 +73,15 @@ module _ {t : Trimmed} {kernel : Kernel} {order : Order} {n count cells centre :
   unfolding reads_of position_of iteration_of course_of
   same_reads j k =
       ap (λ (g : Ground). position g (plus (vector (course g t.offsets t.part) j) (get_or t.offsets k []))) T.ground_is
-      ∙ ap (λ (os : List (List ℤ)). position bare.ground (plus (vector (course bare.ground os t.part) j) (get_or os k []))) T.offsets_are
-      ∙ ap (λ (p : Part). position bare.ground (plus (vector (course bare.ground bare.offsets p) j) (get_or bare.offsets k []))) T.part_is
+      ∙ ap (λ (os : List (List ℤ)). position bare.the_ground (plus (vector (course bare.the_ground os t.part) j) (get_or os k []))) T.offsets_are
+      ∙ ap (λ (p : Part). position bare.the_ground (plus (vector (course bare.the_ground bare.offsets p) j) (get_or bare.offsets k []))) T.part_is
 
   same_iterations : iterations_of t ≡ iterations_of bare
   unfolding iterations_of course_of
   same_iterations =
       ap (λ (g : Ground). counted (course g t.offsets t.part)) T.ground_is
-      ∙ ap (λ (os : List (List ℤ)). counted (course bare.ground os t.part)) T.offsets_are
-      ∙ ap (λ (p : Part). counted (course bare.ground bare.offsets p)) T.part_is
+      ∙ ap (λ (os : List (List ℤ)). counted (course bare.the_ground os t.part)) T.offsets_are
+      ∙ ap (λ (p : Part). counted (course bare.the_ground bare.offsets p)) T.part_is
 
   same_count : n ≡ T.window.count
   same_count = T.count_is ∙ sym T.proper.references ∙ ap length T.offsets_are ∙ offsets_count 2 T.window

@@ -29,7 +29,7 @@ pub run_none_lent : (c : Chain) → c.grid.skewed ≡ false → (rows : List ℕ
 unfolding run_of trimmed
 run_none_lent c flat rows s store lent output allowance = ap (λ (g : Ground). run_trimmed (record {
   dims = dims_of c.grid;
-  ground = g;
+  the_ground = g;
   count = c.window.count;
   offsets = offsets_of (dims_of c.grid) c.window;
   part = part_of (dims_of c.grid) c.bounds;

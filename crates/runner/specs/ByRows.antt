@@ -33,7 +33,7 @@ pub record RowTables (t : Trimmed) (kernel : Kernel) (order : Order) (n count ce
   pub window : Window
   pub bounds : Bounds
   pub surveyed : Surveyed count rows window bounds c
-  pub ground_is : t.ground ≡ skewed (rows_of count rows)
+  pub ground_is : t.the_ground ≡ skewed (rows_of count rows)
   pub offsets_are : t.offsets ≡ offsets_of 2 window
   pub part_is : t.part ≡ part_of 2 bounds
   pub proper : Proper t

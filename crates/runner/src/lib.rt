@@ -1,4 +1,7 @@
 // The run call (document 01, "One clock" and "Running").
+
+#![tactic(auto)]
+
 mod by_rows;
 
 ghost use Rattle.std.specs.Prelude.{true, false, List, [], ◌≡◌, ℕ, ◌+◌, ◌-◌, ◌*◌, ◌<◌, ◌≤◌, length, get_or, take};

@@ -1,6 +1,9 @@
 // Does what `plan` and `run` do on the sheets that the file `list` names, with small buffers and the input cut into pieces of
 // varying size, and compares the text with the one that is stored beside each sheet. It writes a line for each: its name, the
 // last line of the text, and whether all of it is the same.
+
+#![tactic(auto)]
+
 mod files;
 mod texts;
 

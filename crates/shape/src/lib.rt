@@ -1,5 +1,8 @@
 // A window on a grid as numbers (document 01, "Grid, window, distances"): extents, strides, positions. What a public function
 // answers on any value is fixed in specs/Shapes.antt.
+
+#![tactic(auto)]
+
 mod boxed;
 
 ghost use Rattle.std.specs.Prelude.{◌≡◌, true, false, ℕ, ◌+◌, ◌-◌, ◌≤◌, ◌<◌};

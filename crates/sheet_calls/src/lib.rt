@@ -1,4 +1,7 @@
 // Sheets read whole and judged, and chains judged and written.
+
+#![tactic(auto)]
+
 ghost use Rattle.std.specs.Prelude.{◌≡◌};
 ghost use Rattle.model.specs.declared.Verdict.TheVariants.{Refused};
 ghost use Rattle.model.specs.Values.{blank_chain, request_of};

@@ -1,5 +1,8 @@
 // What stands on a line: its numbers from the line's bytes, and the patterns that are written for an entry, an index and a
 // factor.
+
+#![tactic(auto)]
+
 ghost use Rattle.std.specs.Prelude.{◌≡◌, ◌+◌, ◌*◌};
 ghost use Rattle.std.specs.Float.Ieee.{of_bits, to_bits};
 ghost use Rattle.std.specs.Float.{binary32};

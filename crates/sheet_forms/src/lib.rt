@@ -1,4 +1,7 @@
 // What is wrong with a line by itself: its form, and its length by the numbers that stand in it or in lines before it.
+
+#![tactic(auto)]
+
 ghost use Rattle.std.specs.Prelude.{◌≡◌, not, ◌&&◌};
 ghost use Rattle.model_sheet.specs.Reading.{bad_kernel, bad_form, malformed, bad_length};
 

@@ -1,4 +1,7 @@
 // The lines of a sheet, as parts of it, and a line's characters, decoded as they arrive.
+
+#![tactic(auto)]
+
 ghost use Rattle.std.specs.Prelude.{◌≡◌, cond, ◌+◌, ◌-◌, ◌*◌, ◌/◌, ◌≤◌, ◌<◌, leb, length, drop};
 ghost use Rattle.model_sheet.specs.Lines.{line_of};
 ghost use Rattle.model_sheet.specs.Frames.{bytes_of, empty_frame, feeds, with_half, numbers_feeds};

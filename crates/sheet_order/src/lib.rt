@@ -1,4 +1,7 @@
 // Whether a line stands where it may.
+
+#![tactic(auto)]
+
 ghost use Rattle.std.specs.Prelude.{◌≡◌, [], ◌∷◌};
 ghost use Rattle.model_sheet.specs.Reading.{next_in_request, next_in_chain, miscounted, among, misplaced};
 

@@ -1,4 +1,7 @@
 // Reading a sheet, line by line.
+
+#![tactic(auto)]
+
 ghost use Rattle.std.specs.Prelude.{◌≡◌, ◌+◌, ◌<◌, set};
 ghost use Rattle.model_sheet.specs.Frames.{shown};
 ghost use Rattle.model_sheet.specs.Lines.{lines_of};

@@ -179,7 +179,7 @@ same_rows : (c : Chain) (one other : List ℕ) → ground_of c.grid one ≡ grou
 unfolding trimmed
 same_rows c one other e = λ i. record {
   dims = dims_of c.grid;
-  ground = e i;
+  the_ground = e i;
   count = c.window.count;
   offsets = offsets_of (dims_of c.grid) c.window;
   part = part_of (dims_of c.grid) c.bounds;

@@ -1,4 +1,7 @@
 // What turns a line back: the verdicts ask the tests of a line in the order of document 01.
+
+#![tactic(auto)]
+
 ghost use Rattle.std.specs.Prelude.{◌≡◌, cond, ◌&&◌, eqb, leb, take};
 ghost use Rattle.model.specs.declared.Verdict.TheVariants.{Refused};
 ghost use Rattle.model.specs.Judging.{bad_dims, bad_sizes, bad_row_count, bad_rows};

@@ -1,4 +1,7 @@
 // The window of a sheet: an offset put into it, and the windows that have a name (document 02, request 1).
+
+#![tactic(auto)]
+
 ghost use Rattle.std.specs.Prelude.{◌≡◌, ◌*◌, ◌%◌, ◌<◌, length, get_or};
 ghost use Rattle.std.proofs.lemmas.List.Edits.{sets};
 ghost use Rattle.model_sheet.specs.NamedWindows.{centre, named_of, bad_name, entries_of, window_named};

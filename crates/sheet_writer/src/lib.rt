@@ -1,5 +1,8 @@
 // Writing a chain sheet, line by line: a line's bytes are made by value, then laid into the lent output; those of an `09`
 // line are laid as they are made.
+
+#![tactic(auto)]
+
 mod skewed;
 
 ghost use Rattle.std.specs.Prelude.{◌≡◌, ◌+◌, ◌*◌, ◌/◌, ◌%◌, ◌≤◌, ◌<◌, length, take, get_or, pos};

@@ -1,4 +1,7 @@
 // The values of document 01: the blank chain, a chain with a field set, its request; what an answer and a refusal hold.
+
+#![tactic(auto)]
+
 ghost use Rattle.std.specs.Prelude.{◌≡◌};
 ghost use Rattle.model.specs.Answers.{number_of, answer_counts};
 ghost use Rattle.model.specs.Values.{dims_of, blank_chain, request_of, set_grid, set_window, set_bounds, set_capacities, set_order};

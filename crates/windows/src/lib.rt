@@ -1,5 +1,8 @@
 // Window arithmetic, on any value: offsets taken out of a window, compared and added; check 5, and the centre. Lows, and heights
 // above them, are in lows.rt. What a public function answers of what an array does not hold is fixed in specs/.
+
+#![tactic(auto)]
+
 pub mod lows;
 
 ghost use Rattle.std.specs.Prelude.{◌≡◌, ◌+◌, ◌≤◌, ◌<◌};

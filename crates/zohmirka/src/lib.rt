@@ -1,5 +1,8 @@
 // The functions for C and Rust. Numbers and slices go in; a slice is a pointer and a length. The rows of a skewed grid are
 // lent beside the words of its chain. No function has a `requires`. c/zohmirka.h says the same for C.
+
+#![tactic(auto)]
+
 ghost use Rattle.std.specs.Prelude.{◌≡◌};
 ghost use Rattle.zohmirka.specs.Calls.{version, written, plan_call, judge_call, run_sheet, run_chain, read_call};
 ghost use Rattle.zohmirka.specs.Calls.{judge_chain_call, write_call};

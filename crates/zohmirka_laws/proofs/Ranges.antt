@@ -110,14 +110,14 @@ below_product (s ∷ ss) e (suc d) =
     omega (arith, below_product ss h.1 d, mul-le-mul_right (product ss) l, one-mul (product ss))
 
 module _ (t : Trimmed) (ok : judged t ≡ verdict.Accepted) where
-  size_small : (sizes : List ℕ) → t.ground ≡ rectangle sizes → (d : ℕ) → Word (get_or sizes d 0)
+  size_small : (sizes : List ℕ) → t.the_ground ≡ rectangle sizes → (d : ℕ) → Word (get_or sizes d 0)
   unfolding judged bad_grid bad_sizes cell_count
   size_small sizes e d =
       let g = or-false (bad_dims t.dims) (bad_sizes sizes) (sym (ap (bad_ground t.dims) e) ∙ (value_passes t ok).window.grid) in
       let h = or-false (any (λ s. eqb s 0) sizes) (ltb most_cells (cell_count sizes)) g.1 in
       omega (arith, below_product sizes h.0 d, ltb-false most_cells (product sizes) h.1)
 
-  sizes_small : (g : Ground) → t.ground ≡ g → (d : ℕ) → Word (get_or (grid_of t.dims g).sizes d 0)
+  sizes_small : (g : Ground) → t.the_ground ≡ g → (d : ℕ) → Word (get_or (grid_of t.dims g).sizes d 0)
   unfolding grid_of
   sizes_small (rectangle sizes) e = each_tabulate Word 4 (λ d. get_or sizes d 0) 0 (size_small sizes e) (omega arith)
   sizes_small (skewed rs) e = each_tabulate Word 4 (λ d. get_or [] d 0) 0 (λ d. omega arith) (omega arith)
@@ -169,7 +169,7 @@ pub planned_range : (c : Chain) (rows : List ℕ) → Held c → judge_request (
 unfolding plan_of planned_chain chain_of judge_request sorted
 planned_range c rows held ok = rw ok
     (record {
-      sizes = sizes_small t ok t.ground refl;
+      sizes = sizes_small t ok t.the_ground refl;
       entries = each_tabulate Entry 128 (λ i. get_or (get_or (falling t.offsets) (i / 4) []) (i % 4) (pos 0)) (pos 0) (λ i. sorted_small t.offsets (request_small c rows held) (i / 4) (i % 4)) (omega arith);
       lowest = (request_bounds c rows held).0;
       highest = (request_bounds c rows held).1;

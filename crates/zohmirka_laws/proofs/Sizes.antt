@@ -111,7 +111,7 @@ judged_other : (c : Chain) (rows : List ℕ) → Other (verdict_number (judge_ch
 unfolding judge_chain judged window_checks kernel_checks chain_checks value_checks number_of
 judged_other c rows =
     first_other (value_checks (trimmed c rows))
-    (ground_other (trimmed c rows).ground, (λ e. omega arith, (λ e. omega arith, (λ e. omega arith, (λ e. omega arith, (λ e. omega arith, (λ e. omega arith, (λ e. omega arith, (λ e. omega arith, tt)))))))))
+    (ground_other (trimmed c rows).the_ground, (λ e. omega arith, (λ e. omega arith, (λ e. omega arith, (λ e. omega arith, (λ e. omega arith, (λ e. omega arith, (λ e. omega arith, (λ e. omega arith, tt)))))))))
 
 -- nor is a sheet.
 lines_other : (rows : List ℕ) (ls : List Line) (r : Reading) → Other (verdict_number (read_lines true rows r ls).verdict)

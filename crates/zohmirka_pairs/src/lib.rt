@@ -1,4 +1,7 @@
 // Two kernels on one chain for C and Rust: a chain, two windows and a state as words, the rows lent beside them.
+
+#![tactic(auto)]
+
 ghost use Rattle.std.specs.Prelude.{◌≡◌};
 ghost use Rattle.zohmirka_pairs.specs.PairWords.{plan_pair_words, run_pair_words};
 

@@ -1,4 +1,7 @@
 // What the functions for C and Rust answer, as numbers.
+
+#![tactic(auto)]
+
 ghost use Rattle.std.specs.Prelude.{◌≡◌};
 ghost use Rattle.model.specs.Answers.{verdict_number};
 ghost use Rattle.model.specs.declared.Answer.TheVariants.{Ended, Refused};

@@ -1,4 +1,7 @@
 // A run call on a chain and the rows lent beside it, with its state as words.
+
+#![tactic(auto)]
+
 ghost use Rattle.std.specs.Prelude.{◌≡◌};
 ghost use Rattle.zohmirka_runs.specs.Runs.{run_value};
 

@@ -1,4 +1,7 @@
 // A state, a chain, the rows beside it and a window of a pair as words (specs/Words.antt).
+
+#![tactic(auto)]
+
 ghost use Rattle.std.specs.Prelude.{◌≡◌, ◌+◌, ◌%◌, ◌≤◌, ◌<◌, length};
 ghost use Rattle.model.specs.Lists.{tabulate};
 ghost use Rattle.zohmirka_words.specs.Words.{word_at, state_in, state_into, kernel_words, box_word, chain_word, chain_into};
