@@ -31,7 +31,7 @@ module _ (L : Layout) where
   pub join : {s s' s'' : Counters} {t t' : ℕ} → Ran L s t s' → Ran L s' t' s'' → Ran L s (t + t') s''
   unfolding run
   join {t = zero} r r' = rw zero-add (rw r.state at r')
-  join {t = suc t} r r' = let u = unstep r in rw suc-add (step u.0 (join u.1 r'))
+  join {s} {t = suc t} r r' = let u = unstep r in rw suc-add (step u.0 (join {s = clock L s} {t = t} u.1 r'))
 
   -- Two runs from the same counters that have stopped are the same.
   pub stopped_same : {s s' s'' : Counters} {t t' : ℕ} → Ran L s t s' → live L s' ≡ false → Ran L s t' s'' → live L s'' ≡ false → (t ≡ t') × (s' ≡ s'')
@@ -39,7 +39,7 @@ module _ (L : Layout) where
   stopped_same {t = zero} {t' = zero} r d r' d' = (refl, r.state ∙ sym r'.state)
   stopped_same {t = zero} {t' = suc t'} r d r' d' = absurd (false≢true (sym d ∙ rw r.state (unstep r').0))
   stopped_same {t = suc t} {t' = zero} r d r' d' = absurd (false≢true (sym d' ∙ rw r'.state (unstep r).0))
-  stopped_same {t = suc t} {t' = suc t'} r d r' d' = let same = stopped_same (unstep r).1 d (unstep r').1 d' in (ap suc same.0, same.1)
+  stopped_same {s} {t = suc t} {t' = suc t'} r d r' d' = let same = stopped_same {s = clock L s} {t = t} {t' = t'} (unstep r).1 d (unstep r').1 d' in (ap suc same.0, same.1)
 
   run_still : (t : ℕ) (s : Counters) → live L s ≡ false → run L t s ≡ s
   unfolding run
@@ -73,4 +73,4 @@ module _ (L : Layout) where
   along P start kept {t = zero} r = rw r.state start
   along {s} P start kept {t = suc t} {s' = s''} r =
       let l = last t s s'' r in
-      rw l.3 (kept t l.0 l.1 l.2 (along P start kept l.1))
+      rw l.3 (kept t l.0 l.1 l.2 (along P start kept {t = t} l.1))
