@@ -55,7 +55,7 @@ module _ (t : Trimmed) where
       each = λ j h. (and-eq-true_iff _ _).1 (run.iterates t.the_ground t.offsets t.part f.suits j h, run.lies t.the_ground t.offsets t.part f.suits j h);
       no_other = λ v h. let (a, b) = (and-eq-true_iff (is_iteration_of t v) (in_part t.part v)).0 h in run.complete t.the_ground t.offsets t.part f.suits v a b;
       once = run.once t.the_ground t.offsets t.part f.suits;
-      in_order = run.in_order t.the_ground t.offsets t.part f.suits;
+      in_order = run.in_order_lem t.the_ground t.offsets t.part f.suits;
     }
 
   module _ (proper : Proper t) where
