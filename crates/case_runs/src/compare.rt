@@ -11,7 +11,7 @@ use std::num::wrapping_add_usize;
 
 // A run beside the nested loop: how many of its words are the loop's, the place of the next in the last call's output, and
 // whether all are.
-#[derive(Drop)]
+#[derive(Clone, Copy)]
 pub struct Compared {
     pub run: Run,
     pub words: usize,

@@ -15,7 +15,7 @@ use values::counts_of;
 
 // A run so far: its state, sums over its calls, how many words the last call wrote, and which outcomes were met; `broken` is
 // a refusal or a stall.
-#[derive(Drop)]
+#[derive(Clone, Copy)]
 pub struct Run {
     pub state: State,
     pub calls: usize,
@@ -31,7 +31,7 @@ pub struct Run {
 }
 
 // What a call is lent: at most `count` cells from number `from` on, at most `places` output places, and clocks.
-#[derive(Drop)]
+#[derive(Clone, Copy)]
 pub struct Share {
     pub from: usize,
     pub count: usize,
@@ -40,7 +40,7 @@ pub struct Share {
 }
 
 // The counts of a run's clocks before its first firing, and of the clock after them.
-#[derive(Drop)]
+#[derive(Clone, Copy)]
 pub struct FirstFiring {
     pub before: Counts,
     pub next: Counts,

@@ -150,7 +150,7 @@ fn judge_behind(
 
 // What judging a chain on a rectangle finds: the first of 3 to 9, 14 and 15 that turns it back, and, where 3 to 6 and 15 let
 // it pass, its centre and its shape.
-#[derive(Drop)]
+#[derive(Clone, Copy)]
 pub struct Examined {
     pub shape: Shape,
     pub centre: u8,

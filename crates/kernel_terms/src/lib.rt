@@ -23,7 +23,7 @@ pub fn width(k: Kernel, n: usize) -> usize
 }
 
 // Filter numbers in a table: the first `count` of it.
-#[derive(Drop)]
+#[derive(Clone, Copy)]
 pub struct Terms {
     pub filters: [u8; 32],
     pub count: usize,

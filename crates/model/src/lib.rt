@@ -3,16 +3,16 @@
 #![tactic(auto)]
 
 // Cells that passed a filter's splitter: its input counter.
-#[derive(Drop)]
+#[derive(Clone, Copy)]
 pub struct CellsPassed(pub u32);
 
 // Firings made: the output counter, one for all filters.
-#[derive(Drop)]
+#[derive(Clone, Copy)]
 pub struct FiringsMade(pub u32);
 
 // A grid: a rectangle by its first `dims` sizes, slowest dimension first; where it is skewed, `rows` rows, which are lent
 // beside it, each by its start and its length.
-#[derive(Drop)]
+#[derive(Clone, Copy)]
 pub struct Grid {
     pub skewed: bool,
     pub rows: u32,
@@ -21,24 +21,24 @@ pub struct Grid {
 }
 
 // A window of `count` references. Entry d of reference k's offset is offsets[4 * k + d].
-#[derive(Drop)]
+#[derive(Clone, Copy)]
 pub struct Window {
     pub count: u8,
     pub offsets: [i16; 128],
 }
 
 // An offset of a window that has a name, by its entries; of a window of two dimensions the third is 0.
-#[derive(Drop)]
+#[derive(Clone, Copy)]
 pub struct Triple(pub i16, pub i16, pub i16);
 
 // The two factors of a blend.
-#[derive(Drop)]
+#[derive(Clone, Copy)]
 pub struct Factors {
     pub a: f32,
     pub b: f32,
 }
 
-#[derive(Drop)]
+#[derive(Clone, Copy)]
 pub enum Kernel {
     Raw,
     Difference,
@@ -48,7 +48,7 @@ pub enum Kernel {
 
 // A smaller box: whether its line stood, and where it did, in each of the grid's dimensions the lowest and the highest index
 // of the iterations.
-#[derive(Drop)]
+#[derive(Clone, Copy)]
 pub struct Bounds {
     pub stood: bool,
     pub lowest: [i32; 4],
@@ -56,14 +56,14 @@ pub struct Bounds {
 }
 
 // One of two kernels on one chain: its own window, whose references are in its author's order, and the kernel.
-#[derive(Drop)]
+#[derive(Clone, Copy)]
 pub struct Side {
     pub window: Window,
     pub kernel: Kernel,
 }
 
 // What is to be planned.
-#[derive(Drop)]
+#[derive(Clone, Copy)]
 pub struct Request {
     pub grid: Grid,
     pub window: Window,
@@ -73,14 +73,14 @@ pub struct Request {
 
 // The author's order of terms: whether its line stood, and where it did, filters[t] is the filter that holds the author's
 // reference t.
-#[derive(Drop)]
+#[derive(Clone, Copy)]
 pub struct Order {
     pub stood: bool,
     pub filters: [u8; 32],
 }
 
 // A chain: reference k of the window is filter k's; FIFO k, between filters k and k + 1, has capacities[k] places.
-#[derive(Drop)]
+#[derive(Clone, Copy)]
 pub struct Chain {
     pub grid: Grid,
     pub window: Window,
@@ -91,14 +91,14 @@ pub struct Chain {
 }
 
 // Where a run stands. Counters past the chain's references play no part.
-#[derive(Drop)]
+#[derive(Clone, Copy)]
 pub struct State {
     pub passed: [CellsPassed; 32],
     pub fired: FiringsMade,
 }
 
 // What one call did.
-#[derive(Drop)]
+#[derive(Clone, Copy)]
 pub struct Counts {
     pub cells: u32,
     pub firings: u32,
@@ -106,7 +106,7 @@ pub struct Counts {
 }
 
 // How a call that is not refused ends.
-#[derive(Drop)]
+#[derive(Clone, Copy)]
 pub enum Outcome {
     Done(Counts),
     Spent(Counts),
@@ -135,7 +135,7 @@ pub const MOST_PLACES: usize = 16384;
 pub const ROW_NUMBERS: usize = 2 * MOST_ROWS as usize;
 
 // Why input is turned back, from number 1 to 16.
-#[derive(Drop)]
+#[derive(Clone, Copy)]
 pub enum Refusal {
     Malformed,
     Misplaced,
@@ -156,7 +156,7 @@ pub enum Refusal {
 }
 
 // What judging answers.
-#[derive(Drop)]
+#[derive(Clone, Copy)]
 pub enum Verdict {
     Accepted,
     Refused(Refusal),
@@ -164,7 +164,7 @@ pub enum Verdict {
 
 // What the three steps of planning give (document 003, section 3.3), of a grid, a window and a box that 3 to 6 and 15 let
 // pass; where one of these refuses, there is no reference, and the numbers are 0.
-#[derive(Drop)]
+#[derive(Clone, Copy)]
 pub struct Steps {
     pub verdict: Verdict,
     // The offsets sorted, and for each of the author's references the filter that holds it.
@@ -177,20 +177,20 @@ pub struct Steps {
 }
 
 // What planning answers; where it refuses, the chain is the blank one.
-#[derive(Drop)]
+#[derive(Clone, Copy)]
 pub struct Planned {
     pub verdict: Verdict,
     pub chain: Chain,
 }
 
 // What a run call answers.
-#[derive(Drop)]
+#[derive(Clone, Copy)]
 pub enum Answer {
     Ended(Outcome),
     Refused(Refusal),
 }
 
-#[derive(Drop)]
+#[derive(Clone, Copy)]
 pub struct Ran {
     pub answer: Answer,
     pub state: State,
@@ -204,7 +204,7 @@ pub const KEPT: usize = 40;
 // A line decoded as its characters arrive: the bytes that are kept, 0 past its end; how many it has, counted no further than
 // one past the longest `09` line; whether every character was a digit; and, where `half`, the digit `high` of a byte that is
 // not whole yet.
-#[derive(Drop)]
+#[derive(Clone, Copy)]
 pub struct Frame {
     pub first: [u8; KEPT],
     pub len: usize,
@@ -214,7 +214,7 @@ pub struct Frame {
 }
 
 // Which of a sheet's lines stood last: none, the grid's (`01` or `09`), or an `02`, `07`, `08`, `03`, `06` or `04` line.
-#[derive(Drop)]
+#[derive(Clone, Copy)]
 pub enum Last {
     Nothing,
     Grid,
@@ -227,7 +227,7 @@ pub enum Last {
 }
 
 // Where the reading of a sheet stands: what stood last; how many `03` lines were read; and the chain that holds what was read.
-#[derive(Drop)]
+#[derive(Clone, Copy)]
 pub struct Reading {
     pub last: Last,
     pub given: u8,
@@ -235,28 +235,28 @@ pub struct Reading {
 }
 
 // What reading one line answers; where it refuses, the reading stays as it was.
-#[derive(Drop)]
+#[derive(Clone, Copy)]
 pub struct LineStep {
     pub verdict: Verdict,
     pub reading: Reading,
 }
 
 // What reading a chain sheet answers; where it refuses, the chain is the blank one.
-#[derive(Drop)]
+#[derive(Clone, Copy)]
 pub struct ReadChain {
     pub verdict: Verdict,
     pub chain: Chain,
 }
 
 // What reading a request sheet answers; where it refuses, the request is the blank one.
-#[derive(Drop)]
+#[derive(Clone, Copy)]
 pub struct ReadRequest {
     pub verdict: Verdict,
     pub request: Request,
 }
 
 // What writing a chain sheet answers, and how many bytes it wrote.
-#[derive(Drop)]
+#[derive(Clone, Copy)]
 pub struct Wrote {
     pub verdict: Verdict,
     pub bytes: usize,
@@ -264,7 +264,7 @@ pub struct Wrote {
 
 // Where the reading of a sheet stands as its characters arrive: the verdict on the last line that was read, what was read,
 // and the line that is open, with whether it has a character.
-#[derive(Drop)]
+#[derive(Clone, Copy)]
 pub struct Arriving {
     pub verdict: Verdict,
     pub reading: Reading,
@@ -273,7 +273,7 @@ pub struct Arriving {
 }
 
 // The same where cells are read.
-#[derive(Drop)]
+#[derive(Clone, Copy)]
 pub struct CellLine {
     pub verdict: Verdict,
     pub frame: Frame,

@@ -35,7 +35,7 @@ fn result(x: f32) -> u32
 }
 
 // A sum so far, which begins with its first term.
-#[derive(Drop)]
+#[derive(Clone, Copy)]
 struct Sum {
     begun: bool,
     total: f32,

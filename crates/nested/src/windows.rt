@@ -5,7 +5,7 @@ ghost use Rattle.nested.specs.Nested.{flat_loops, solid_loops, small_loops, arou
 // A grid as the nested loop sees it, one plane where it has two dimensions; the iterations that it goes over, each index from
 // its first to before its end, and whether they are a box's; and which reference of the window is the centre, or their number
 // if none is.
-#[derive(Drop)]
+#[derive(Clone, Copy)]
 pub struct Loops {
     pub dims: u8,
     pub planes: usize,

@@ -8,7 +8,7 @@ use numbers::lesser;
 
 // How a window's words come from a row of the chain's: the filters that its kernel adds, in its author's order, the filter that
 // holds its centre, and the filters that raw writes, in chain order. A firing writes `width` words.
-#[derive(Drop)]
+#[derive(Clone, Copy)]
 pub(crate) struct Port {
     pub(crate) kernel: Kernel,
     pub(crate) centre: u8,

@@ -93,7 +93,7 @@ fn with_offset(to: [i16; 128], k: usize, o: [i16; 4], dims: usize) -> [i16; 128]
 }
 
 // Offsets that differ: how many, and the first 32 of them.
-#[derive(Drop)]
+#[derive(Clone, Copy)]
 pub(crate) struct Gathered {
     pub(crate) count: u8,
     pub(crate) offsets: [i16; 128],

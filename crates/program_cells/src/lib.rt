@@ -10,7 +10,7 @@ ghost use Rattle.program_cells.specs.Cells.{took, cells_taken};
 use model::{CellLine, Verdict};
 
 // Cells taken from a block, `count` of them; the line behind them, open or turned back; the place behind what was looked at.
-#[derive(Drop)]
+#[derive(Clone, Copy)]
 pub struct CellsTaken {
     pub line: CellLine,
     pub at: usize,

@@ -17,7 +17,7 @@ use values::counts_of;
 
 // What a step leaves: the job, the place in the block behind what was looked at, and how many characters of text are to be
 // written.
-#[derive(Drop)]
+#[derive(Clone, Copy)]
 pub struct Step {
     pub job: Job,
     pub at: usize,

@@ -11,7 +11,7 @@ ghost use Rattle.program_intake.specs.Taken.{started, longer, numbers_taken, bes
 use model::{Arriving, Frame, Last, LineStep, Refusal, Verdict};
 
 // A line taken from a block, or as much of it as the block has, and the place behind it.
-#[derive(Drop)]
+#[derive(Clone, Copy)]
 pub struct LineTaken {
     pub arriving: Arriving,
     pub at: usize,

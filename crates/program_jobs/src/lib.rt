@@ -10,7 +10,7 @@ use program_stages::Stage;
 
 // Where a run of the program stands: the sheet as it arrives; the run's state and clocks; the line that is open where cells
 // are read; and of the cells at hand those from `from` to before `count` that the run has not taken.
-#[derive(Drop)]
+#[derive(Clone, Copy)]
 pub struct Job {
     pub stage: Stage,
     pub arriving: Arriving,

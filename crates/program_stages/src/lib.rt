@@ -8,7 +8,7 @@ ghost use Rattle.program_stages.specs.Stages.{sheet_stage, cells_stage, answer_s
 use model::{Answer, Arriving, DONE_BYTE, Outcome, Refusal, STALLED_BYTE, Verdict};
 
 // What a run of the program `run` does next.
-#[derive(Drop)]
+#[derive(Clone, Copy)]
 pub enum Stage {
     // It reads lines of the chain sheet.
     Sheet,

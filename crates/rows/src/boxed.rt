@@ -12,7 +12,7 @@ use windows::lows::index_in;
 
 // In one dimension: the first index, counted from the first iteration, and how many there are; none where not all of them lie
 // among those below the extent.
-#[derive(Drop)]
+#[derive(Clone, Copy)]
 pub(crate) struct Span {
     pub(crate) first: u32,
     pub(crate) size: u32,
@@ -77,7 +77,7 @@ fn rows_hold(
 
 // A box: its first row and how many it has, its first column and how many it has; none where they do not all lie among the
 // indices of iterations.
-#[derive(Drop)]
+#[derive(Clone, Copy)]
 pub(crate) struct Placed {
     pub(crate) top: u32,
     pub(crate) height: u32,

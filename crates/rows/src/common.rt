@@ -32,7 +32,7 @@ pub(crate) fn start_of(count: u32, rows: &[u32], down: u32, u: usize) -> usize
 }
 
 // Columns: the first, and the first behind the last.
-#[derive(Drop)]
+#[derive(Clone, Copy)]
 pub(crate) struct Columns {
     pub(crate) start: usize,
     pub(crate) end: usize,

@@ -20,7 +20,7 @@ use numbers::{lesser, number_at, wide_usize};
 use windows::lows::{heights_in, low_in};
 
 // The iterations that a run on rows covers, row by row. Rows and columns of iterations are counted from the window's lows.
-#[derive(Drop)]
+#[derive(Clone, Copy)]
 pub struct RowCourse {
     // The first row, and how many there are.
     pub top: u32,
@@ -37,7 +37,7 @@ pub struct RowCourse {
 
 // What judging and running ask of a window on rows: the first of 16, 4, 5, 6 and 15 that turns them back, else the centre,
 // the cells, and the iterations that a run covers.
-#[derive(Drop)]
+#[derive(Clone, Copy)]
 pub struct RowSurvey {
     pub verdict: Verdict,
     pub centre: u8,

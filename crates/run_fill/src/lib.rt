@@ -311,7 +311,7 @@ fn lined(n: usize, at: &[usize; 32], ps: &[usize; 32]) -> bool
 }
 
 // Why the clocks stopped.
-#[derive(Drop)]
+#[derive(Clone, Copy)]
 pub enum Stop {
     Aligned,
     Spent,
@@ -319,7 +319,7 @@ pub enum Stop {
     Stalled,
 }
 
-#[derive(Drop)]
+#[derive(Clone, Copy)]
 struct Stopped {
     how: Stop,
     taken: usize,
@@ -607,7 +607,7 @@ fn bad_rings(
 
 // What the clocks leave: how they stopped, the cells that they took, how many they were, the counters, and whether each FIFO
 // is full.
-#[derive(Drop)]
+#[derive(Clone, Copy)]
 pub struct Filled {
     pub how: Stop,
     pub taken: usize,

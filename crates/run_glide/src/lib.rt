@@ -348,7 +348,7 @@ fn bad_rows(
 
 // ---- the clocks of aligned filters
 
-#[derive(Drop)]
+#[derive(Clone, Copy)]
 pub enum Way {
     Done,
     Spent,
@@ -356,7 +356,7 @@ pub enum Way {
     Full,
 }
 
-#[derive(Drop)]
+#[derive(Clone, Copy)]
 pub struct Slid {
     pub how: Way,
     pub clocks: usize,

@@ -308,7 +308,7 @@ fn take_up(
 // ---- the whole
 
 // What is found before the clocks: the verdict on the call and, where it accepts, the numbers that the clocks go by.
-#[derive(Drop)]
+#[derive(Clone, Copy)]
 pub struct Ready {
     pub verdict: Verdict,
     pub row: usize,

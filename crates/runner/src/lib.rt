@@ -45,7 +45,7 @@ fn advance(n: usize, m: usize, ps: &mut [usize; 32])
 // ---- a stretch of iterations, in which the filters stay aligned
 
 // Why the clocks of a stretch ended: the stretch is done, or the call ends.
-#[derive(Drop)]
+#[derive(Clone, Copy)]
 enum End {
     Done,
     Spent,
@@ -55,7 +55,7 @@ enum End {
 }
 
 // What they were: `taken` cells, `clocks` and `firings`.
-#[derive(Drop)]
+#[derive(Clone, Copy)]
 struct Stretched {
     end: End,
     taken: usize,
@@ -205,7 +205,7 @@ fn outcome_of(end: End, c: Counts) -> Outcome
 }
 
 // How a call ended, and the firings made since the state was fresh.
-#[derive(Drop)]
+#[derive(Clone, Copy)]
 struct Stopped {
     outcome: Outcome,
     fired: FiringsMade,

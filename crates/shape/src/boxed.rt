@@ -10,7 +10,7 @@ use windows::lows::index_in;
 
 // Where a box lies among the iterations: whether it does; in each dimension its first index, counted from the first
 // iteration, and how many it has.
-#[derive(Drop)]
+#[derive(Clone, Copy)]
 pub(crate) struct Placed {
     pub(crate) fits: bool,
     pub(crate) firsts: [u32; 4],

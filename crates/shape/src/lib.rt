@@ -19,7 +19,7 @@ use numbers::less_u32;
 use windows::lows::{height, lows_of, span_in};
 
 // A window on a grid as numbers. All are 0 where 3, 4 or 6 turns the two back.
-#[derive(Drop)]
+#[derive(Clone, Copy)]
 pub struct Shape {
     pub cells: u32,
     pub iterations: u32,
@@ -184,7 +184,7 @@ fn repeats_at(dims: u8, window: Window, at: &[u32; 32]) -> bool
 
 // What judging and running ask of a window on a grid: the first of 3 to 6 and 15 that turns them back, else the centre and
 // the shape of the iterations that a run covers.
-#[derive(Drop)]
+#[derive(Clone, Copy)]
 pub struct Survey {
     pub verdict: Verdict,
     pub centre: u8,

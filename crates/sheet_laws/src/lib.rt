@@ -3,7 +3,7 @@
 #![tactic(auto)]
 
 // Where a line of a chain sheet stands behind the grid's: in which section, and which of its lines it is.
-#[derive(Drop)]
+#[derive(Clone, Copy)]
 pub enum Part {
     Offset(usize),
     Box,

@@ -73,7 +73,7 @@ const CUBE_LESS_CORNERS: [Triple; 19] = [
 ];
 
 // How many dimensions and references a window has.
-#[derive(Drop)]
+#[derive(Clone, Copy)]
 struct Size {
     dims: u8,
     count: u8,

@@ -70,7 +70,7 @@ pub fn comes_before(a: [i16; 4], b: [i16; 4], dims: usize) -> bool
 }
 
 // The sum of two entries: whether 16 bits hold it, and the sum, 0 where they do not.
-#[derive(Drop)]
+#[derive(Clone, Copy)]
 pub(crate) struct AddedEntry {
     pub(crate) fits: bool,
     pub(crate) entry: i16,
@@ -97,7 +97,7 @@ fn add_entries(x: i16, y: i16) -> AddedEntry
 }
 
 // The sum of two offsets: whether 16 bits hold each of its entries, and the entries, 0 where they do not.
-#[derive(Drop)]
+#[derive(Clone, Copy)]
 pub struct Added {
     pub fits: bool,
     pub entries: [i16; 4],

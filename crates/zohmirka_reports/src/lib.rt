@@ -11,7 +11,7 @@ use model::{Counts, Outcome, Refusal, Verdict};
 
 // What planning answers: a refusal's number or 0, and how many bytes of the sheet were written.
 #[repr(C)]
-#[derive(Drop)]
+#[derive(Clone, Copy)]
 pub struct Sheet {
     pub refusal: u32,
     pub bytes: usize,
@@ -20,7 +20,7 @@ pub struct Sheet {
 // What a run call answers: a refusal's number or 0; the outcome, 0 Done, 1 Spent, 2 Starved, 3 Stalled, 4 Full, and 5 after a
 // refusal; and the call's counts.
 #[repr(C)]
-#[derive(Drop)]
+#[derive(Clone, Copy)]
 pub struct Report {
     pub refusal: u32,
     pub outcome: u32,
