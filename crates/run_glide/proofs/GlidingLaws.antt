@@ -106,7 +106,7 @@ module _ (L : Layout) (write : List ℕ → List ℕ) (kernel : Kernel) (ts : Li
     pub glide_start : (full : Bool) (first position wait left : ℕ) → Starts full n row fired₀ first position wait left at wants caps passed
         → Glide us₀ (heads full us₀ gs₀) store₀ out₀ fired₀ wait left 0 0
     glide_start full first position wait left S =
-        gliding_start _ _ _ _ _ _ _ _ _ _ _ _ _ _ _ _ _ _ _ _ G.tables G.stands G.rows G.rings full S.Full-is wait left S.left_is
+        gliding_start _ _ _ _ _ _ _ _ _ _ _ _ _ _ _ _ _ _ _ _ G.tables G.stands G.rows G.rings full S.full_is wait left S.left_is
         (λ _. omega (arith, wait_there, G.wanted, S.wait_is))
 
     module _ (us gs store out : List ℕ) (fired wait left taken o : ℕ) (s : Glide us gs store out fired wait left taken o) where
