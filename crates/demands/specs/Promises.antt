@@ -91,7 +91,8 @@ pub record SameStart (p q : ListOfCalls) : Type 0 where
 pub record Split (p q : ListOfCalls) : Type 0 where
   pub counters : SameRun p q → clocks_made (runs_of p) ≡ clocks_made (runs_of q)
       → counters_of (chain_in p).count (handed_on p).state ≡ counters_of (chain_in q).count (handed_on q).state
-  pub firings : SameRun p q → clocks_made (runs_of p) ≡ clocks_made (runs_of q) → firings_made (runs_of p) ≡ firings_made (runs_of q)
+  pub firings : SameRun p q → clocks_made (runs_of p) ≡ clocks_made (runs_of q)
+      → firings_made (runs_of p) ≡ firings_made (runs_of q)
   pub words : SameRun p q → clocks_made (runs_of p) ≡ clocks_made (runs_of q)
       → all_words (chain_in p) p.stream p.calls p.start ≡ all_words (chain_in q) q.stream q.calls q.start
   pub handed_on_lem : SameRun p q → SameStart p q → clocks_made (runs_of p) ≡ clocks_made (runs_of q) → handed_on p ≡ handed_on q

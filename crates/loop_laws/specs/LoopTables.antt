@@ -10,7 +10,8 @@ use Rattle.loop_laws.specs.Standings.{counting}
 -- m dimensions from d on, how many iterations and how many places one index there is.
 unfoldable pub walked : (spans strides : List ℕ) (m d j : ℕ) → ℕ
 walked spans strides zero d j = 0
-walked spans strides (suc m) d j = j / get_or spans d 0 * get_or strides d 0 + walked spans strides m (suc d) (j % get_or spans d 0)
+walked spans strides (suc m) d j =
+    j / get_or spans d 0 * get_or strides d 0 + walked spans strides m (suc d) (j % get_or spans d 0)
 
 -- The tables of n filters: in iteration f reference k reads `at k` plus the walk to f.
 pub record Tables (L : Layout) (walk : ℕ → ℕ) (n cells iterations : ℕ) (at caps bases : List ℕ) : Type 0 where

@@ -37,7 +37,8 @@ gets_on (suc i) bases tops gets = set gets i (step (get_or bases i 0) (get_or to
 -- Filter k, of n, has put the word x into the FIFO behind it; there is none behind the last.
 pub record PutOn (n k x : ℕ) (bases tops puts puts' store store' : List ℕ) : Type 0 where
   pub inner : k + 1 < n
-      → (puts' ≡ set puts k (step (get_or bases k 0) (get_or tops k 0) (get_or puts k 0))) × (store' ≡ set store (get_or puts k 0) x)
+      → (puts' ≡ set puts k (step (get_or bases k 0) (get_or tops k 0) (get_or puts k 0)))
+      × (store' ≡ set store (get_or puts k 0) x)
   pub last : n ≤ k + 1 → (puts' ≡ puts) × (store' ≡ store)
 
 -- What the splitters' turns are handed: counters, ring places and a store whose FIFOs have c's capacities.

@@ -49,7 +49,8 @@ unfoldable pub common_end : List Row → List (List ℤ) → ℕ → ℕ
 common_end rs offsets u = smallest (map (λ o. end (row_read rs offsets u o) - columns_on offsets o) offsets)
 
 unfoldable pub common_row : List Row → List (List ℤ) → ℕ → Row
-common_row rs offsets u = record { start = common_start rs offsets u; length = common_end rs offsets u - common_start rs offsets u }
+common_row rs offsets u =
+    record { start = common_start rs offsets u; length = common_end rs offsets u - common_start rs offsets u }
 
 -- All iterations: counted from the negated lows.
 unfoldable pub all_iterations : Ground → List (List ℤ) → Course

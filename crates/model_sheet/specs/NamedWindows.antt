@@ -93,7 +93,8 @@ cube_less_corners =
 
 -- "The offsets come from a fixed list of windows, each in falling order."
 unfoldable pub windows : List Named
-windows = named 2 five_point_cross ∷ named 2 four_neighbours ∷ named 2 square ∷ named 3 seven_point_cross ∷ named 3 cube_less_corners
+windows =
+    named 2 five_point_cross ∷ named 2 four_neighbours ∷ named 2 square ∷ named 3 seven_point_cross ∷ named 3 cube_less_corners
     ∷ []
 
 -- The bytes 01 to 05 are names; any other has a window without references.

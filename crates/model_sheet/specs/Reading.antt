@@ -190,7 +190,8 @@ unfoldable pub lowest_in : List ℕ → List ℤ
 lowest_in x = signed_word (word_at x 1) ∷ signed_word (word_at x 9) ∷ signed_word (word_at x 17) ∷ signed_word (word_at x 25) ∷ []
 
 unfoldable pub highest_in : List ℕ → List ℤ
-highest_in x = signed_word (word_at x 5) ∷ signed_word (word_at x 13) ∷ signed_word (word_at x 21) ∷ signed_word (word_at x 29) ∷ []
+highest_in x =
+    signed_word (word_at x 5) ∷ signed_word (word_at x 13) ∷ signed_word (word_at x 21) ∷ signed_word (word_at x 29) ∷ []
 
 -- An `08` line: the box.
 unfoldable pub with_box : Reading → List ℕ → Reading

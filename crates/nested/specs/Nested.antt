@@ -78,7 +78,8 @@ read_by l window cells z y x k =
 unfoldable pub gathered : Loops → (window cells : List ℕ) (z y x k n : ℕ) → List ℕ → List ℕ
 gathered l window cells z y x k zero ws = ws
 gathered l window cells z y x k (suc n) ws =
-    cond (leb (length window) (4 * k + 2)) ws (gathered l window cells z y x (suc k) n (set ws k (read_by l window cells z y x k)))
+    cond (leb (length window) (4 * k + 2)) ws (gathered l window cells z y x
+    (suc k) n (set ws k (read_by l window cells z y x k)))
 
 -- Word i, one of 32, stands in `out`, where the words stand from place `at` to before `end`.
 unfoldable pub stands : (words out : List ℕ) (at end i : ℕ) → Bool

@@ -134,7 +134,8 @@ pub record PairDemands : Type 0 where
       → (s : State) (store lent first second first' second' : List ℕ) (allowance : ℕ)
       → Unfull (pair_run (chain_of_pair p) (first_own p) (second_own p) s store lent first second allowance)
       → Unfull (pair_run (chain_of_pair q) (first_own q) (second_own q) s store lent first' second' allowance)
-      → Independent (chain_of_pair p) (first_own p) (second_own p) (first_own q) (second_own q) s store lent first second first' second'
+      → Independent (chain_of_pair p) (first_own p) (second_own p) (first_own q) (second_own q)
+      s store lent first second first' second'
       allowance
   pub twice : (p : Pair) → second_own p ≡ first_own p → (s : State) (store lent first second : List ℕ) (allowance : ℕ)
       → Twice (chain_of_pair p) (first_own p) s store lent first second allowance
@@ -143,6 +144,8 @@ pub record PairDemands : Type 0 where
       → run_pair t a b s store lent first second allowance ≡ run_pair (raw_of t) a b s store lent first second allowance
   -- In every iteration the words are those of the window's author's own loop.
   pub loop_first : (p : Pair) (stream : ℕ → ℕ) (j : ℕ)
-      → own_words (chain_of_pair p) (first_own p) (read_in (chain_of_pair p) stream j) ≡ own_loop (chain_of_pair p) (first_own p) stream j
+      → own_words (chain_of_pair p) (first_own p) (read_in (chain_of_pair p) stream j)
+      ≡ own_loop (chain_of_pair p) (first_own p) stream j
   pub loop_second : (p : Pair) (stream : ℕ → ℕ) (j : ℕ)
-      → own_words (chain_of_pair p) (second_own p) (read_in (chain_of_pair p) stream j) ≡ own_loop (chain_of_pair p) (second_own p) stream j
+      → own_words (chain_of_pair p) (second_own p) (read_in (chain_of_pair p) stream j)
+      ≡ own_loop (chain_of_pair p) (second_own p) stream j

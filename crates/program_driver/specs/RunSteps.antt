@@ -135,7 +135,8 @@ advanced_by stage.Cells j block at rows store cells words text = cells_read j bl
 advanced_by stage.Clocks j block at rows store cells words text = ran_on j at rows store cells words text
 advanced_by (stage.Ending way) j block at rows store cells words text = last_line j (framed (end_line way j.clocks)) at rows
     store cells words text
-advanced_by (stage.Refusing x) j block at rows store cells words text = last_line j (refusal_text x) at rows store cells words text
+advanced_by (stage.Refusing x) j block at rows store cells words text =
+    last_line j (refusal_text x) at rows store cells words text
 advanced_by stage.Over j block at rows store cells words text = left (record { job = j; at = at; bytes = 0 }) rows store cells
     words text
 

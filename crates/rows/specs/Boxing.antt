@@ -30,7 +30,8 @@ placed_by count l k h i low_row low_column =
 
 abbrev pub placed_in : (count : ℕ) (lowest highest : List ℤ) (low_row low_column : ℤ) → Placed
 placed_in count lowest highest low_row low_column =
-    placed_by count (get_or lowest 0 (pos 0)) (get_or lowest 1 (pos 0)) (get_or highest 0 (pos 0)) (get_or highest 1 (pos 0)) low_row
+    placed_by count (get_or lowest 0 (pos 0)) (get_or lowest 1 (pos 0)) (get_or highest 0 (pos 0))
+    (get_or highest 1 (pos 0)) low_row
     low_column
 
 -- The box lies among the iterations.

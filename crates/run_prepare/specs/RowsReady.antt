@@ -56,7 +56,8 @@ pub record RowTables (c : Chain) (rows : List ℕ) (s : RowSurvey) (above iterat
   pub iterations_above_lem : parts.Filled 513 0 (lengths_above (row_length (rows_of c.grid.rows rows) s.course))
       (s.course.height + 1) iterations
   pub caps_are : (k : ℕ) → suc k < c.window.count → get_or caps k 0 ≡ get_or (trimmed c rows).capacities k 0
-  pub bases_are : (k : ℕ) → suc k < c.window.count → get_or bases k 0 ≡ first_place (λ i. get_or (trimmed c rows).capacities i 0) k
+  pub bases_are : (k : ℕ) → suc k < c.window.count → get_or bases k 0
+      ≡ first_place (λ i. get_or (trimmed c rows).capacities i 0) k
   pub tops_are : (k : ℕ) → suc k < c.window.count → get_or tops k 0 ≡ get_or bases k 0 + get_or caps k 0
   pub iterations_are : s.iterations ≡ iterations_of (trimmed c rows)
   pub cells_are : s.cells ≡ cells_of (trimmed c rows)

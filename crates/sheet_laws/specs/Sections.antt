@@ -35,7 +35,8 @@ unfoldable pub offset_row : Window → ℕ → List ℕ
 offset_row w k =
     2
     ∷ (half_bytes (pattern (entry_of w k 0))
-    ++ (half_bytes (pattern (entry_of w k 1)) ++ (half_bytes (pattern (entry_of w k 2)) ++ half_bytes (pattern (entry_of w k 3)))))
+    ++ (half_bytes (pattern (entry_of w k 1)) ++ (half_bytes (pattern (entry_of w k 2))
+    ++ half_bytes (pattern (entry_of w k 3)))))
 
 unfoldable pub box_row : Bounds → List ℕ
 box_row b = 8 ∷ (index_pair b 0 ++ (index_pair b 1 ++ (index_pair b 2 ++ index_pair b 3)))

@@ -41,7 +41,8 @@ pub record PairRuns : Type 0 where
 module _ (state store cells out_first out_second : List ℕ) (allowance : ℕ) where
   unfoldable pub run_pair_words : (chain rows first second : List ℕ) → PairRuns
   run_pair_words chain rows first second =
-      let ran = run_pair_of (chain_in chain) rows (side_in first) (side_in second) (state_in state) store cells out_first out_second
+      let ran = run_pair_of (chain_in chain) rows (side_in first) (side_in second) (state_in state)
+      store cells out_first out_second
       allowance in
       record {
         report = report_of ran.answer;
