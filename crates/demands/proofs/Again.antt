@@ -9,7 +9,7 @@ use native.Mathlib.Omega.{arith}
 use lib.Dec.{ltb}
 use lib.ListN.{length, take}
 use borrow.Author.Tests.{le-ltb}
-use Rattle.model.specs.Values.{Trimmed, trimmed}
+use Rattle.model.specs.Values.{Trimmed}
 use Rattle.model.specs.Answers.{no_counts}
 use Rattle.model_run.specs.Clock.{Counters, moves}
 use Rattle.model_run.specs.Running.{layout, Standing, Ending, Done, Spent, Starved, Stalled, Full, ends, outcome_of, short_store, begun, written_by, width_of, Run}

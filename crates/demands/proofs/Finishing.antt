@@ -5,7 +5,6 @@ use mathlib.Core.List.{List, []}
 use mathlib.Core.Path.{◌≡◌, sym, ◌∙◌}
 use native.Mathlib.Decide.{dec_lt}
 use native.Mathlib.Omega.{arith}
-use Rattle.model.specs.Values.{trimmed}
 use Rattle.model.specs.Iterations.{iterations_of}
 use Rattle.model_run.specs.Running.{layout}
 use Rattle.model_run.specs.CallLists.{Lending, Between, LentEnough, call_run, firings_among}

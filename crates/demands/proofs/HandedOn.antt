@@ -7,7 +7,6 @@ use native.Mathlib.Nat.{zero-add, add-zero}
 use native.Mathlib.Omega.{arith}
 use lib.ListN.{get_or, replicate}
 use Rattle.model.specs.Lists.{tabulate, sum}
-use Rattle.model.specs.Values.{trimmed}
 use Rattle.model.specs.Answers.{answer_counts}
 use Rattle.model_run.specs.Clock.{Counters, first, fresh}
 use Rattle.model_run.specs.Running.{layout, counters_of, Run}

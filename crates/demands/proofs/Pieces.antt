@@ -7,7 +7,7 @@ use mathlib.Core.Path.{◌≡◌, refl, sym, ◌∙◌, ap, ap₂, subst}
 use native.Mathlib.Omega.{arith}
 use lib.ListN.{length, length-append}
 use Rattle.model.specs.Lists.{sum}
-use Rattle.model.specs.Values.{Trimmed, trimmed}
+use Rattle.model.specs.Values.{Trimmed}
 use Rattle.model_run.specs.Clock.{Layout, Counters, fresh}
 use Rattle.model_run.specs.Running.{layout, counters_of, Done, Stalled, outcome_of}
 use Rattle.model_run.specs.CallLists.{Lending, Between, call_run, call_events, after, after_all, runs, clocks_made, firings_made}

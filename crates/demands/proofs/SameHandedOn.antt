@@ -6,7 +6,7 @@ use mathlib.Core.Path.{◌≡◌, refl, sym, ◌∙◌, ap, ap₂}
 use native.Mathlib.Omega.{arith}
 use lib.ListN.{length, get_or, take, drop, take-append-drop, length-append, length-map}
 use Rattle.model.specs.Lists.{tabulate}
-use Rattle.model.specs.Values.{Trimmed, trimmed}
+use Rattle.model.specs.Values.{Trimmed}
 use Rattle.model_run.specs.Clock.{Layout, Counters, first, next}
 use Rattle.model_run.specs.Store.{first_place, stored}
 use Rattle.model_run.specs.Running.{layout, counters_of, with_counters, Standing, goes, call, events, clocked, short_store, begun, written_by, width_of}

@@ -4,7 +4,6 @@ use mathlib.Core.Bool.{Bool}
 use mathlib.Core.List.{List, [], ◌∷◌, ◌++◌}
 use mathlib.Core.Path.{◌≡◌, refl, ◌∙◌, ap, ap₂}
 use Rattle.model.specs.Lists.{sum}
-use Rattle.model.specs.Values.{trimmed}
 use Rattle.model_run.specs.CallLists.{Lending, Between, call_run, after, runs, all_words, firings_made, firings_among}
 use Rattle.model_run.specs.Reports.{firings_of}
 use Rattle.demands.specs.Demand3.{ListOfCalls, runs_of, chain_in}

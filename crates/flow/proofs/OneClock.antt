@@ -5,7 +5,7 @@ use mathlib.Core.Path.{◌≡◌, ◌∙◌, ap}
 use native.Mathlib.Omega.{arith}
 use native.Mathlib.Decide.{dec_lt, le_ind}
 use Rattle.model.specs.Lists.{tabulate}
-use Rattle.model_run.specs.Clock.{Layout, Counters, fires, next, fresh}
+use Rattle.model_run.specs.Clock.{Layout, Counters, next, fresh}
 use Rattle.grid_laws.proofs.ListLaws.{length_tabulate, get_d_tabulate, greatest_above, greatest_stands}
 use Rattle.flow.specs.Machine.{live, Ran, Firing, Lawful, Flows, Invariant, Fires, past}
 use Rattle.flow.specs.Pace.{clock_at, since}

@@ -1,5 +1,5 @@
 -- The two listings that document 01 prints, and other short inputs of the programs with what they write, by computation.
-use Rattle.std.specs.Prelude.{◌+◌, ◌≡◌, refl, Bool, true, ◌&&◌}
+use Rattle.std.specs.Prelude.{◌≡◌, refl, Bool, true, ◌&&◌}
 use Prim.Native.String.{String, ◌++◌}
 use mathlib.Core.List.{List, [], ◌∷◌, flat_map}
 use Rattle.std.specs.Float.Ieee.{of_bits, to_bits, add, sub, mul}

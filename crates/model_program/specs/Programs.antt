@@ -1,5 +1,5 @@
 -- What the two programs write (document 01, "Lines of the sheet").
-use Rattle.std.specs.Prelude.{ℕ, zero, suc, ◌+◌, ◌*◌, true, cond, take, drop, replicate}
+use Rattle.std.specs.Prelude.{ℕ, zero, suc, ◌*◌, true, cond, take, drop, replicate}
 use mathlib.Core.List.{List, [], ◌∷◌, ◌++◌, flat_map}
 use Rattle.model.specs.Lists.{sum}
 use Rattle.model.specs.Values.{Trimmed, trimmed}

@@ -18,7 +18,7 @@ use Rattle.model.specs.Answers.{first_of, answer_counts}
 use Rattle.model.specs.Steps.{which_of}
 use Rattle.model_run.specs.Kernels.{words_at}
 use Rattle.model_run.specs.Clock.{Layout, fires}
-use Rattle.model_run.specs.Running.{layout, with_counters, Standing, Ending, Full, ends, Ended, outcome_of, begun, written_by, width_of, short_store, judge_run, ended, run_trimmed}
+use Rattle.model_run.specs.Running.{layout, with_counters, Standing, Ending, Full, ends, outcome_of, begun, written_by, width_of, short_store, judge_run, ended, run_trimmed}
 use Rattle.model.specs.declared.State.{State}
 use Rattle.model.specs.declared.Counts.{Counts}
 use Rattle.model.specs.declared.Verdict.{Verdict}

@@ -12,7 +12,7 @@ use Rattle.model.specs.Values.{Trimmed, trimmed}
 use Rattle.model.specs.Iterations.{iterations_of, reads_of, position_of, iteration_of, course_of}
 use Rattle.model.specs.Answers.{answer_counts}
 use Rattle.model.specs.Judging.{judged, judge_chain}
-use Rattle.model_run.specs.Clock.{Layout, first, fresh}
+use Rattle.model_run.specs.Clock.{Layout, first}
 use Rattle.model_run.specs.Running.{layout, with_counters, Standing, Ended, outcome_of, short_store, begun, call, events, Run}
 use Rattle.model_run.specs.CallLists.{Lending, Between, Fresh, lent_cells, call_run, call_events, after, after_all, runs, firings_made, firings_among}
 use Rattle.model_run.specs.Reports.{firings_of}
@@ -22,12 +22,11 @@ use Rattle.model.specs.declared.State.{State}
 use Rattle.grid_laws.proofs.ListLaws.{tabulate_same}
 use Rattle.grid_laws.proofs.CheckLaws.{some_references}
 use Rattle.flow.specs.Machine.{Lawful}
-use Rattle.run_laws.specs.Accepted.{Accepted}
 use Rattle.run_laws.proofs.Accepts.{trimmed_proper, accepted}
 use Rattle.run_laws.proofs.Layouts.{lawful, wants_read}
 use Rattle.run_laws.proofs.Traces.{traced_fired}
 use Rattle.run_laws.proofs.Calls.{firing_words, Sound, Wrote, wrote, call_sound, counted}
-use Rattle.run_laws.proofs.Between.{Setting, Reached, now, beginning, ending, clocks, only_10, sound_start, lent_words, after_reached, fresh_reached, reached_fired}
+use Rattle.run_laws.proofs.Between.{Setting, Reached, now, beginning, only_10, sound_start, lent_words, after_reached, fresh_reached, reached_fired}
 use Rattle.run_laws.proofs.CallEnds.{outcome_counts_lem}
 use Rattle.run_laws.proofs.Words.{fired_after}
 use Rattle.demands.specs.Demand3.{ListOfCalls}
