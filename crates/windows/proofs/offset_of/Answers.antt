@@ -1,0 +1,10 @@
+use Rattle.geometry.proofs.EntryLaws.{entry_back}
+use Rattle.windows.proofs.OffsetLaws.{no_offset, offset_there}
+use Rattle.windows.proofs.offset_of.Goals as goal
+
+pub returns-then-k-ge32 : goal.returns-then-k-ge32
+returns-then-k-ge32 c = no_offset c.args.offsets.now c.args.k c.if-k-ge32.true
+
+pub returns : goal.returns
+returns c =
+    offset_there c.args.offsets.now c.args.k _ _ _ _ c.if-k-ge32.false (entry_back _ c.w-1.given) (entry_back _ c.x-1.given) (entry_back _ c.y-1.given) (entry_back _ c.z-1.given)
