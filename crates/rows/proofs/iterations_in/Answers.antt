@@ -19,12 +19,11 @@ pub overflow_add-iterations : goal.overflow_add-iterations
 overflow_add-iterations c = omega (arith, most c, c.loop-u.invariant.1)
 
 pub loop-u-preserved : goal.loop-u-preserved
-loop-u-preserved c =
-    (
-      omega arith,
-      omega (arith, c.loop-u.invariant.1, most c),
-      ap₂ ◌+◌ c.length_in-iterations.ensures c.loop-u.invariant.2 ∙ sum_back (length_in (rows_of c.args.count c.args.rows.now) c.args.down.now c.args.on.now c.args.n) c.loop-u.u c.args.count (omega arith) c.loop-u.invariant.0,
-    )
+loop-u-preserved c = (
+  omega arith,
+  omega (arith, c.loop-u.invariant.1, most c),
+  ap₂ ◌+◌ c.length_in-iterations.ensures c.loop-u.invariant.2 ∙ sum_back (length_in (rows_of c.args.count c.args.rows.now) c.args.down.now c.args.on.now c.args.n) c.loop-u.u c.args.count (omega arith) c.loop-u.invariant.0,
+)
 
 pub returns : goal.returns
 returns c =

@@ -10,11 +10,10 @@ pub place_of-requires : goal.place_of-requires
 place_of-requires c = (omega arith, omega arith, c.requires.2 c.loop-k.k c.loop-k-test.true)
 
 pub loop-k-preserved : goal.loop-k-preserved
-loop-k-preserved c =
-    (
-      omega arith,
-      filled_more 32 0 (place_by c.args.dims c.args.lows.now c.args.strides.now c.args.offsets.now) c.loop-k.k c.loop-k.at _ (omega arith) c.place_of.ensures c.loop-k.invariant.1,
-    )
+loop-k-preserved c = (
+  omega arith,
+  filled_more 32 0 (place_by c.args.dims c.args.lows.now c.args.strides.now c.args.offsets.now) c.loop-k.k c.loop-k.at _ (omega arith) c.place_of.ensures c.loop-k.invariant.1,
+)
 
 pub returns : goal.returns
 returns c =

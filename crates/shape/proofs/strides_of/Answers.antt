@@ -9,11 +9,10 @@ pub loop-d-init : goal.loop-d-init
 loop-d-init c = (omega arith, filled_none 4 0 (λ i. product (part (number_at c.args.sizes.now) (i + 1) c.args.dims)))
 
 pub loop-d-preserved : goal.loop-d-preserved
-loop-d-preserved c =
-    (
-      omega arith,
-      filled_more 4 0 (λ i. product (part (number_at c.args.sizes.now) (i + 1) c.args.dims)) c.loop-d.d c.loop-d.strides _ (omega arith) c.product.ensures c.loop-d.invariant.1,
-    )
+loop-d-preserved c = (
+  omega arith,
+  filled_more 4 0 (λ i. product (part (number_at c.args.sizes.now) (i + 1) c.args.dims)) c.loop-d.d c.loop-d.strides _ (omega arith) c.product.ensures c.loop-d.invariant.1,
+)
 
 pub returns : goal.returns
 returns c =

@@ -29,11 +29,10 @@ pub shape_in-shape-requires : goal.shape_in-shape-requires
 shape_in-shape-requires c = (good-grid (goal.at.shape_in-shape-requires c).Else-bad_count, good-count (goal.at.shape_in-shape-requires c).Else-bad_count)
 
 pub repeats_at-requires : goal.repeats_at-requires
-repeats_at-requires c =
-    (
-      few_references c.args.window (good-count (goal.at.repeats_at-requires c).Else-bad_count),
-      fallen_differ c.args.grid c.args.window (good-grid (goal.at.repeats_at-requires c).Else-bad_count) (good-count (goal.at.repeats_at-requires c).Else-bad_count) c.shape_in-shape.result c.shape_in-shape.ensures,
-    )
+repeats_at-requires c = (
+  few_references c.args.window (good-count (goal.at.repeats_at-requires c).Else-bad_count),
+  fallen_differ c.args.grid c.args.window (good-grid (goal.at.repeats_at-requires c).Else-bad_count) (good-count (goal.at.repeats_at-requires c).Else-bad_count) c.shape_in-shape.result c.shape_in-shape.ensures,
+)
 
 pub returns-then-repeats_at : goal.returns-then-repeats_at
 returns-then-repeats_at c =

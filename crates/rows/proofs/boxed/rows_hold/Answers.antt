@@ -16,12 +16,11 @@ returns-then-c-right c =
     (λ e. absurd (false≢true e), λ _ s. absurd (omega (arith, c.columns_in-c.ensures.1, (s c.loop-u.u c.loop-u.invariant.0 c.loop-u-test.true).1)))
 
 pub loop-u-preserved : goal.loop-u-preserved
-loop-u-preserved c =
-    (
-      omega arith,
-      spans_more (rows_of c.args.count c.args.rows.now) c.args.down.now c.args.on.now c.args.n c.args.from c.loop-u.u c.args.left c.args.right c.loop-u.invariant.1
-          (omega (arith, c.if-left-c.false, c.columns_in-c.ensures.0)) (omega (arith, c.if-c-right.false, c.columns_in-c.ensures.1)),
-    )
+loop-u-preserved c = (
+  omega arith,
+  spans_more (rows_of c.args.count c.args.rows.now) c.args.down.now c.args.on.now c.args.n c.args.from c.loop-u.u c.args.left c.args.right c.loop-u.invariant.1
+      (omega (arith, c.if-left-c.false, c.columns_in-c.ensures.0)) (omega (arith, c.if-c-right.false, c.columns_in-c.ensures.1)),
+)
 
 pub returns : goal.returns
 returns c =

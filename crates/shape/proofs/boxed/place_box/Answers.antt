@@ -18,13 +18,12 @@ use Rattle.shape.proofs.boxed.place_box.Goals as goal
 use Rattle.shape.proofs.boxed.place_box.Goals.{After-index_in-last}
 
 pub loop-d-init : goal.loop-d-init
-loop-d-init c =
-    (
-      omega arith,
-      λ i h. absurd (omega arith),
-      filled_none 4 0 (first_at c.args.bounds.lowest c.args.bounds.highest c.args.lows.now c.args.extents.now),
-      filled_none 4 0 (λ i. last_at c.args.bounds.lowest c.args.bounds.highest c.args.lows.now c.args.extents.now i - first_at c.args.bounds.lowest c.args.bounds.highest c.args.lows.now c.args.extents.now i + 1),
-    )
+loop-d-init c = (
+  omega arith,
+  λ i h. absurd (omega arith),
+  filled_none 4 0 (first_at c.args.bounds.lowest c.args.bounds.highest c.args.lows.now c.args.extents.now),
+  filled_none 4 0 (λ i. last_at c.args.bounds.lowest c.args.bounds.highest c.args.lows.now c.args.extents.now i - first_at c.args.bounds.lowest c.args.bounds.highest c.args.lows.now c.args.extents.now i + 1),
+)
 
 -- What was found of dimension d.
 module _ (t : After-index_in-last) where
@@ -85,7 +84,7 @@ each t r i h (no e) = t.loop-d.invariant.1 i (omega arith)
 
 pub loop-d-preserved : goal.loop-d-preserved
 loop-d-preserved c =
-        let a = c.args in (
+    let a = c.args in (
       omega arith,
       λ i h. each (goal.at.loop-d-preserved c).After-index_in-last (record { first = omega (arith, first-is (goal.at.loop-d-preserved c).After-index_in-last, c.if-extent-first.false); last = omega (arith, last-is (goal.at.loop-d-preserved c).After-index_in-last, c.if-extent-last.false); rises = omega (arith, first-is (goal.at.loop-d-preserved c).After-index_in-last, last-is (goal.at.loop-d-preserved c).After-index_in-last, c.if-last-first.false) }) i h (ℕ_discrete i c.loop-d.d),
       filled_more 4 0 (first_at a.bounds.lowest a.bounds.highest a.lows.now a.extents.now) c.loop-d.d c.loop-d.firsts _ (omega arith) (first-is (goal.at.loop-d-preserved c).After-index_in-last) c.loop-d.invariant.2,
