@@ -7,9 +7,11 @@ mod cells;
 mod maps;
 mod report;
 
-fn main() {
+use std::io;
+
+fn main(rt: HostRuntime) -> io::Result<()> {
     let mut cells = [0u32; 786432];
     let mut out = [0u32; 786432];
     cells::fill(&mut cells);
-    report::cases(&cells, &mut out);
+    report::cases(&rt, &cells, &mut out)
 }

@@ -1,37 +1,28 @@
 // What is written of each case.
 use crate::maps::{COLUMNS, lay, slanted, torn};
 use case_runs::compare::{Compared, compare};
-use libc::STDOUT_FILENO;
 use model::{Chain, Counts, Factors, Kernel, Refusal, Request, Verdict};
 use nested::requests::{on_rows, request};
 use nested::windows::{Loops, around, flat, over_box, small, solid};
 use numbers::wide_usize;
+use std::io;
 use std::num::wrapping_add_usize;
 
-fn text(s: &[u8]) {
-    io::write_all(STDOUT_FILENO, s);
-}
-
-fn number(n: usize) {
-    io::print_decimal(STDOUT_FILENO, n as u64);
-}
-
-fn capacity(c: usize) {
-    text(b" ");
-    number(c);
+fn capacity(rt: &impl Print, c: usize) -> io::Result<()> {
+    print!(rt; " {c}")
 }
 
 // Writes the first `fifos` capacities; their sum.
-fn capacities(places: &[u32; 31], fifos: usize) -> usize {
+fn capacities(rt: &impl Print, places: &[u32; 31], fifos: usize) -> io::Result<usize> {
     let mut sum: usize = 0;
     for k in 0..fifos {
         if k < 31 {
             let c = wide_usize(places[k]);
-            capacity(c);
+            capacity(rt, c)?;
             sum = wrapping_add_usize(sum, c);
         }
     }
-    sum
+    Ok(sum)
 }
 
 fn one_less(count: u8) -> u8 {
@@ -42,80 +33,75 @@ fn one_less(count: u8) -> u8 {
 }
 
 // The planned capacities; how many and their sum.
-fn fifos(chain: Chain) {
+fn fifos(rt: &impl Print, chain: Chain) -> io::Result<()> {
     let places = chain.capacities;
     let window = chain.window;
     let count = one_less(window.count);
-    text(b"capacities");
-    let sum = capacities(&places, count as usize);
-    text(b"\n");
-    number(count as usize);
-    text(b" FIFOs, sum ");
-    number(sum);
-    text(b"\n");
+    print!(rt; "capacities")?;
+    let sum = capacities(rt, &places, count as usize)?;
+    println!(rt; "\n{count} FIFOs, sum {sum}")
 }
 
 // The clocks before the first firing number its clock, if no firing was made in them and the next clock makes one.
-fn first_clock(before: Counts, next: Counts) {
+fn first_clock(rt: &impl Print, before: Counts, next: Counts) -> io::Result<()> {
     if before.firings == 0 {
         if next.firings == 1 {
-            text(b"first firing in clock ");
-            number(wide_usize(before.clocks));
-            text(b"\n");
+            let clock = before.clocks;
+            println!(rt; "first firing in clock {clock}")?;
         }
     }
+    Ok(())
 }
 
-fn first_firing(chain: Chain, rows: &[u32], cells: &[u32]) {
+fn first_firing(rt: &impl Print, chain: Chain, rows: &[u32], cells: &[u32]) -> io::Result<()> {
     let mut store = [0u32; 16384];
     let mut out = [0u32; 32];
     let f = case_runs::first_firing(chain, rows, cells, &mut store, &mut out);
     let before = f.before;
     let next = f.next;
-    first_clock(before, next);
+    first_clock(rt, before, next)
 }
 
-fn text_if(holds: bool, s: &[u8]) {
+fn text_if(rt: &impl Print, holds: bool, text: &str) -> io::Result<()> {
     if holds {
-        text(s);
+        print!(rt; "{text}")?;
     }
+    Ok(())
 }
 
-fn end(done: bool, firings: usize, clocks: usize) {
-    text_if(!done, b"not ");
-    text(b"done, ");
-    number(firings);
-    text(b" firings, ");
-    number(clocks);
-    text(b" clocks, ");
+fn end(rt: &impl Print, done: bool, firings: usize, clocks: usize) -> io::Result<()> {
+    text_if(rt, !done, "not ")?;
+    print!(rt; "done, {firings} firings, {clocks} clocks, ")
 }
 
 // Which outcomes were met on the way.
-fn met(spent: bool, starved: bool, full: bool) {
-    text(b"; met");
-    text_if(spent, b" Spent");
-    text_if(spent & (starved | full), b",");
-    text_if(starved, b" Starved");
-    text_if(starved & full, b",");
-    text_if(full, b" Full");
+fn met(rt: &impl Print, spent: bool, starved: bool, full: bool) -> io::Result<()> {
+    print!(rt; "; met")?;
+    text_if(rt, spent, " Spent")?;
+    text_if(rt, spent & (starved | full), ",")?;
+    text_if(rt, starved, " Starved")?;
+    text_if(rt, starved & full, ",")?;
+    text_if(rt, full, " Full")
 }
 
 // How a run ended, and how many words were compared up to the first that differs.
-fn comparison(c: Compared, pieces: bool) {
+fn comparison(rt: &impl Print, c: Compared, pieces: bool) -> io::Result<()> {
     let r = c.run;
-    text_if(!pieces, b"  whole: ");
-    text_if(pieces, b"  pieces: ");
-    end(r.done, r.firings, r.clocks);
-    number(c.words);
-    text_if(c.same, b" words, all the same");
-    text_if(!c.same, b" words the same, the next differs");
+    let words = c.words;
+    text_if(rt, !pieces, "  whole: ")?;
+    text_if(rt, pieces, "  pieces: ")?;
+    end(rt, r.done, r.firings, r.clocks)?;
+    print!(rt; "{words}")?;
+    text_if(rt, c.same, " words, all the same")?;
+    text_if(rt, !c.same, " words the same, the next differs")?;
     if pieces {
-        met(r.spent, r.starved, r.full);
+        met(rt, r.spent, r.starved, r.full)?;
     }
-    text(b"\n");
+    println!(rt)
 }
 
 fn compared(
+    rt: &impl Print,
     l: Loops,
     kernel: Kernel,
     chain: Chain,
@@ -126,26 +112,25 @@ fn compared(
     field: &[u32],
     inside: &[u32],
     out: &mut [u32],
-) {
+) -> io::Result<()> {
     let mut store = [0u32; 16384];
     let c = compare(
         l, kernel, chain, rows, pieces, window, cells, field, inside, &mut store, out,
     );
-    comparison(c, pieces);
+    comparison(rt, c, pieces)
 }
 
-fn refused(r: Refusal) {
-    text(b"  refusal ");
-    number(values::number_of(r) as usize);
-    text(b"\n");
+fn refused(rt: &impl Print, r: Refusal) -> io::Result<()> {
+    let number = values::number_of(r);
+    println!(rt; "  refusal {number}")
 }
 
-fn name(kernel: Kernel) {
+fn name(rt: &impl Print, kernel: Kernel) -> io::Result<()> {
     match kernel {
-        Kernel::Raw => text(b"raw\n"),
-        Kernel::Difference => text(b"difference\n"),
-        Kernel::Scaled(_) => text(b"scaled\n"),
-        Kernel::Blend(_) => text(b"blend\n"),
+        Kernel::Raw => println!(rt; "raw"),
+        Kernel::Difference => println!(rt; "difference"),
+        Kernel::Scaled(_) => println!(rt; "scaled"),
+        Kernel::Blend(_) => println!(rt; "blend"),
     }
 }
 
@@ -161,6 +146,7 @@ fn asked(l: Loops, author: &[u8], kernel: Kernel, count: u32) -> Request {
 // Lent whole, and lent in pieces. `author`: the window as its author wrote it; `window`: in the order in which the nested
 // loop goes.
 fn with_kernel(
+    rt: &impl Print,
     l: Loops,
     kernel: Kernel,
     author: &[u8],
@@ -171,17 +157,17 @@ fn with_kernel(
     field: &[u32],
     inside: &[u32],
     out: &mut [u32],
-) {
+) -> io::Result<()> {
     let p = planner::plan(asked(l, author, kernel, count), rows);
     let verdict = p.verdict;
     let chain = p.chain;
-    name(kernel);
+    name(rt, kernel)?;
     if let Verdict::Refused(r) = verdict {
-        refused(r);
-        return;
+        return refused(rt, r);
     }
     for i in 0u32..2 {
         compared(
+            rt,
             l,
             kernel,
             chain,
@@ -192,8 +178,9 @@ fn with_kernel(
             field,
             inside,
             out,
-        );
+        )?;
     }
+    Ok(())
 }
 
 // The kernels that add, by number.
@@ -209,6 +196,7 @@ fn sum_of(i: u32) -> Kernel {
 
 // Kernels add in the author's order; raw keeps chain order, in which offsets fall.
 fn with_kernels(
+    rt: &impl Print,
     l: Loops,
     author: &[u8],
     falling: &[u8],
@@ -218,8 +206,9 @@ fn with_kernels(
     field: &[u32],
     inside: &[u32],
     out: &mut [u32],
-) {
+) -> io::Result<()> {
     with_kernel(
+        rt,
         l,
         Kernel::Raw,
         author,
@@ -230,9 +219,10 @@ fn with_kernels(
         field,
         inside,
         out,
-    );
+    )?;
     for i in 0u32..3 {
         with_kernel(
+            rt,
             l,
             sum_of(i),
             author,
@@ -243,12 +233,14 @@ fn with_kernels(
             field,
             inside,
             out,
-        );
+        )?;
     }
+    Ok(())
 }
 
 fn case_on(
-    name: &[u8],
+    rt: &impl Print,
+    name: &str,
     l: Loops,
     author: &[u8],
     falling: &[u8],
@@ -258,127 +250,148 @@ fn case_on(
     field: &[u32],
     inside: &[u32],
     out: &mut [u32],
-) {
+) -> io::Result<()> {
     let p = planner::plan(asked(l, author, Kernel::Raw, count), rows);
     let chain = p.chain;
-    text(name);
-    fifos(chain);
-    first_firing(chain, rows, cells);
-    with_kernels(l, author, falling, count, rows, cells, field, inside, out);
+    println!(rt; "{name}")?;
+    fifos(rt, chain)?;
+    first_firing(rt, chain, rows, cells)?;
+    with_kernels(
+        rt, l, author, falling, count, rows, cells, field, inside, out,
+    )
 }
 
 // On a rectangle, whose stream the nested loop reads as it is.
-fn case(name: &[u8], l: Loops, author: &[u8], falling: &[u8], cells: &[u32], out: &mut [u32]) {
-    case_on(name, l, author, falling, 0, &[], cells, cells, &[], out);
+fn case(
+    rt: &impl Print,
+    name: &str,
+    l: Loops,
+    author: &[u8],
+    falling: &[u8],
+    cells: &[u32],
+    out: &mut [u32],
+) -> io::Result<()> {
+    case_on(rt, name, l, author, falling, 0, &[], cells, cells, &[], out)
 }
 
 // Case 1 is Listing 1 of document 003: centre, left, right, up, down.
-fn flat_cases(cells: &[u32], out: &mut [u32]) {
+fn flat_cases(rt: &impl Print, cells: &[u32], out: &mut [u32]) -> io::Result<()> {
     let l = flat(0);
     case(
-        b"case 1, DENOISE\n",
+        rt,
+        "case 1, DENOISE",
         l,
         b"000 00- 00+ 0-0 0+0",
         b"0+0 00+ 000 00- 0-0",
         cells,
         out,
-    );
+    )?;
     let l = flat(4);
     case(
-        b"case 2, RICIAN\n",
+        rt,
+        "case 2, RICIAN",
         l,
         b"00- 00+ 0-0 0+0",
         b"0+0 00+ 00- 0-0",
         cells,
         out,
-    );
+    )?;
     case(
-        b"case 3, SOBEL\n",
+        rt,
+        "case 3, SOBEL",
         l,
         b"0-- 0-0 0-+ 00- 000 00+ 0+- 0+0 0++",
         b"0++ 0+0 0+- 00+ 000 00- 0-+ 0-0 0--",
         cells,
         out,
-    );
+    )
 }
 
-fn solid_cases(cells: &[u32], out: &mut [u32]) {
+fn solid_cases(rt: &impl Print, cells: &[u32], out: &mut [u32]) -> io::Result<()> {
     let l = solid(6);
     case(
-        b"case 4, DENOISE_3D\n",
+        rt,
+        "case 4, DENOISE_3D",
         l,
         b"00- 00+ 0-0 0+0 -00 +00 000",
         b"+00 0+0 00+ 000 00- 0-0 -00",
         cells,
         out,
-    );
+    )?;
     let l = solid(0);
     case(
-        b"case 5, SEGMENTATION\n",
+        rt,
+        "case 5, SEGMENTATION",
         l,
         b"000 00- 00+ 0-0 0+0 -00 +00 0-- 0-+ 0+- 0++ -0- -0+ +0- +0+ --0 -+0 +-0 ++0",
         b"++0 +0+ +00 +0- +-0 0++ 0+0 0+- 00+ 000 00- 0-+ 0-0 0-- -+0 -0+ -00 -0- --0",
         cells,
         out,
-    );
+    )
 }
 
 // Case 1 between two rows: all columns of rows 383 to 385.
-fn flat_box(cells: &[u32], out: &mut [u32]) {
+fn flat_box(rt: &impl Print, cells: &[u32], out: &mut [u32]) -> io::Result<()> {
     let l = over_box(flat(0), 0, 1, 383, 386, 1, 1023);
     case(
-        b"case 1 in a box: rows 383 to 385\n",
+        rt,
+        "case 1 in a box: rows 383 to 385",
         l,
         b"000 00- 00+ 0-0 0+0",
         b"0+0 00+ 000 00- 0-0",
         cells,
         out,
-    );
+    )
 }
 
-fn solid_box(cells: &[u32], out: &mut [u32]) {
+fn solid_box(rt: &impl Print, cells: &[u32], out: &mut [u32]) -> io::Result<()> {
     let l = over_box(solid(6), 19, 21, 5, 9, 2, 30);
     case(
-        b"case 4 in a box: planes 19 and 20, rows 5 to 8, columns 2 to 29\n",
+        rt,
+        "case 4 in a box: planes 19 and 20, rows 5 to 8, columns 2 to 29",
         l,
         b"00- 00+ 0-0 0+0 -00 +00 000",
         b"+00 0+0 00+ 000 00- 0-0 -00",
         cells,
         out,
-    );
+    )
 }
 
-fn small_boxes(cells: &[u32], out: &mut [u32]) {
+fn small_boxes(rt: &impl Print, cells: &[u32], out: &mut [u32]) -> io::Result<()> {
     let l = over_box(small(0), 0, 1, 1, 2, 2, 4);
     case(
-        b"4 by 5 in a box: row 1, columns 2 and 3\n",
+        rt,
+        "4 by 5 in a box: row 1, columns 2 and 3",
         l,
         b"000 00- 00+ 0-0 0+0",
         b"0+0 00+ 000 00- 0-0",
         cells,
         out,
-    );
+    )?;
     let l = over_box(small(0), 0, 1, 1, 3, 3, 4);
     case(
-        b"4 by 5 in a box: rows 1 and 2, column 3\n",
+        rt,
+        "4 by 5 in a box: rows 1 and 2, column 3",
         l,
         b"000 00- 00+ 0-0 0+0",
         b"0+0 00+ 000 00- 0-0",
         cells,
         out,
-    );
+    )
 }
 
 // Five points on rows that slant,
 fn on_slanted(
+    rt: &impl Print,
     rows: &[u32; 400],
     cells: &[u32],
     field: &[u32; 60000],
     inside: &[u32; 60000],
     out: &mut [u32],
-) {
+) -> io::Result<()> {
     case_on(
-        b"200 rows of 100, each a column further on\n",
+        rt,
+        "200 rows of 100, each a column further on",
         around(200, COLUMNS, 0),
         b"000 00- 00+ 0-0 0+0",
         b"0+0 00+ 000 00- 0-0",
@@ -388,19 +401,21 @@ fn on_slanted(
         field,
         inside,
         out,
-    );
+    )
 }
 
 // and in a box of them.
 fn in_slanted(
+    rt: &impl Print,
     rows: &[u32; 400],
     cells: &[u32],
     field: &[u32; 60000],
     inside: &[u32; 60000],
     out: &mut [u32],
-) {
+) -> io::Result<()> {
     case_on(
-        b"200 rows of 100, each a column further on, in a box: rows 100 to 102, columns 103 to 198\n",
+        rt,
+        "200 rows of 100, each a column further on, in a box: rows 100 to 102, columns 103 to 198",
         over_box(around(200, COLUMNS, 0), 0, 1, 100, 103, 103, 199),
         b"000 00- 00+ 0-0 0+0",
         b"0+0 00+ 000 00- 0-0",
@@ -410,19 +425,21 @@ fn in_slanted(
         field,
         inside,
         out,
-    );
+    )
 }
 
 // Nine points on rows that vary; what is lent behind the last of them plays no part.
 fn on_torn(
+    rt: &impl Print,
     rows: &[u32; 400],
     cells: &[u32],
     field: &[u32; 60000],
     inside: &[u32; 60000],
     out: &mut [u32],
-) {
+) -> io::Result<()> {
     case_on(
-        b"40 rows of many starts and lengths\n",
+        rt,
+        "40 rows of many starts and lengths",
         around(40, COLUMNS, 4),
         b"0-- 0-0 0-+ 00- 000 00+ 0+- 0+0 0++",
         b"0++ 0+0 0+- 00+ 000 00- 0-+ 0-0 0--",
@@ -432,59 +449,63 @@ fn on_torn(
         field,
         inside,
         out,
-    );
+    )
 }
 
-fn slanted_cases(cells: &[u32], out: &mut [u32]) {
+fn slanted_cases(rt: &impl Print, cells: &[u32], out: &mut [u32]) -> io::Result<()> {
     let mut field = [0u32; 60000];
     let mut inside = [0u32; 60000];
     let mut rows = [0u32; 400];
     slanted(&mut rows);
     lay(&rows, cells, &mut field, &mut inside);
-    on_slanted(&rows, cells, &field, &inside, out);
-    in_slanted(&rows, cells, &field, &inside, out);
+    on_slanted(rt, &rows, cells, &field, &inside, out)?;
+    in_slanted(rt, &rows, cells, &field, &inside, out)
 }
 
-fn torn_case(cells: &[u32], out: &mut [u32]) {
+fn torn_case(rt: &impl Print, cells: &[u32], out: &mut [u32]) -> io::Result<()> {
     let mut field = [0u32; 60000];
     let mut inside = [0u32; 60000];
     let mut rows = [0u32; 400];
     torn(&mut rows);
     lay(&rows, cells, &mut field, &mut inside);
-    on_torn(&rows, cells, &field, &inside, out);
+    on_torn(rt, &rows, cells, &field, &inside, out)
 }
 
 // The smaller grid takes the first `count` cells.
-fn on_front(count: usize, cells: &[u32], out: &mut [u32]) {
+fn on_front(rt: &impl Print, count: usize, cells: &[u32], out: &mut [u32]) -> io::Result<()> {
     if cells.len() < count {
-        return;
+        return Ok(());
     }
-    solid_cases(&cells[..count], out);
+    solid_cases(rt, &cells[..count], out)
 }
 
 // Here too smaller grids take the first cells.
-fn maps(cells: &[u32], out: &mut [u32]) {
+fn maps(rt: &impl Print, cells: &[u32], out: &mut [u32]) -> io::Result<()> {
     if cells.len() < 20000 {
-        return;
+        return Ok(());
     }
-    slanted_cases(&cells[..20000], out);
-    torn_case(&cells[..1000], out);
+    slanted_cases(rt, &cells[..20000], out)?;
+    torn_case(rt, &cells[..1000], out)
 }
 
 // Runs of a box. Here too smaller grids take the first cells.
-fn boxes(cells: &[u32], out: &mut [u32]) {
+fn boxes(rt: &impl Print, cells: &[u32], out: &mut [u32]) -> io::Result<()> {
     if cells.len() < 40960 {
-        return;
+        return Ok(());
     }
-    flat_box(cells, out);
-    solid_box(&cells[..40960], out);
-    small_boxes(&cells[..20], out);
+    flat_box(rt, cells, out)?;
+    solid_box(rt, &cells[..40960], out)?;
+    small_boxes(rt, &cells[..20], out)
 }
 
 // Cases 1 to 5, boxes and skewed grids.
-pub(crate) fn cases(cells: &[u32; 786432], out: &mut [u32; 786432]) {
-    flat_cases(cells, out);
-    on_front(40960, cells, out);
-    boxes(cells, out);
-    maps(cells, out);
+pub(crate) fn cases(
+    rt: &impl Print,
+    cells: &[u32; 786432],
+    out: &mut [u32; 786432],
+) -> io::Result<()> {
+    flat_cases(rt, cells, out)?;
+    on_front(rt, 40960, cells, out)?;
+    boxes(rt, cells, out)?;
+    maps(rt, cells, out)
 }

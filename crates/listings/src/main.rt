@@ -3,30 +3,30 @@
 #![tactic(auto)]
 
 use case_runs::fresh;
-use libc::STDOUT_FILENO;
 use model::{Answer, Chain, Outcome};
+use std::io;
 
 // A number as four bytes of a sheet.
-fn bytes(x: u32) {
-    io::print_hex(STDOUT_FILENO, x as u64, 8);
+fn bytes(rt: &impl Print, x: u32) -> io::Result<()> {
+    print!(rt; "{x:08X}")
 }
 
-fn firing(index: u32, first: u32, second: u32) {
-    io::write_all(STDOUT_FILENO, b"10");
-    bytes(index);
-    bytes(first);
-    bytes(second);
-    io::write_all(STDOUT_FILENO, b"\n");
+fn firing(rt: &impl Print, index: u32, first: u32, second: u32) -> io::Result<()> {
+    print!(rt; "10")?;
+    bytes(rt, index)?;
+    bytes(rt, first)?;
+    bytes(rt, second)?;
+    println!(rt)
 }
 
-fn last(clocks: u32) {
-    io::write_all(STDOUT_FILENO, b"1100");
-    bytes(clocks);
-    io::write_all(STDOUT_FILENO, b"\n");
+fn last(rt: &impl Print, clocks: u32) -> io::Result<()> {
+    print!(rt; "1100")?;
+    bytes(rt, clocks)?;
+    println!(rt)
 }
 
 // The run of a chain of two references on cells 1 to 5, as the program `run` would write it.
-fn run(chain: Chain) {
+fn run(rt: &impl Print, chain: Chain) -> io::Result<()> {
     let cells = [1u32, 2, 3, 4, 5];
     let mut store = [0u32; 3];
     let mut out = [0u32; 4];
@@ -35,31 +35,33 @@ fn run(chain: Chain) {
     if let Answer::Ended(o) = answer {
         if let Outcome::Done(c) = o {
             if c.firings == 2 {
-                firing(0, out[0], out[1]);
-                firing(1, out[2], out[3]);
-                last(c.clocks);
+                firing(rt, 0, out[0], out[1])?;
+                firing(rt, 1, out[2], out[3])?;
+                last(rt, c.clocks)?;
             }
         }
     }
+    Ok(())
 }
 
 // The chain as a sheet.
-fn sheet(chain: Chain) {
+fn sheet(rt: &impl Print, chain: Chain) -> io::Result<()> {
     let mut text = [0u8; 256];
     let w = sheet_calls::write_chain(chain, &[], &mut text);
     let n = w.bytes;
     if n <= 256 {
-        io::write_all(STDOUT_FILENO, &text[..n]);
+        rt.write_all(&text[..n])?;
     }
+    Ok(())
 }
 
-fn main() {
+fn main(rt: HostRuntime) -> io::Result<()> {
     let read = sheet_calls::read_request(b"010100000005\n020000\n020003\n0400\n");
     let request = read.request;
     let p = planner::plan(request, &[]);
     let chain = p.chain;
-    io::write_all(STDOUT_FILENO, b"the listing of plan\n");
-    sheet(chain);
-    io::write_all(STDOUT_FILENO, b"the listing of run\n");
-    run(chain);
+    println!(rt; "the listing of plan")?;
+    sheet(&rt, chain)?;
+    println!(rt; "the listing of run")?;
+    run(&rt, chain)
 }

@@ -6,12 +6,12 @@
 ghost use Rattle.std.specs.Prelude.{◌≡◌, length};
 
 use case_runs::{fresh, words_of};
-use libc::STDOUT_FILENO;
 use model::{Answer, Chain, Factors, Kernel, Outcome, Ran, Side, State, Verdict};
 use nested::requests::request;
 use nested::windows::{Loops, references};
 use nested::{agreeing, apply, gather, width};
 use numbers::{lesser, wide_usize};
+use std::io;
 use std::num::wrapping_add_usize;
 use values::counts_of;
 
@@ -50,14 +50,6 @@ fn fill(cells: &mut [u32; 3072])
         cells[p as usize] = cell(p);
         p += 1;
     }
-}
-
-fn text(s: &[u8]) {
-    io::write_all(STDOUT_FILENO, s);
-}
-
-fn number(n: usize) {
-    io::print_decimal(STDOUT_FILENO, n as u64);
 }
 
 // One of the pair: its window, as its author wrote it.
@@ -191,29 +183,26 @@ fn same(l: Loops, kernel: Kernel, window: &[u8], cells: &[u32], out: &[u32]) -> 
     seen
 }
 
-fn text_if(holds: bool, s: &[u8]) {
+fn text_if(rt: &impl Print, holds: bool, text: &str) -> io::Result<()> {
     if holds {
-        text(s);
+        print!(rt; "{text}")?;
     }
+    Ok(())
 }
 
-fn written(t: Summary, whole: bool, fuel: usize, timing: usize) {
-    text_if(whole, b"  whole: ");
-    text_if(!whole, b"  pieces: ");
-    text_if(!t.done, b"not ");
-    text(b"done, ");
-    number(t.firings);
-    text(b" firings, ");
-    number(t.clocks);
-    text(b" clocks; the same as the loops: fuel ");
-    number(fuel);
-    text(b", timing ");
-    number(timing);
-    text(b"\n");
+fn written(rt: &impl Print, t: Summary, whole: bool, fuel: usize, timing: usize) -> io::Result<()> {
+    let firings = t.firings;
+    let clocks = t.clocks;
+    text_if(rt, whole, "  whole: ")?;
+    text_if(rt, !whole, "  pieces: ")?;
+    text_if(rt, !t.done, "not ")?;
+    print!(rt; "done, {firings} firings, {clocks} clocks; ")?;
+    println!(rt; "the same as the loops: fuel {fuel}, timing {timing}")
 }
 
 // Lent whole, or in pieces. The windows are in the order in which the loops go: the author's, for raw the chain's.
 fn run(
+    rt: &impl Print,
     chain: Chain,
     fuel: Side,
     timing: Side,
@@ -221,7 +210,7 @@ fn run(
     other_window: &[u8],
     piece: usize,
     cells: &[u32],
-) {
+) -> io::Result<()> {
     let k = fuel.kernel;
     let m = timing.kernel;
     let words = width(k, references(window));
@@ -241,57 +230,66 @@ fn run(
     );
     let one = same(loops(0), k, window, cells, &out);
     let two = same(loops(2), m, other_window, cells, &other);
-    written(t, piece == 9000, one, two);
+    written(rt, t, piece == 9000, one, two)
 }
 
 // A pair planned, and run lent whole and in pieces.
-fn pair(name: &[u8], k: Kernel, m: Kernel, window: &[u8], other_window: &[u8], cells: &[u32]) {
+fn pair(
+    rt: &impl Print,
+    name: &str,
+    k: Kernel,
+    m: Kernel,
+    window: &[u8],
+    other_window: &[u8],
+    cells: &[u32],
+) -> io::Result<()> {
     let fuel = side(b"000 00- 00+", k);
     let timing = side(b"0-0 0+0", m);
     let r = request(loops(0), window, Kernel::Raw);
     let p = pair_plan::plan_pair(r.grid, &[], r.bounds, fuel, timing);
     let verdict = p.verdict;
     let chain = p.chain;
-    text(name);
+    println!(rt; "{name}")?;
     if let Verdict::Refused(x) = verdict {
-        text(b"  refusal ");
-        number(values::number_of(x) as usize);
-        text(b"\n");
-        return;
+        let number = values::number_of(x);
+        return println!(rt; "  refusal {number}");
     }
-    run(chain, fuel, timing, window, other_window, 9000, cells);
-    run(chain, fuel, timing, window, other_window, 37, cells);
+    run(rt, chain, fuel, timing, window, other_window, 9000, cells)?;
+    run(rt, chain, fuel, timing, window, other_window, 37, cells)
 }
 
-fn pairs(cells: &[u32]) {
+fn pairs(rt: &impl Print, cells: &[u32]) -> io::Result<()> {
     pair(
-        b"fuel difference, timing raw\n",
+        rt,
+        "fuel difference, timing raw",
         Kernel::Difference,
         Kernel::Raw,
         b"000 00- 00+",
         b"0+0 0-0",
         cells,
-    );
+    )?;
     pair(
-        b"fuel blend, timing scaled\n",
+        rt,
+        "fuel blend, timing scaled",
         Kernel::Blend(Factors { a: 0.6, b: 0.1 }),
         Kernel::Scaled(0.5),
         b"000 00- 00+",
         b"0-0 0+0",
         cells,
-    );
+    )?;
     pair(
-        b"fuel raw, timing difference\n",
+        rt,
+        "fuel raw, timing difference",
         Kernel::Raw,
         Kernel::Difference,
         b"00+ 000 00-",
         b"0-0 0+0",
         cells,
-    );
+    )
 }
 
-fn main() {
+fn main(rt: HostRuntime) -> io::Result<()> {
     let mut cells = [0u32; 3072];
     fill(&mut cells);
-    pairs(&cells);
+    pairs(&rt, &cells)
 }

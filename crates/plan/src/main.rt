@@ -6,8 +6,8 @@ ghost use Rattle.std.specs.Prelude.{◌≡◌, replicate};
 ghost use Rattle.model_sheet.specs.Frames.{row_numbers};
 ghost use Rattle.program_laws.specs.Loops.{TakenUnless, PlanDue};
 
-use libc::{STDIN_FILENO, STDOUT_FILENO};
 use model::{Arriving, BLOCK_PLACES, PLAN_TEXT_PLACES, ROW_NUMBERS, Verdict};
+use std::io::{Read, Stdin};
 
 // The sheet as far as it was read; `failed` where a read failed.
 #[derive(Drop)]
@@ -18,23 +18,19 @@ struct Received {
 
 // Reads block after block, to the end of the input or to the first line that is turned back; the numbers on the sheet's first
 // line go to `rows`.
-fn receive(block: &mut [u8], rows: &mut [u32]) -> Received
+fn receive(input: &mut Stdin, block: &mut [u8], rows: &mut [u32]) -> Received
     requires { rows.old ≡ replicate row_numbers 0 }
     ensures { TakenUnless result.failed result.arriving rows.new }
 {
     let mut arriving = program_intake::open();
     // A loop has to end, and nothing says that the input does: no input has so many blocks.
-    let mut turns = u64::MAX;
-    while 0 < turns {
-        turns -= 1;
-        let got = libc::read(STDIN_FILENO, block);
-        if got < 0 {
+    for _ in 0..u64::MAX {
+        let Ok(len) = input.read(block) else {
             return Received {
                 failed: true,
                 arriving,
             };
-        }
-        let len = io::count(got, block);
+        };
         if len == 0 {
             break;
         }
@@ -52,22 +48,22 @@ fn receive(block: &mut [u8], rows: &mut [u32]) -> Received
 }
 
 // Writes the text that is due of this sheet and its rows.
-fn write_due(arriving: Arriving, rows: &[u32], text: &[u8])
+fn write_due(rt: &impl Print, arriving: Arriving, rows: &[u32], text: &[u8])
     requires { PlanDue arriving rows.now text.now }
 {
-    io::write_all(STDOUT_FILENO, text);
+    let _ = rt.write_all(text);
 }
 
 // Where a read fails, the program ends without a line.
-fn main() {
+fn main(rt: HostRuntime) {
     let mut block = [0u8; BLOCK_PLACES];
     let mut rows = [0u32; ROW_NUMBERS];
     let mut text = [0u8; PLAN_TEXT_PLACES];
-    let s = receive(&mut block, &mut rows);
+    let s = receive(&mut rt.stdin(), &mut block, &mut rows);
     if s.failed {
         return;
     }
     let arriving = s.arriving;
     let bytes = program_answer::plan_answer(arriving, &rows, &mut text);
-    write_due(arriving, &rows, &text[..bytes]);
+    write_due(&rt, arriving, &rows, &text[..bytes]);
 }

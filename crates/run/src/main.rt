@@ -7,9 +7,10 @@ ghost use Rattle.std.specs.Prelude.{◌≤◌, length};
 ghost use Rattle.program_writer.specs.Texts.{Within};
 ghost use Rattle.program_laws.specs.Loops.{Supplied, RunDue};
 
-use libc::{STDIN_FILENO, STDOUT_FILENO};
 use model::{BLOCK_PLACES, CELL_PLACES, ROW_NUMBERS, RUN_TEXT_PLACES, STORE_PLACES, WORD_PLACES};
 use program_jobs::Job;
+use std::io;
+use std::io::{Read, Stdin};
 
 // The job, and of the block at hand the first `len` bytes, from `at` on.
 #[derive(Drop)]
@@ -20,7 +21,7 @@ struct Ready {
 }
 
 // Reads, where the block is used up and nothing is left to do without more input.
-fn supply(job: Job, at: usize, len: usize, block: &mut [u8]) -> Ready
+fn supply(input: &mut Stdin, job: Job, at: usize, len: usize, block: &mut [u8]) -> Ready
     requires { len ≤ length block.old }
     ensures within { Within result.len block.new }
     ensures supplied { Supplied job at len block.old result.job result.at result.len block.new }
@@ -34,23 +35,32 @@ fn supply(job: Job, at: usize, len: usize, block: &mut [u8]) -> Ready
     if !program_stages::wants_input(stage, v) {
         return Ready { job, at, len };
     }
-    let got = libc::read(STDIN_FILENO, block);
-    let n = io::count(got, block);
-    Ready {
-        job: program_jobs::after_read(job, got),
-        at: 0,
-        len: n,
+    match input.read(block) {
+        Ok(n) => {
+            let got = n as isize;
+            Ready {
+                job: program_jobs::after_read(job, got),
+                at: 0,
+                len: n,
+            }
+        }
+        Err(_) => Ready {
+            job: program_jobs::after_read(job, -1),
+            at: 0,
+            len: 0,
+        },
     }
 }
 
 // Writes the text that is due where a turn leaves this job.
-fn write_due(job: Job, text: &[u8]) -> bool
+fn write_due(rt: &impl Print, job: Job, text: &[u8]) -> io::Result<()>
     requires { RunDue job text.now }
 {
-    io::write_all(STDOUT_FILENO, text)
+    rt.write_all(text)
 }
 
-fn main() {
+// Where a read or a write fails, the program ends without a last line.
+fn main(rt: HostRuntime) {
     let mut block = [0u8; BLOCK_PLACES];
     let mut rows = [0u32; ROW_NUMBERS];
     let mut store = [0u32; STORE_PLACES];
@@ -61,14 +71,12 @@ fn main() {
     let mut at: usize = 0;
     let mut len: usize = 0;
     // A loop has to end, and nothing says that the input does: no run has so many turns.
-    let mut turns = u64::MAX;
-    while 0 < turns {
-        turns -= 1;
+    for _ in 0..u64::MAX {
         let stage = job.stage;
         if program_stages::is_over(stage) {
             return;
         }
-        let s = supply(job, at, len, &mut block);
+        let s = supply(&mut rt.stdin(), job, at, len, &mut block);
         len = s.len;
         let ready = s.job;
         let t = program_driver::advance(
@@ -85,7 +93,7 @@ fn main() {
         let next = t.job;
         job = next;
         let bytes = t.bytes;
-        if !write_due(next, &text[..bytes]) {
+        if write_due(&rt, next, &text[..bytes]).is_err() {
             return;
         }
     }

@@ -7,7 +7,8 @@
 mod files;
 mod texts;
 
-use libc::STDOUT_FILENO;
+use std::io;
+use std::rt::Files;
 
 // Where the last line of the text starts.
 fn last_line(text: &[u8]) -> usize {
@@ -26,35 +27,35 @@ fn last_line(text: &[u8]) -> usize {
 }
 
 // The last line, without its LF.
-fn show_last(text: &[u8]) {
+fn show_last(rt: &impl Print, text: &[u8]) -> io::Result<()> {
     let from = last_line(text);
     let line = sheet_frames::line(text, from);
-    io::write_all(STDOUT_FILENO, line);
+    rt.write_all(line)
 }
 
 // Writes the line of one sheet, read in pieces of this size.
-fn show(name: [u8; 5], piece: usize) -> bool {
+fn show(rt: &(impl Files + Print), name: [u8; 5], piece: usize) -> io::Result<bool> {
     let mut input = [0u8; 4096];
     let mut text = [0u8; 4096];
     let mut expected = [0u8; 4096];
-    let n = files::read_in(name, &mut input);
-    let m = files::read_out(name, &mut expected);
+    let n = files::read_in(rt, name, &mut input);
+    let m = files::read_out(rt, name, &mut expected);
     let t = texts::text_of(name[0], &input[..n], piece, &mut text);
-    io::write_all(STDOUT_FILENO, &name);
-    io::write_all(STDOUT_FILENO, b" ");
-    show_last(&text[..t]);
-    let same = check::same(&text[..t], &expected[..m]);
+    rt.write_all(&name)?;
+    print!(rt; " ")?;
+    show_last(rt, &text[..t])?;
+    let same = text[..t] == expected[..m];
     if same {
-        io::write_all(STDOUT_FILENO, b" same\n");
-        return true;
+        println!(rt; " same")?;
+        return Ok(true);
     }
-    io::write_all(STDOUT_FILENO, b" differs\n");
-    false
+    println!(rt; " differs")?;
+    Ok(false)
 }
 
-fn main() {
+fn main(rt: HostRuntime) -> io::Result<()> {
     let mut list = [0u8; 4096];
-    let n = files::read_path(b"list", &mut list);
+    let n = files::read_path(&rt, b"list", &mut list);
     let mut i: usize = 0;
     let mut differ: u64 = 0;
     while i < 600 {
@@ -69,13 +70,10 @@ fn main() {
             list[at + 3],
             list[at + 4],
         ];
-        if !show(name, i * 5 % 23 + 1) {
+        if !show(&rt, name, i * 5 % 23 + 1)? {
             differ += 1;
         }
         i += 1;
     }
-    io::print_decimal(STDOUT_FILENO, i as u64);
-    io::write_all(STDOUT_FILENO, b" sheets, ");
-    io::print_decimal(STDOUT_FILENO, differ);
-    io::write_all(STDOUT_FILENO, b" differ\n");
+    println!(rt; "{i} sheets, {differ} differ")
 }

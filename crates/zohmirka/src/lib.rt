@@ -1,5 +1,5 @@
-// The functions for C and Rust. Numbers and slices go in; a slice is a pointer and a length. The rows of a skewed grid are
-// lent beside the words of its chain. No function has a `requires`. c/zohmirka.h says the same for C.
+// The functions for C and Rust. Numbers and slices go in. The rows of a skewed grid are lent beside the words of its chain. No
+// function has a `requires`. `zohmirka_c` exports them to C, where a slice is a pointer and a length.
 
 #![tactic(auto)]
 
@@ -15,8 +15,7 @@ use zohmirka_runs::run_value;
 use zohmirka_words::{chain_in, chain_out, row_places, rows_out};
 
 // The version of this interface.
-#[unsafe(no_mangle)]
-pub extern "C" fn zohmirka_version() -> u32
+pub fn zohmirka_version() -> u32
     ensures { result ≡ version }
 {
     5
@@ -35,8 +34,7 @@ fn write(c: Chain, rows: &[u32], sheet: &mut [u8]) -> Sheet
 }
 
 // Plans a request sheet into a chain sheet: 1 to 9, 13, 15 and 16 of the request, then 12.
-#[unsafe(no_mangle)]
-pub extern "C" fn zohmirka_plan(request: &[u8], sheet: &mut [u8]) -> Sheet
+pub fn zohmirka_plan(request: &[u8], sheet: &mut [u8]) -> Sheet
     ensures { record { answer = result; sheet = sheet.new } ≡ plan_call request.now sheet.old }
 {
     let read = sheet_calls::read_request(request);
@@ -61,8 +59,7 @@ pub extern "C" fn zohmirka_plan(request: &[u8], sheet: &mut [u8]) -> Sheet
 }
 
 // Judges a chain sheet: 1 to 9, 14, 15 or 16, or 0.
-#[unsafe(no_mangle)]
-pub extern "C" fn zohmirka_judge(sheet: &[u8]) -> u32
+pub fn zohmirka_judge(sheet: &[u8]) -> u32
     ensures { result ≡ judge_call sheet.now }
 {
     let read = sheet_calls::read_chain(sheet);
@@ -71,8 +68,7 @@ pub extern "C" fn zohmirka_judge(sheet: &[u8]) -> u32
 }
 
 // A run call on the chain of a sheet: 1 to 9, 14, 15 and 16 of the sheet, then 10, then 11.
-#[unsafe(no_mangle)]
-pub extern "C" fn zohmirka_run(
+pub fn zohmirka_run(
     sheet: &[u8],
     state: &mut [u32],
     store: &mut [u32],
@@ -101,8 +97,7 @@ pub extern "C" fn zohmirka_run(
 }
 
 // Reads a chain sheet into the words of its chain and the numbers of its rows: 1 to 9, 14, 15 and 16 of the sheet, then 12.
-#[unsafe(no_mangle)]
-pub extern "C" fn zohmirka_read_chain(sheet: &[u8], chain: &mut [u32], rows: &mut [u32]) -> u32
+pub fn zohmirka_read_chain(sheet: &[u8], chain: &mut [u32], rows: &mut [u32]) -> u32
     ensures { record { refusal = result; chain = chain.new; rows = rows.new }
         ≡ read_call sheet.now chain.old rows.old }
 {
@@ -131,8 +126,7 @@ pub extern "C" fn zohmirka_read_chain(sheet: &[u8], chain: &mut [u32], rows: &mu
 }
 
 // A run call on a chain given by its words and the rows lent beside it: 3 to 9, 14, 15 and 16 of the chain, then 10, then 11.
-#[unsafe(no_mangle)]
-pub extern "C" fn zohmirka_run_chain(
+pub fn zohmirka_run_chain(
     chain: &[u32],
     rows: &[u32],
     state: &mut [u32],
@@ -149,8 +143,7 @@ pub extern "C" fn zohmirka_run_chain(
 }
 
 // Judges a chain given by its words and the rows lent beside it: 3 to 9, 14, 15 or 16, or 0.
-#[unsafe(no_mangle)]
-pub extern "C" fn zohmirka_judge_chain(chain: &[u32], rows: &[u32]) -> u32
+pub fn zohmirka_judge_chain(chain: &[u32], rows: &[u32]) -> u32
     ensures { result ≡ judge_chain_call chain.now rows.now }
 {
     let judged = judging::judge_chain(chain_in(chain), rows);
@@ -158,8 +151,7 @@ pub extern "C" fn zohmirka_judge_chain(chain: &[u32], rows: &[u32]) -> u32
 }
 
 // Writes the sheet of a chain given by its words and the rows lent beside it: 3 to 9, 14, 15 and 16 of the chain, then 12.
-#[unsafe(no_mangle)]
-pub extern "C" fn zohmirka_write_chain(chain: &[u32], rows: &[u32], sheet: &mut [u8]) -> Sheet
+pub fn zohmirka_write_chain(chain: &[u32], rows: &[u32], sheet: &mut [u8]) -> Sheet
     ensures { record { answer = result; sheet = sheet.new }
         ≡ write_call chain.now rows.now sheet.old }
 {
@@ -167,8 +159,7 @@ pub extern "C" fn zohmirka_write_chain(chain: &[u32], rows: &[u32], sheet: &mut 
 }
 
 // Plans the chain that two kernels share, on the grid and box of a chain's words: 3 (on rows 16) to 9 with 15 after 6, then 12.
-#[unsafe(no_mangle)]
-pub extern "C" fn zohmirka_plan_pair(
+pub fn zohmirka_plan_pair(
     grid: &[u32],
     rows: &[u32],
     first: &[u32],
@@ -183,8 +174,7 @@ pub extern "C" fn zohmirka_plan_pair(
 }
 
 // A run call of two kernels on one chain, an output for each: 3 (on rows 16) to 9 with 15 after 6, then 14, 10, 11.
-#[unsafe(no_mangle)]
-pub extern "C" fn zohmirka_run_pair(
+pub fn zohmirka_run_pair(
     chain: &[u32],
     rows: &[u32],
     first: &[u32],
