@@ -6,10 +6,9 @@ use native.Mathlib.Nat.{zero-mul}
 use native.Mathlib.Omega.{arith}
 use lib.ListN.{length, take, drop, length-append, length-drop}
 use lib.Seq.{sets}
-use Rattle.model_run.specs.Kernels.{width}
 use Rattle.model.specs.Answers.{no_counts, answer_counts}
 use Rattle.model.specs.Values.{trimmed}
-use Rattle.model_run.specs.Running.{judge_run, ended, Run, run_trimmed, run_of}
+use Rattle.model_run.specs.Running.{judge_run, Run, run_trimmed, run_of}
 use Rattle.model.specs.declared.Answer.{Answer}
 use Rattle.model.specs.declared.Answer.TheVariants as answer
 use Rattle.model.specs.declared.Chain.{Chain}
@@ -20,7 +19,6 @@ use Rattle.model.specs.declared.State.{State}
 use Rattle.model.specs.declared.Verdict.TheVariants as verdict
 use Rattle.runner.specs.Runs.{ran_of}
 use Rattle.model_run.specs.PairRuns.{by_rows}
-use Rattle.pair_laws.proofs.RoundLaws.{part}
 use Rattle.pair_run.specs.declared.ports.Port.{Port}
 use Rattle.pair_run.specs.Ports.{given_by, Sound, RoomBy, RoomBoth, GivesBoth}
 use Rattle.pair_run.specs.Rounds.{with_counts, Prefix, Begin, Leaves}

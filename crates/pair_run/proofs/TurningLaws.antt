@@ -8,7 +8,6 @@ use native.Mathlib.Nat.{add-mul, mul-le-mul_right}
 use native.Mathlib.Omega.{arith}
 use lib.ListN.{length, take, drop, length-append, length-drop, take-append-drop}
 use lib.Seq.{sets, length-sets, length-take-le}
-use Rattle.model_run.specs.Kernels.{width}
 use Rattle.model.specs.Answers.{answer_counts}
 use Rattle.model_run.specs.Clock.{Counters}
 use Rattle.model.specs.Sized.{Proper}

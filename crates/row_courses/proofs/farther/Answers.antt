@@ -12,11 +12,10 @@ pub distance-far-requires : goal.distance-far-requires
 distance-far-requires c = c.requires.1 c.loop-k.k (omega arith)
 
 pub loop-k-preserved : goal.loop-k-preserved
-loop-k-preserved c =
-    (
-      omega arith,
-      filled_more 31 0 (λ i. max (number_at c.args.at.now i - number_at c.args.at.now (i + 1)) (number_at c.args.r.now i)) c.loop-k.k c.loop-k.to _ (omega arith) (c.greater_u32-most.ensures ∙ ap (λ (x : ℕ). max x (number_at c.args.r.now c.loop-k.k)) c.distance-far.ensures) c.loop-k.invariant.1,
-    )
+loop-k-preserved c = (
+  omega arith,
+  filled_more 31 0 (λ i. max (number_at c.args.at.now i - number_at c.args.at.now (i + 1)) (number_at c.args.r.now i)) c.loop-k.k c.loop-k.to _ (omega arith) (c.greater_u32-most.ensures ∙ ap (λ (x : ℕ). max x (number_at c.args.r.now c.loop-k.k)) c.distance-far.ensures) c.loop-k.invariant.1,
+)
 
 pub returns : goal.returns
 returns c =

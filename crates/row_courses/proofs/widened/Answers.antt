@@ -9,11 +9,10 @@ returns-then-row_length-eq0 c =
     widen_none (rows_of c.args.count c.args.rows.now) c.args.above.now c.args.course c.args.v c.args.r.now _ (sym c.row_length.ensures ∙ c.if-row_length-eq0.true) c.requires.1
 
 pub farther-requires : goal.farther-requires
-farther-requires c =
-    (
-      omega (arith, c.lesser-n.ensures),
-      reads_near (rows_of c.args.count c.args.rows.now) c.args.above.now c.args.course c.args.v c.args.r.now _ c.reads.ensures _ c.lesser-n.ensures c.requires.0 (λ z. c.if-row_length-eq0.false (c.row_length.ensures ∙ z)),
-    )
+farther-requires c = (
+  omega (arith, c.lesser-n.ensures),
+  reads_near (rows_of c.args.count c.args.rows.now) c.args.above.now c.args.course c.args.v c.args.r.now _ c.reads.ensures _ c.lesser-n.ensures c.requires.0 (λ z. c.if-row_length-eq0.false (c.row_length.ensures ∙ z)),
+)
 
 pub returns : goal.returns
 returns c =

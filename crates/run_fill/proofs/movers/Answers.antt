@@ -1,7 +1,6 @@
 use Prim.Native.Nat.{◌-◌}
 use mathlib.Core.Path.{◌≡◌, ◌∙◌}
 use native.Mathlib.Omega.{arith}
-use Rattle.loop_laws.specs.Passes.{of}
 use Rattle.loop_laws.proofs.SweepLaws.{source_before}
 use Rattle.loop_laws.proofs.LookLaws.{looked_start, looked_on, looked_end, behind_most, next_least}
 use Rattle.run_fill.proofs.movers.Goals as goal

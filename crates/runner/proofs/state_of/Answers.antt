@@ -2,7 +2,6 @@ use borrow.Author.Rules.{rules}
 use Prim.Native.Nat.{ℕ}
 use mathlib.Core.Path.{◌≡◌, ◌∙◌, ap}
 use native.Mathlib.Omega.{arith}
-use lib.ListN.{length-map}
 use Rattle.runner.proofs.PrepareCounters.{put_back, put_none, put_more, put_all}
 use Rattle.runner.proofs.state_of.Goals as goal
 
