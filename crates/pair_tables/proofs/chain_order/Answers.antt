@@ -1,0 +1,20 @@
+use mathlib.Core.Path.{ap}
+use mathlib.Core.Bool.{not}
+use mathlib.Core.Path.{sym, ◌∙◌}
+use borrow.Author.Tests.{not-true, not-false}
+use Rattle.pair_windows.proofs.UnionLaws.{held_so}
+use Rattle.pair_tables.proofs.TableLaws.{order_not, order_is}
+use Rattle.pair_tables.proofs.chain_order.Goals as goal
+
+pub returns-then-not-both_held : goal.returns-then-not-both_held
+returns-then-not-both_held c =
+    order_not c.args.dims c.args.chain c.args.own (sym c.both_held.ensures ∙ not-true _ (ap not c.if-not-both_held.true))
+
+pub chain_order_in-requires : goal.chain_order_in-requires
+chain_order_in-requires c =
+    let f = held_so _ _ _ (sym c.both_held.ensures ∙ not-false _ (ap not c.if-not-both_held.false)) in
+    (f.first, f.second, f.dimensions)
+
+pub returns : goal.returns
+returns c =
+    c.chain_order_in.ensures ∙ order_is c.args.dims c.args.chain c.args.own (sym c.both_held.ensures ∙ not-false _ (ap not c.if-not-both_held.false))
