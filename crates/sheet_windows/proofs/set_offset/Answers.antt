@@ -8,6 +8,7 @@ use lib.Signed.{mag}
 use mir.Facts.{to_z-of_z}
 use mir.Syntax.{w16}
 use mir.Val.{to_z, of_z}
+use borrow.Author.Rules.{rules}
 use Rattle.sheet_windows.proofs.NamedLaws.{four_set}
 use Rattle.sheet_windows.proofs.set_offset.Goals as goal
 
@@ -17,4 +18,4 @@ entry_at xs i h = to_z-of_z {w = w16} (record { sfits = h })
 pub returns : goal.returns
 returns c =
     let xs = c.args.entries in
-    rw (entry_at xs 0 c.o-1.given, entry_at xs 1 c.o-2-1.given, entry_at xs 2 c.o-3-1.given, entry_at xs 3 c.o-4-1.given) (four_set _ xs _ _ (omega arith))
+    rw (entry_at xs 0 (search rules), entry_at xs 1 (search rules), entry_at xs 2 (search rules), entry_at xs 3 (search rules)) (four_set _ xs _ _ (omega arith))

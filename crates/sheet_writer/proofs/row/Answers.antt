@@ -1,23 +1,17 @@
-use Prim.Native.Nat.{◌+◌, ◌<◌}
 use native.Mathlib.Omega.{arith}
 use Rattle.sheet_laws.specs.Sections.{row_of}
 use Rattle.sheet_writer.proofs.LayLaws.{offset_inside, capacity_inside}
 use Rattle.sheet_writer.proofs.row.Goals as goal
-use Rattle.sheet_writer.proofs.row.Goals.{In-Capacity-unread}
 
 pub offset_row-requires : goal.offset_row-requires
 offset_row-requires c =
     omega (arith, c.requires.0, offset_inside _ _ _ c.requires.1 c.in-Offset.is)
 
-few : (c : In-Capacity-unread) → c.in-Capacity.k + 1 < c.args.c.window.count
-few c =
-    capacity_inside _ _ _ c.requires.1 c.in-Capacity.is
-
 pub offset_bounds-capacities-k : goal.offset_bounds-capacities-k
-offset_bounds-capacities-k c = omega (arith, few c, c.requires.0)
+offset_bounds-capacities-k c = omega (arith, capacity_inside _ _ _ c.requires.1 c.in-Capacity.is, c.requires.0)
 
 pub bounds-capacities-k : goal.bounds-capacities-k
-bounds-capacities-k c = omega (arith, few c, c.requires.0)
+bounds-capacities-k c = omega (arith, capacity_inside _ _ _ c.requires.1 c.in-Capacity.is, c.requires.0)
 
 pub returns-in-Offset : goal.returns-in-Offset
 unfolding row_of
