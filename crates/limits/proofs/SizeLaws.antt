@@ -10,7 +10,7 @@ use lib.Dec.{eqb, ltb}
 use lib.ListN.{length, take, drop, get_or, length-take, drop_of_length-le}
 use lib.Seq.{drop-cons, get_or-take}
 use borrow.Author.Tests.{eq-eqb, ne_eqb, eqb-false, lt-ltb, le-ltb, ltb-false}
-use Rattle.model.specs.Lists.{tabulate, product, any}
+use Rattle.model.specs.Lists.{product, any}
 use Rattle.model.specs.Geometry.{cell_count}
 use Rattle.model.specs.Values.{sizes_of}
 use Rattle.model.specs.Judging.{most_cells, bad_dims, bad_sizes, bad_grid}

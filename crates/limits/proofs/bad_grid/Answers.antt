@@ -1,5 +1,4 @@
 use mathlib.Core.Path.{sym, ◌∙◌}
-use lib.ListN.{length-map}
 use Rattle.limits.proofs.SizeLaws.{bad_dimensions, by_sizes}
 use Rattle.limits.proofs.bad_grid.Goals as goal
 
