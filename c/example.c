@@ -1,6 +1,6 @@
 /* Plans and runs two requests, and prints what `plan` and `run` write for them: the sample of document 01, and three rows that begin in different columns (document 02,
  * request 5). Build and run, from the repository's top:
- *   rt staticlib zohmirka && cc -std=c99 -Wall -Wextra -o target/example c/example.c target/staticlib/libzohmirka.a && target/example
+ *   rust/library && cc -std=c99 -Wall -Wextra -o target/example c/example.c target/staticlib/libzohmirka.a && target/example
  * rust/test compares what it prints with c/example.out. */
 #include "zohmirka.h"
 

@@ -1,4 +1,4 @@
-/* Zohmirka: plans and runs reuse chains. The functions of target/staticlib/libzohmirka.a, which `rt staticlib zohmirka` writes, for x86-64 Linux.
+/* Zohmirka: plans and runs reuse chains. The functions of target/staticlib/libzohmirka.a, which `rust/library` writes, for x86-64 Linux.
  *
  * Rules for all functions:
  * - A slice is a pointer and a number of elements. The pointer is aligned for its type, and so many elements stand there, of any values. The pointer of a slice of

@@ -1,4 +1,4 @@
-//! Links target/staticlib/libzohmirka.a of this repository, which `rt staticlib zohmirka` writes; ZOHMIRKA_LIB names another folder.
+//! Links target/staticlib/libzohmirka.a of this repository, which `rust/library` writes; ZOHMIRKA_LIB names another folder.
 use std::path::PathBuf;
 
 fn main() {
@@ -9,7 +9,7 @@ fn main() {
     };
     let archive = folder.join("libzohmirka.a");
     if !archive.is_file() {
-        panic!("{} is not there: run `rt staticlib zohmirka` at the top of the repository, or set ZOHMIRKA_LIB", archive.display());
+        panic!("{} is not there: run `rust/library` at the top of the repository, or set ZOHMIRKA_LIB", archive.display());
     }
     println!("cargo:rerun-if-changed={}", archive.display());
     println!("cargo:rustc-link-search=native={}", folder.display());

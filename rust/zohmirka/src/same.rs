@@ -25,7 +25,7 @@ fn bits(factor: f32) -> u32 {
 }
 
 impl Chain {
-    /// All that plays a part, in one form, with 0 in the other words: the chain that `chainIn` (crates/zohmirka_words/specs/Words.antt) takes the words for, as
+    /// All that plays a part, in one form, with 0 in the other words: the chain that `chain_in` (crates/zohmirka_words/specs/Words.antt) takes the words for, as
     /// `trimmed` (crates/model/specs/Values.antt) has it.
     fn normal(&self) -> ([u32; CHAIN_WORDS], &[u32]) {
         let words = &self.words;
