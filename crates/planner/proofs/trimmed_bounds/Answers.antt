@@ -1,3 +1,4 @@
+use borrow.Author.Rules.{rules}
 use Rattle.planner.proofs.PlanLaws.{box_is, no_box_is}
 use Rattle.planner.proofs.trimmed_bounds.Goals as goal
 
@@ -6,4 +7,4 @@ returns-then-bounds c =
     box_is c.args.dims c.args.bounds _ _ c.if-bounds.true c.trimmed_indices-lowest.ensures c.trimmed_indices-highest.ensures
 
 pub returns : goal.returns
-returns c = no_box_is c.args.dims c.args.bounds c.if-bounds.false
+returns c = no_box_is c.args.dims c.args.bounds (search rules)

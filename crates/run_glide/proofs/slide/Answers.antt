@@ -111,7 +111,7 @@ pub returns-then-room-width : goal.returns-then-room-width
 returns-then-room-width c = (
   λ L write size at wants caps passed S G.
       let s = c.loop-fired.invariant.2 L write size at wants caps passed S G in
-      record { ends = glide_full _ _ _ _ _ _ _ _ _ _ _ _ _ _ _ _ _ _ _ _ _ _ _ _ _ _ G _ _ _ _ _ _ _ _ _ s c.loop-fired-test.true c.if-taken-allowance.false c.if-cells-taken.false c.if-wait-gt0.false c.if-room-width.true; had = s.had; allowed = s.allowed; fewer = s.fewer; inside = s.inside; most = fired_most _ _ _ _ _ _ _ _ _ _ _ _ _ _ _ _ _ _ _ _ _ _ _ _ _ _ G _ _ _ _ _ _ _ _ _ s },
+      record { ends = glide_full _ _ _ _ _ _ _ _ _ _ _ _ _ _ _ _ _ _ _ _ _ _ _ _ _ _ G _ _ _ _ _ _ _ _ _ s c.loop-fired-test.true c.if-taken-allowance.false c.if-cells-taken.false (omega arith) c.if-room-width.true; had = s.had; allowed = s.allowed; fewer = s.fewer; inside = s.inside; most = fired_most _ _ _ _ _ _ _ _ _ _ _ _ _ _ _ _ _ _ _ _ _ _ _ _ _ _ G _ _ _ _ _ _ _ _ _ s },
   within _ _ _ _ _ _ _ _ _ _ _ _ _ _ _ _ _ _ c.loop-fired.invariant.0 _ refl refl (omega (arith, c.loop-fired.invariant.0.room, c.if-room-width.true)),
 )
 
