@@ -107,7 +107,7 @@ spans : (p : After-span-t) →
     (0 < p.span-t.result) × (p.span-t.result ≤ p.reach-most.result)
     × Again p.args.n p.args.size (of p.args.wants.now) (of p.args.caps.now) (of p.movers.new.goes) (of p.loop-clocks.passed) p.span-t.result
 spans p =
-    p.span-t.ensures p.movers.ensures.1 (p.reach-most.ensures.0 (omega (arith, p.if-cells-taken.false)) (omega (arith, p.loop-clocks-test.true)))
+    p.span-t.ensures p.movers.ensures.1 (p.reach-most.ensures.0 (omega arith) (omega (arith, p.loop-clocks-test.true)))
 
 -- Filter 0 goes one cell on at most.
 goes-few : (m : After-movers) → get_or m.movers.new.goes 0 0 ≤ 1
