@@ -3,6 +3,7 @@ use mathlib.Core.Path.{◌≡◌, sym, ◌∙◌}
 use native.Mathlib.Omega.{arith}
 use lib.ListN.{length, take, get_or, length-take}
 use lib.Seq.{get_or-take}
+use borrow.Author.Rules.{rules}
 use Rattle.limits.proofs.SizeLaws.{from_first, size_fits, none_left, zero_here, onward, many_here}
 use Rattle.limits.proofs.bad_sizes.Goals as goal
 use Rattle.limits.proofs.bad_sizes.Goals.{After-wide_usize-size}
@@ -37,7 +38,7 @@ returns-then-cells-gt-MOST_CELLS c =
 
 pub loop-d-preserved : goal.loop-d-preserved
 loop-d-preserved c =
-    (omega arith, c.if-cells-gt-MOST_CELLS.false, onward c.loop-d.cells c.loop-d.d _ _ (within (goal.at.loop-d-preserved c).After-wide_usize-size) (size_is (goal.at.loop-d-preserved c).After-wide_usize-size) c.if-size-eq0.false ∙ c.loop-d.invariant.2)
+    (omega arith, search rules, onward c.loop-d.cells c.loop-d.d _ _ (within (goal.at.loop-d-preserved c).After-wide_usize-size) (size_is (goal.at.loop-d-preserved c).After-wide_usize-size) (search rules) ∙ c.loop-d.invariant.2)
 
 pub returns : goal.returns
 returns c =

@@ -60,7 +60,7 @@ loop-at-smaller c =
 
 pub loop-at-preserved : goal.loop-at-preserved
 loop-at-preserved c =
-    let short = less (within (goal.at.loop-at-preserved c).After-line-line) c.if-end-sheet.false in
+    let short : c.loop-at.at + length c.line-line.result.now < length c.args.sheet.now = omega (arith, within (goal.at.loop-at-preserved c).After-line-line) in
     let first = c.frame-f.ensures ∙ ap (feeds empty_frame) c.line-line.ensures in
     let stepped = step_accepted c.args.chained c.args.rows.now c.loop-at.r _ c.accept_line-next.result (told (goal.at.loop-at-preserved c).After-line_verdict-v ∙ c.in-Accepted.is) (c.accept_line-next.ensures ∙ ap (λ g. taken c.loop-at.r g.first) first) in (
       omega (arith, short),

@@ -21,4 +21,5 @@ returns-then-name-gt5 c =
 pub returns : goal.returns
 unfolding bad_name is_name
 returns c =
-    rw (le-leb _ _ (some c.if-name-eq0.false), le-leb _ _ c.if-name-gt5.false, c.size_of-size.ensures.0)
+    let within : c.args.name ≤ 5 = omega arith in
+    rw (le-leb _ _ (some c.if-name-eq0.false), le-leb _ _ within, c.size_of-size.ensures.0)
