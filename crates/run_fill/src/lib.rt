@@ -27,6 +27,7 @@ fn next_place(u: usize, base: usize, top: usize) -> usize
 // ---- who moves in a clock without firing
 
 // How far a filter is after its turn.
+#[tactic(auto, using(loop_laws::proofs::SweepLaws::turn_absent, loop_laws::proofs::SweepLaws::turn_wanted, loop_laws::proofs::SweepLaws::turn_full, loop_laws::proofs::SweepLaws::turn_goes))]
 fn turn(src: usize, w: usize, b: usize, p: usize) -> usize
     requires { p ≤ 1048576 }
     ensures { result ≡ turn_of src w b p }
