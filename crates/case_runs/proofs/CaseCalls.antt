@@ -1,17 +1,14 @@
 -- A call with its share, and calls in turn.
-use Rattle.std.proofs.Common.{◌≡◌, ℕ, zero, suc, ◌+◌, ◌-◌, ◌*◌, ◌%◌, ◌^◌, ◌<◌, ◌≤◌, min, Bool, true, false, ◌||◌, eqb, List, [], ◌∷◌, ◌++◌, length, take, drop, sym, refl, ap, ◌∙◌, arith}
+use Rattle.std.proofs.Common.{◌≡◌, ℕ, zero, suc, ◌+◌, ◌-◌, ◌<◌, ◌≤◌, min, Bool, true, false, List, [], ◌∷◌, ◌++◌, length, take, drop, sym, refl, ap, ◌∙◌, arith}
 use lib.Seq.{take-nil}
-use Rattle.model.specs.declared.Answer.{Answer}
 use Rattle.model.specs.declared.Chain.{Chain}
-use Rattle.model.specs.declared.Counts.{Counts}
 use Rattle.model.specs.declared.Ran.{Ran}
 use Rattle.model.specs.declared.State.{State}
-use Rattle.model.specs.Answers.{answer_counts}
 use Rattle.model_run.specs.Running.{Run as Left, run_of}
 use Rattle.runner.specs.Runs.{ran_of}
 use Rattle.case_runs.specs.declared.Run.{Run}
 use Rattle.case_runs.specs.declared.Share.{Share}
-use Rattle.case_runs.specs.CaseRuns.{fresh, lent, one_clock, firsts, first_firing, end_of, after_call, share_of, Course, course, called, called_on, stopped}
+use Rattle.case_runs.specs.CaseRuns.{lent, Course, course, called, called_on, stopped}
 
 take_least : (m n : ℕ) (l : List ℕ) → m ≡ min n (length l) → take m l ≡ take n l
 take_least m n [] e = take-nil m ∙ sym (take-nil n)
@@ -75,38 +72,3 @@ pub no_calls : (n : ℕ) (c : Chain) (rows : List ℕ) (pieces : Bool) (width : 
 unfolding called_on
 no_calls zero c rows pieces width cells k h = refl
 no_calls (suc n) c rows pieces width cells k h = absurd (omega (arith, h))
-
-pub after_call_lem : (r : Run) (s : State) (a : Answer) (width : ℕ) (c : Counts) (e calls cells firings clocks words : ℕ)
-    → c ≡ answer_counts a → e ≡ end_of a
-    → calls ≡ (r.calls + 1) % 2 ^ 64 → cells ≡ (r.cells + c.cells) % 2 ^ 64 → firings ≡ (r.firings + c.firings) % 2 ^ 64 → clocks ≡ (r.clocks + c.clocks) % 2 ^ 64
-    → words ≡ c.firings * (width % 4294967296)
-    → (let n : Run = record {
-      state = s;
-      calls = calls;
-      cells = cells;
-      firings = firings;
-      clocks = clocks;
-      words = words;
-      done = r.done || eqb e 0;
-      spent = r.spent || eqb e 1;
-      starved = r.starved || eqb e 2;
-      full = r.full || eqb e 4;
-      broken = (r.broken || eqb e 3) || eqb e 5;
-    } in n) ≡ after_call r s a width
-unfolding after_call
-after_call_lem r s a width c e calls cells firings clocks words e1 e2 e3 e4 e5 e6 e7 = rw (e3, e4, e5, e6, e7, e1, e2)
-
-pub next_call : (c : Chain) (rows : List ℕ) (pieces : Bool) (width : ℕ) (cells store out : List ℕ) (r : Run) (h : Share) (ran : Ran) (left written : List ℕ) (n : Run)
-    → h ≡ share_of pieces r.calls r.cells → ran_of ran left written ≡ lent c rows r.state h cells store out → n ≡ after_call r ran.state ran.answer width
-    → course n left written ≡ called c rows pieces width cells (course r store out)
-unfolding called
-next_call c rows pieces width cells store out r h ran left written n e1 e2 e3 = rw (sym e1, sym e2, e3)
-
-pub first_clocks : (c : Chain) (rows : List ℕ) (s : State) (cells store out : List ℕ) (r : Ran) (left written : List ℕ) (before : Counts) (from : ℕ) (q : Ran) (left2 written2 : List ℕ) (next : Counts)
-    → s ≡ fresh → ran_of r left written ≡ lent c rows s (record { from = 0; count = 1048576; places = 0; clocks = 4294967295 }) cells store out
-    → before ≡ answer_counts r.answer → from ≡ before.cells
-    → ran_of q left2 written2 ≡ lent c rows r.state (one_clock from) cells left written → next ≡ answer_counts q.answer
-    → firsts (record { before = before; next = next }) left2 written2 ≡ first_firing c rows cells store out
-unfolding first_firing
-first_clocks c rows s cells store out r left written before from q left2 written2 next e1 e2 e3 e4 e5 e6 =
-    rw (sym e1, sym e2, sym e3, sym e4, sym e5, sym e6)

@@ -1,13 +1,13 @@
 -- A comparison with the nested loop, index by index.
-use Rattle.std.proofs.Common.{◌≡◌, ℕ, zero, suc, ◌+◌, ◌-◌, ◌%◌, ◌^◌, ◌<◌, ◌≤◌, Bool, true, false, cond, not, ◌&&◌, eqb, List, length, replicate, sym, refl, ◌∙◌, arith, eq-eqb, ne_eqb}
+use Rattle.std.proofs.Common.{◌≡◌, ℕ, zero, suc, ◌+◌, ◌-◌, ◌%◌, ◌^◌, ◌<◌, ◌≤◌, Bool, true, false, cond, not, ◌&&◌, eqb, List, sym, refl, ◌∙◌, arith, eq-eqb, ne_eqb}
 use Rattle.model.specs.declared.Chain.{Chain}
 use Rattle.model.specs.declared.Kernel.{Kernel}
 use Rattle.nested.specs.declared.windows.Loops.{Loops}
 use Rattle.model_run.specs.Kernels.{width}
-use Rattle.nested.specs.Nested.{gathered, fired, agreed, references_in}
+use Rattle.nested.specs.Nested.{agreed, references_in}
 use Rattle.case_runs.specs.declared.Run.{Run}
 use Rattle.case_runs.specs.CaseRuns.{begun, course, called_on}
-use Rattle.case_runs.specs.Comparing.{Beside, along, loop_words, cells_read, is_iteration, iteration, place, line, plane, all_planes, compared}
+use Rattle.case_runs.specs.Comparing.{Beside, along, loop_words, is_iteration, iteration, place, line, plane, all_planes, compared}
 
 -- No word differs so far.
 abbrev pub going : Run → (store output : List ℕ) (at words : ℕ) → Beside
@@ -120,25 +120,3 @@ pub answered : (l : Loops) (k : Kernel) (c : Chain) (rows : List ℕ) (pieces : 
     ≡ compared l k c rows pieces window cells field inside store out
 unfolding compared
 answered l k c rows pieces window cells field inside store out size n run e g f end h = rw (← g, ← e, ← f, ← h)
-
--- ---- one iteration's words, and whether it is one
-
-pub loop_words_lem : (l : Loops) (k : Kernel) (window field : List ℕ) (z y x n count at end result : ℕ) (blank read words out : List ℕ) → blank ≡ replicate 32 0
-    → read ≡ gathered l window field z y x 0 32 blank → n ≡ references_in window → words ≡ fired k n l.centre read → result ≡ agreed words out count at end
-    → result ≡ agreed (loop_words l k window field z y x) out count at end
-unfolding loop_words
-loop_words_lem l k window field z y x n count at end result blank read words out b r e w f = f ∙ rw (w, e, r, b)
-
-pub cells_read_lem : (l : Loops) (window inside : List ℕ) (z y x n result : ℕ) (blank read ones : List ℕ) → blank ≡ replicate 32 0 → read ≡ gathered l window inside z y x 0 32 blank
-    → n ≡ references_in window → ones ≡ replicate 32 1 → result ≡ agreed read ones n 0 32 → result ≡ cells_read l window inside z y x
-unfolding cells_read
-cells_read_lem l window inside z y x n result blank read ones b r e o f = f ∙ rw (r, b, e, o)
-
-pub every_place : (l : Loops) (window inside : List ℕ) (z y x : ℕ) → length inside ≡ 0 → true ≡ is_iteration l window inside z y x
-unfolding is_iteration
-every_place l window inside z y x e = rw (eq-eqb (length inside) 0 e)
-
-pub by_cells : (l : Loops) (window inside : List ℕ) (z y x read n : ℕ) → (length inside ≡ 0 → ⊥) → read ≡ cells_read l window inside z y x → n ≡ references_in window
-    → eqb read n ≡ is_iteration l window inside z y x
-unfolding is_iteration
-by_cells l window inside z y x read n d e f = rw (ne_eqb (length inside) 0 d, e, f)

@@ -1,10 +1,9 @@
 -- A run of a chain call by call.
 use Rattle.std.specs.Prelude.{ℕ, zero, suc, ◌+◌, ◌*◌, ◌%◌, ◌^◌, Bool, true, false, cond, ◌||◌, List, ◌++◌, take, drop, replicate, ◌==◌, nat_lt}
-use Rattle.model.specs.declared.Answer.{Answer}
-use Rattle.model.specs.declared.Answer.TheVariants as answer
+use Rattle.std.specs.Prelude.{Ok, Err}
 use Rattle.model.specs.declared.Chain.{Chain}
 use Rattle.model.specs.declared.State.{State}
-use Rattle.model.specs.Answers.{answer_counts, outcome_case}
+use Rattle.model.specs.Answers.{Answer, answer_counts, outcome_case}
 use Rattle.model_run.specs.Running.{Run as Left, run_of}
 use Rattle.case_runs.specs.declared.FirstFiring.{FirstFiring}
 use Rattle.case_runs.specs.declared.Run.{Run}
@@ -61,8 +60,8 @@ first_firing c rows cells store output =
 -- How a call ended: the place of its outcome in document 01's list, 5 where it was refused.
 unfoldable pub end_of : Answer → ℕ
 unfolding outcome_case
-end_of (answer.Refused r) = 5
-end_of (answer.Ended o) = outcome_case o
+end_of (Err r) = 5
+end_of (Ok o) = outcome_case o
 
 unfoldable pub after_call : Run → State → Answer → (width : ℕ) → Run
 after_call r s a width =

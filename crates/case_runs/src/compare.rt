@@ -7,7 +7,6 @@ use crate::{Run, begin, more};
 use model::{Chain, Kernel};
 use nested::windows::{Loops, references};
 use nested::{agreeing, apply, gather, width};
-use std::num::wrapping_add_usize;
 
 // A run beside the nested loop: how many of its words are the loop's, the place of the next in the last call's output, and
 // whether all are.
@@ -20,6 +19,7 @@ pub struct Compared {
 }
 
 // How many of an iteration's words stand in `out` from place `at` to before `end`, up to the first that does not.
+#[tactic(auto, unfolding(crate::specs::Comparing::loop_words))]
 fn agreeing_at(
     l: Loops,
     kernel: Kernel,
@@ -36,30 +36,26 @@ fn agreeing_at(
     ensures { result
         ≡ agreed (loop_words l kernel window.now cells.now z y x) out.now width at end }
 {
-    let mut words = [0u32; 32];
-    gather(l, window, cells, z, y, x, &mut words);
-    apply(kernel, references(window), l.centre, &mut words);
+    let read = gather(l, window, cells, z, y, x);
+    let words = apply(kernel, references(window), l.centre, read);
     agreeing(&words, width, out, at, end)
 }
 
 // How many of an iteration's references read a cell: `inside` is 1 at each cell.
+#[tactic(auto, unfolding(crate::specs::Comparing::cells_read))]
 fn reads_cells(l: Loops, window: &[u8], inside: &[u32], z: usize, y: usize, x: usize) -> usize
     ensures { result ≡ cells_read l window.now inside.now z y x }
 {
-    let mut cells = [0u32; 32];
-    let ones = [1u32; 32];
-    gather(l, window, inside, z, y, x, &mut cells);
-    agreeing(&cells, references(window), &ones, 0, 32)
+    let cells = gather(l, window, inside, z, y, x);
+    agreeing(&cells, references(window), &[1u32; 32], 0, 32)
 }
 
 // On a skewed grid the loops go over the rectangle around it, and what reads outside is no iteration.
+#[tactic(auto, unfolding(crate::specs::Comparing::is_iteration))]
 fn is_iteration(l: Loops, window: &[u8], inside: &[u32], z: usize, y: usize, x: usize) -> bool
     ensures { result ≡ is_iteration l window.now inside.now z y x }
 {
-    if inside.len() == 0 {
-        return true;
-    }
-    reads_cells(l, window, inside, z, y, x) == references(window)
+    inside.is_empty() || reads_cells(l, window, inside, z, y, x) == references(window)
 }
 
 // The words of a run, in order, beside the nested loop's, up to the first that differs. The loop reads `field`, which is the
@@ -86,12 +82,9 @@ pub fn compare(
     let mut run = begin();
     let mut at: usize = 0;
     let mut seen: usize = 0;
-    let z_end = l.z_end;
-    let y_end = l.y_end;
-    let x_end = l.x_end;
-    for z in l.z_first..z_end {
-        for y in l.y_first..y_end {
-            for x in l.x_first..x_end {
+    for z in l.z_first..l.z_end {
+        for y in l.y_first..l.y_end {
+            for x in l.x_first..l.x_end {
                 if !is_iteration(l, window, inside, z, y, x) {
                     continue;
                 }
@@ -102,7 +95,7 @@ pub fn compare(
                 let same = agreeing_at(
                     l, kernel, window, field, z, y, x, width, out, at, run.words,
                 );
-                seen = wrapping_add_usize(seen, same);
+                seen = seen.wrapping_add(same);
                 if same != width {
                     return Compared {
                         run,
@@ -111,7 +104,7 @@ pub fn compare(
                         same: false,
                     };
                 }
-                at = wrapping_add_usize(at, width);
+                at = at.wrapping_add(width);
             }
         }
     }

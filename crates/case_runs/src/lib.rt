@@ -9,8 +9,7 @@ ghost use Rattle.runner.specs.Runs.{ran_of};
 ghost use Rattle.case_runs.specs.CaseRuns.{fresh as fresh_state, begun, lent, firsts, first_firing, end_of, after_call};
 ghost use Rattle.case_runs.specs.CaseRuns.{share_of, course, called, called_on, stopped};
 
-use model::{Answer, CellsPassed, Chain, Counts, FiringsMade, Outcome, Ran, State};
-use numbers::{lesser, wide_usize};
+use model::{CellsPassed, Chain, Counts, FiringsMade, Outcome, Ran, Refusal, State};
 use values::counts_of;
 
 // A run so far: its state, sums over its calls, how many words the last call wrote, and which outcomes were met; `broken` is
@@ -86,9 +85,9 @@ pub fn lend(
     ensures { ran_of result store.new out.new
         ≡ lent chain rows.now state share cells.now store.old out.old }
 {
-    let from = lesser(share.from, cells.len());
-    let count = lesser(share.count, cells.len() - from);
-    let end = lesser(share.places, out.len());
+    let from = share.from.min(cells.len());
+    let count = share.count.min(cells.len() - from);
+    let end = share.places.min(out.len());
     runner::run(
         chain,
         rows,
@@ -101,6 +100,7 @@ pub fn lend(
 }
 
 // Without an output place a fresh run makes all clocks before its first firing; then it gets places and one clock more.
+#[tactic(auto, unfolding(crate::specs::CaseRuns::first_firing))]
 pub fn first_firing(
     chain: Chain,
     rows: &[u32],
@@ -118,36 +118,32 @@ pub fn first_firing(
         clocks: 4294967295,
     };
     let r = lend(chain, rows, fresh(), all, cells, store, out);
-    let answer = r.answer;
-    let before = counts_of(answer);
-    let state = r.state;
+    let before = counts_of(r.answer);
     let one = Share {
-        from: wide_usize(before.cells),
+        from: before.cells as usize,
         count: 1,
         places: 32,
         clocks: 1,
     };
-    let s = lend(chain, rows, state, one, cells, store, out);
-    let answer = s.answer;
+    let s = lend(chain, rows, r.state, one, cells, store, out);
     FirstFiring {
         before,
-        next: counts_of(answer),
+        next: counts_of(s.answer),
     }
 }
 
 // How a call ended, as a number.
-fn end_of(a: Answer) -> u8
+#[tactic(auto, unfolding(crate::specs::CaseRuns::end_of))]
+fn end_of(a: Result<Outcome, Refusal>) -> u8
     ensures { result ≡ end_of a }
 {
     match a {
-        Answer::Refused(_) => 5,
-        Answer::Ended(o) => match o {
-            Outcome::Done(_) => 0,
-            Outcome::Spent(_) => 1,
-            Outcome::Starved(_) => 2,
-            Outcome::Stalled(_) => 3,
-            Outcome::Full(_) => 4,
-        },
+        Ok(Outcome::Done(_)) => 0,
+        Ok(Outcome::Spent(_)) => 1,
+        Ok(Outcome::Starved(_)) => 2,
+        Ok(Outcome::Stalled(_)) => 3,
+        Ok(Outcome::Full(_)) => 4,
+        Err(_) => 5,
     }
 }
 
@@ -155,25 +151,24 @@ fn end_of(a: Answer) -> u8
 pub fn words_of(firings: u32, width: usize) -> usize
     ensures { result ≡ firings * (width % 4294967296) }
 {
-    wide_usize(firings) * (width % 4294967296)
+    firings as usize * (width % 4294967296)
 }
 
 fn plus(a: usize, b: u32) -> usize
     ensures { result ≡ (a + b) % 2 ^ 64 }
 {
-    std::num::wrapping_add_usize(a, wide_usize(b))
+    a.wrapping_add(b as usize)
 }
 
 // The run after a call.
+#[tactic(auto, unfolding(crate::specs::CaseRuns::after_call))]
 fn after(r: Run, ran: Ran, width: usize) -> Run
     ensures { result ≡ after_call r ran.state ran.answer width }
 {
-    let state = ran.state;
-    let answer = ran.answer;
-    let c = counts_of(answer);
-    let end = end_of(answer);
+    let c = counts_of(ran.answer);
+    let end = end_of(ran.answer);
     Run {
-        state,
+        state: ran.state,
         calls: plus(r.calls, 1),
         cells: plus(r.cells, c.cells),
         firings: plus(r.firings, c.firings),
@@ -189,6 +184,7 @@ fn after(r: Run, ran: Ran, width: usize) -> Run
 
 // What call number `call` is lent, from cell number `from` on: all that is there, or of each a number that varies from call
 // to call, 0 among them.
+#[tactic(auto, unfolding(crate::specs::CaseRuns::share_of))]
 fn share_of(pieces: bool, call: usize, from: usize) -> Share
     ensures { result ≡ share_of pieces call from }
 {
@@ -208,6 +204,7 @@ fn share_of(pieces: bool, call: usize, from: usize) -> Share
     }
 }
 
+#[tactic(auto, unfolding(crate::specs::CaseRuns::called))]
 fn call(
     chain: Chain,
     rows: &[u32],
@@ -222,9 +219,8 @@ fn call(
         ≡ called chain rows.now pieces width cells.now
         (course run store.old out.old) }
 {
-    let state = run.state;
     let share = share_of(pieces, run.calls, run.cells);
-    let ran = lend(chain, rows, state, share, cells, store, out);
+    let ran = lend(chain, rows, run.state, share, cells, store, out);
     after(run, ran, width)
 }
 
@@ -250,10 +246,8 @@ pub fn more(
         (course run store.old out.old) }
 {
     let mut r = run;
-    let mut left: u32 = 100000;
-    while 0 < left {
+    for _ in 0..100000u32 {
         r = call(chain, rows, r, pieces, width, cells, store, out);
-        left -= 1;
         if stops(r.words, r.done, r.broken) {
             return r;
         }

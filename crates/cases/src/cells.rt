@@ -27,9 +27,7 @@ fn cell(p: u32) -> u32 {
 }
 
 pub(crate) fn fill(cells: &mut [u32; 786432]) {
-    let mut p: u32 = 0;
-    while p < 786432 {
+    for p in 0..786432u32 {
         cells[p as usize] = cell(p);
-        p += 1;
     }
 }

@@ -1,54 +1,35 @@
 // What is written of each case.
 use crate::maps::{COLUMNS, lay, slanted, torn};
 use case_runs::compare::{Compared, compare};
-use model::{Chain, Counts, Factors, Kernel, Refusal, Request, Verdict};
+use model::{Chain, Counts, Factors, Kernel, Refusal, Request};
 use nested::requests::{on_rows, request};
 use nested::windows::{Loops, around, flat, over_box, small, solid};
-use numbers::wide_usize;
 use std::io;
-use std::num::wrapping_add_usize;
-
-fn capacity(rt: &impl Print, c: usize) -> io::Result<()> {
-    print!(rt; " {c}")
-}
 
 // Writes the first `fifos` capacities; their sum.
 fn capacities(rt: &impl Print, places: &[u32; 31], fifos: usize) -> io::Result<usize> {
     let mut sum: usize = 0;
-    for k in 0..fifos {
-        if k < 31 {
-            let c = wide_usize(places[k]);
-            capacity(rt, c)?;
-            sum = wrapping_add_usize(sum, c);
-        }
+    for k in 0..fifos.min(31) {
+        let c = places[k] as usize;
+        print!(rt; " {c}")?;
+        sum = sum.wrapping_add(c);
     }
     Ok(sum)
 }
 
-fn one_less(count: u8) -> u8 {
-    if count == 0 {
-        return 0;
-    }
-    count - 1
-}
-
 // The planned capacities; how many and their sum.
 fn fifos(rt: &impl Print, chain: Chain) -> io::Result<()> {
-    let places = chain.capacities;
-    let window = chain.window;
-    let count = one_less(window.count);
+    let count = chain.window.count.saturating_sub(1);
     print!(rt; "capacities")?;
-    let sum = capacities(rt, &places, count as usize)?;
+    let sum = capacities(rt, &chain.capacities, count as usize)?;
     println!(rt; "\n{count} FIFOs, sum {sum}")
 }
 
 // The clocks before the first firing number its clock, if no firing was made in them and the next clock makes one.
 fn first_clock(rt: &impl Print, before: Counts, next: Counts) -> io::Result<()> {
-    if before.firings == 0 {
-        if next.firings == 1 {
-            let clock = before.clocks;
-            println!(rt; "first firing in clock {clock}")?;
-        }
+    if before.firings == 0 && next.firings == 1 {
+        let clock = before.clocks;
+        println!(rt; "first firing in clock {clock}")?;
     }
     Ok(())
 }
@@ -57,9 +38,7 @@ fn first_firing(rt: &impl Print, chain: Chain, rows: &[u32], cells: &[u32]) -> i
     let mut store = [0u32; 16384];
     let mut out = [0u32; 32];
     let f = case_runs::first_firing(chain, rows, cells, &mut store, &mut out);
-    let before = f.before;
-    let next = f.next;
-    first_clock(rt, before, next)
+    first_clock(rt, f.before, f.next)
 }
 
 fn text_if(rt: &impl Print, holds: bool, text: &str) -> io::Result<()> {
@@ -121,7 +100,7 @@ fn compared(
 }
 
 fn refused(rt: &impl Print, r: Refusal) -> io::Result<()> {
-    let number = values::number_of(r);
+    let number = u8::from(r);
     println!(rt; "  refusal {number}")
 }
 
@@ -158,40 +137,17 @@ fn with_kernel(
     inside: &[u32],
     out: &mut [u32],
 ) -> io::Result<()> {
-    let p = planner::plan(asked(l, author, kernel, count), rows);
-    let verdict = p.verdict;
-    let chain = p.chain;
     name(rt, kernel)?;
-    if let Verdict::Refused(r) = verdict {
-        return refused(rt, r);
-    }
-    for i in 0u32..2 {
-        compared(
-            rt,
-            l,
-            kernel,
-            chain,
-            rows,
-            i == 1,
-            window,
-            cells,
-            field,
-            inside,
-            out,
-        )?;
-    }
-    Ok(())
-}
-
-// The kernels that add, by number.
-fn sum_of(i: u32) -> Kernel {
-    if i == 0 {
-        return Kernel::Difference;
-    }
-    if i == 1 {
-        return Kernel::Scaled(0.2);
-    }
-    Kernel::Blend(Factors { a: 0.6, b: 0.1 })
+    let chain = match planner::plan(asked(l, author, kernel, count), rows) {
+        Ok(chain) => chain,
+        Err(r) => return refused(rt, r),
+    };
+    compared(
+        rt, l, kernel, chain, rows, false, window, cells, field, inside, out,
+    )?;
+    compared(
+        rt, l, kernel, chain, rows, true, window, cells, field, inside, out,
+    )
 }
 
 // Kernels add in the author's order; raw keeps chain order, in which offsets fall.
@@ -220,19 +176,14 @@ fn with_kernels(
         inside,
         out,
     )?;
-    for i in 0u32..3 {
+    let sums = [
+        Kernel::Difference,
+        Kernel::Scaled(0.2),
+        Kernel::Blend(Factors { a: 0.6, b: 0.1 }),
+    ];
+    for kernel in sums {
         with_kernel(
-            rt,
-            l,
-            sum_of(i),
-            author,
-            author,
-            count,
-            rows,
-            cells,
-            field,
-            inside,
-            out,
+            rt, l, kernel, author, author, count, rows, cells, field, inside, out,
         )?;
     }
     Ok(())
@@ -251,9 +202,11 @@ fn case_on(
     inside: &[u32],
     out: &mut [u32],
 ) -> io::Result<()> {
-    let p = planner::plan(asked(l, author, Kernel::Raw, count), rows);
-    let chain = p.chain;
     println!(rt; "{name}")?;
+    let chain = match planner::plan(asked(l, author, Kernel::Raw, count), rows) {
+        Ok(chain) => chain,
+        Err(r) => return refused(rt, r),
+    };
     fifos(rt, chain)?;
     first_firing(rt, chain, rows, cells)?;
     with_kernels(

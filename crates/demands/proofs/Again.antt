@@ -15,7 +15,7 @@ use Rattle.model_run.specs.Clock.{Counters, moves}
 use Rattle.model_run.specs.Running.{layout, Standing, Ending, Done, Spent, Starved, Stalled, Full, ends, outcome_of, short_store, begun, written_by, width_of, Run}
 use Rattle.model_run.specs.CallLists.{Lending, Between, LentEnough, lent_cells, call_run, after}
 use Rattle.model.specs.declared.Outcome.TheVariants as outcome
-use Rattle.model.specs.declared.Answer.TheVariants as answer
+use Rattle.std.specs.Prelude.{Ok}
 use Rattle.flow.specs.Machine.{live}
 use Rattle.model_run.specs.Reports.{Reports, clocks_of}
 use Rattle.demands.specs.Demand3.{ListOfCalls, handed_on, one_more, chain_in}
@@ -39,11 +39,11 @@ module _ (S : Setting) (l : Lending) (b : Between) {es : List Bool} (r : Reached
     stays = no_clock (layout t) (written_by t) (width_of t) (lent_cells t stream l b) l.allowance (beginning S l b) none
 
     -- It reports what the first look finds, with zeros.
-    pub answers : (call_run t stream l b).answer ≡ answer.Ended (outcome_of (ending S l b).ending no_counts)
+    pub answers : (call_run t stream l b).answer ≡ Ok (outcome_of (ending S l b).ending no_counts)
     unfolding ran beginning begun
     answers =
         ap (λ (x : Run). x.answer) (not_short S l b r s)
-        ∙ ap (λ (x : Standing). answer.Ended (outcome_of (ending S l b).ending x.done)) stays
+        ∙ ap (λ (x : Standing). Ok (outcome_of (ending S l b).ending x.done)) stays
 
     pub first_look : Looked (layout t) (written_by t) (width_of t) (lent_cells t stream l b) l.allowance (beginning S l b) (ends (ending S l b).ending)
     first_look =
@@ -58,8 +58,8 @@ module _ (S : Setting) (l : Lending) (b : Between) {es : List Bool} (r : Reached
     where
       stop : length (clocks S l b) ≡ 0 → (e : Ending) → (ending S l b).ending ≡ e
           → Looked (layout t) (written_by t) (width_of t) (lent_cells t stream l b) l.allowance (beginning S l b) (ends e) → Over (call_run t stream l b)
-      stop z Done x v = inl (record { counts = no_counts; answer = answers lent.store z ∙ ap (λ (e : Ending). answer.Ended (outcome_of e no_counts)) x })
-      stop z Stalled x v = inr (record { counts = no_counts; answer = answers lent.store z ∙ ap (λ (e : Ending). answer.Ended (outcome_of e no_counts)) x })
+      stop z Done x v = inl (record { counts = no_counts; answer = answers lent.store z ∙ ap (λ (e : Ending). Ok (outcome_of e no_counts)) x })
+      stop z Stalled x v = inr (record { counts = no_counts; answer = answers lent.store z ∙ ap (λ (e : Ending). Ok (outcome_of e no_counts)) x })
       stop z Spent x (is_spent _ n) = absurd (omega (arith, lent.clock))
       stop z Starved x (is_starved _ _ n) = absurd (omega (arith, lent.cell, lent_length S l b))
       stop z Full x (is_full_lem _ _ _ _ _ n) = absurd (omega (arith, lent.places, zero-mul (width_of t)))
@@ -74,16 +74,16 @@ module _ (S : Setting) (l : Lending) (b : Between) {es : List Bool} (r : Reached
     unfolding beginning begun
     quiet = ap length (still_traced (layout t) (counted_call S l b).traced dead)
 
-    found : (e : Ending) → (ending S l b).ending ≡ e → (call_run t stream l b).answer ≡ answer.Ended (outcome_of e no_counts)
-    found e x = answers s quiet ∙ ap (λ (f : Ending). answer.Ended (outcome_of f no_counts)) x
+    found : (e : Ending) → (ending S l b).ending ≡ e → (call_run t stream l b).answer ≡ Ok (outcome_of e no_counts)
+    found e x = answers s quiet ∙ ap (λ (f : Ending). Ok (outcome_of f no_counts)) x
 
-    pub again_done : (layout t).iterations ≤ (now S b).fired → (call_run t stream l b).answer ≡ answer.Ended (outcome.Done no_counts)
+    pub again_done : (layout t).iterations ≤ (now S b).fired → (call_run t stream l b).answer ≡ Ok (outcome.Done no_counts)
     unfolding beginning begun outcome_of
     again_done h = go (ending S l b).ending refl (first_look s quiet)
       where
         go : (e : Ending) → (ending S l b).ending ≡ e
             → Looked (layout t) (written_by t) (width_of t) (lent_cells t stream l b) l.allowance (beginning S l b) (ends e)
-            → (call_run t stream l b).answer ≡ answer.Ended (outcome.Done no_counts)
+            → (call_run t stream l b).answer ≡ Ok (outcome.Done no_counts)
         go Done x v = found Done x
         go Spent x (is_spent f _) = absurd (omega arith)
         go Starved x (is_starved f _ _) = absurd (omega arith)
@@ -91,17 +91,17 @@ module _ (S : Setting) (l : Lending) (b : Between) {es : List Bool} (r : Reached
         go Full x (is_full_lem f _ _ _ _ _) = absurd (omega arith)
 
     pub again_stalled : (now S b).fired < (layout t).iterations → moves (layout t) (now S b) ≡ false
-        → (0 < l.allowance → 0 < l.cells → (call_run t stream l b).answer ≡ answer.Ended (outcome.Stalled no_counts))
-        × (l.allowance ≡ 0 → (call_run t stream l b).answer ≡ answer.Ended (outcome.Spent no_counts))
-        × (0 < l.allowance → l.cells ≡ 0 → (call_run t stream l b).answer ≡ answer.Ended (outcome.Starved no_counts))
+        → (0 < l.allowance → 0 < l.cells → (call_run t stream l b).answer ≡ Ok (outcome.Stalled no_counts))
+        × (l.allowance ≡ 0 → (call_run t stream l b).answer ≡ Ok (outcome.Spent no_counts))
+        × (0 < l.allowance → l.cells ≡ 0 → (call_run t stream l b).answer ≡ Ok (outcome.Starved no_counts))
     unfolding beginning begun outcome_of
     again_stalled h still = go (ending S l b).ending refl (first_look s quiet)
       where
         go : (e : Ending) → (ending S l b).ending ≡ e
             → Looked (layout t) (written_by t) (width_of t) (lent_cells t stream l b) l.allowance (beginning S l b) (ends e)
-            → (0 < l.allowance → 0 < l.cells → (call_run t stream l b).answer ≡ answer.Ended (outcome.Stalled no_counts))
-            × (l.allowance ≡ 0 → (call_run t stream l b).answer ≡ answer.Ended (outcome.Spent no_counts))
-            × (0 < l.allowance → l.cells ≡ 0 → (call_run t stream l b).answer ≡ answer.Ended (outcome.Starved no_counts))
+            → (0 < l.allowance → 0 < l.cells → (call_run t stream l b).answer ≡ Ok (outcome.Stalled no_counts))
+            × (l.allowance ≡ 0 → (call_run t stream l b).answer ≡ Ok (outcome.Spent no_counts))
+            × (0 < l.allowance → l.cells ≡ 0 → (call_run t stream l b).answer ≡ Ok (outcome.Starved no_counts))
         go Done x (is_done f) = absurd (omega arith)
         go Spent x (is_spent _ n) = (λ y _. absurd (omega arith), λ _. found Spent x, λ y _. absurd (omega arith))
         go Starved x (is_starved _ m n) = (λ _ y. absurd (omega (arith, lent_length S l b)), λ y. absurd (omega arith), λ _ _. found Starved x)
@@ -157,16 +157,16 @@ module _ (q : ListOfCalls) where
   makes_clock l = makes (setting q) l (handed_on q) (reached q)
 
   module _ (l m : Lending) where
-    after_done : Reports outcome.Done (one_more q l) → short_store (chain_in q) (again_store q l m) ≡ false → (again q l m).answer ≡ answer.Ended (outcome.Done no_counts)
+    after_done : Reports outcome.Done (one_more q l) → short_store (chain_in q) (again_store q l m) ≡ false → (again q l m).answer ≡ Ok (outcome.Done no_counts)
     after_done x s =
         let t = chain_in q in
         let d = done_at (setting q) l (handed_on q) (reached q) x in
         again_done (setting q) m _ (after_reached (setting q) l (handed_on q) (reached q)) s (done_dead t _ d) d
 
     after_stall : Reports outcome.Stalled (one_more q l) → short_store (chain_in q) (again_store q l m) ≡ false
-        → (0 < m.allowance → 0 < m.cells → (again q l m).answer ≡ answer.Ended (outcome.Stalled no_counts))
-        × (m.allowance ≡ 0 → (again q l m).answer ≡ answer.Ended (outcome.Spent no_counts))
-        × (0 < m.allowance → m.cells ≡ 0 → (again q l m).answer ≡ answer.Ended (outcome.Starved no_counts))
+        → (0 < m.allowance → 0 < m.cells → (again q l m).answer ≡ Ok (outcome.Stalled no_counts))
+        × (m.allowance ≡ 0 → (again q l m).answer ≡ Ok (outcome.Spent no_counts))
+        × (0 < m.allowance → m.cells ≡ 0 → (again q l m).answer ≡ Ok (outcome.Starved no_counts))
     after_stall x s =
         let t = chain_in q in
         let d = stalled_at (setting q) l (handed_on q) (reached q) x in

@@ -18,8 +18,7 @@ use Rattle.model.specs.declared.Chain.{Chain}
 use Rattle.model.specs.declared.State.{State}
 use Rattle.model.specs.declared.Counts.{Counts}
 use Rattle.model.specs.declared.Outcome.TheVariants as outcome
-use Rattle.model.specs.declared.Verdict.TheVariants as verdict
-use Rattle.model.specs.declared.Answer.TheVariants as answer
+use Rattle.std.specs.Prelude.{Ok}
 use Rattle.model_run.specs.Reports.{Reports, firings_of}
 use Rattle.model.specs.Sized.{Proper}
 use Rattle.flow.specs.Machine.{live, Invariant}
@@ -137,9 +136,9 @@ module _ (c : Chain) (rows : List ℕ) (s : State) (l : Lent) (j : Judged (trimm
   unfolding run_of
   run_counters = any.run_counters t proper s l.store l.cells l.output l.allowance j
 
-  run_answer : (e : Ending) (d : Counts) → end.ending ≡ e → end.standing.done ≡ d → (run c rows s l).answer ≡ answer.Ended (outcome_of e d)
+  run_answer : (e : Ending) (d : Counts) → end.ending ≡ e → end.standing.done ≡ d → (run c rows s l).answer ≡ Ok (outcome_of e d)
   unfolding any.ran
-  run_answer e d x y = ap (λ (r : Run). r.answer) run_is ∙ ap₂ (λ (f : Ending) (z : Counts). answer.Ended (outcome_of f z)) x y
+  run_answer e d x y = ap (λ (r : Run). r.answer) run_is ∙ ap₂ (λ (f : Ending) (z : Counts). Ok (outcome_of f z)) x y
 
   within : Within c rows s l
   unfolding begun
@@ -175,12 +174,12 @@ module _ (c : Chain) (rows : List ℕ) (s : State) (l : Lent) (j : Judged (trimm
   unfolding run_of
   judged_again = any.judged_again t proper s l.store l.cells l.output l.allowance j
 
-  accepted_again : judge_run t (run c rows s l).state (run c rows s l).store ≡ verdict.Accepted
+  accepted_again : judge_run t (run c rows s l).state (run c rows s l).store ≡ Ok tt
   unfolding run_of
   accepted_again = any.accepted_again t proper s l.store l.cells l.output l.allowance j
 
   -- A call where there is no clock to make.
-  dead_answer : live (layout t) (counters_of t.count s) ≡ false → (e : Ending) → Means t l (counters_of t.count s) no_counts e → (run c rows s l).answer ≡ answer.Ended (outcome_of e no_counts)
+  dead_answer : live (layout t) (counters_of t.count s) ≡ false → (e : Ending) → Means t l (counters_of t.count s) no_counts e → (run c rows s l).answer ≡ Ok (outcome_of e no_counts)
   unfolding ended begun
   dead_answer dead e m =
       let still = no_clock (layout t) (written_by t) (width_of t) l.cells l.allowance start (ap length (still_traced (layout t) end_counted.traced dead)) in
@@ -191,7 +190,7 @@ module _ (c : Chain) (rows : List ℕ) (s : State) (l : Lent) (j : Judged (trimm
   abbrev handed : Counters
   handed = counters_of (trimmed c rows).count (run c rows s l).state
 
-  after_done : Reports outcome.Done (run c rows s l) → short_store (trimmed c rows) m.store ≡ false → (once_more c rows s l m).answer ≡ answer.Ended (outcome.Done no_counts)
+  after_done : Reports outcome.Done (run c rows s l) → short_store (trimmed c rows) m.store ≡ false → (once_more c rows s l m).answer ≡ Ok (outcome.Done no_counts)
   unfolding outcome_of layout
   after_done r e =
       let all = (reports c rows s l j Done).0 r in
@@ -200,7 +199,7 @@ module _ (c : Chain) (rows : List ℕ) (s : State) (l : Lent) (j : Judged (trimm
   -- After Stalled firings are left and nothing would move, so that the rest is said by what is lent.
   after_stall : Reports outcome.Stalled (run c rows s l) → short_store (trimmed c rows) m.store ≡ false → (e : Ending)
       → (handed.fired < iterations_of (trimmed c rows) → moves (layout (trimmed c rows)) handed ≡ false → Means (trimmed c rows) m handed no_counts e)
-      → (once_more c rows s l m).answer ≡ answer.Ended (outcome_of e no_counts)
+      → (once_more c rows s l m).answer ≡ Ok (outcome_of e no_counts)
   unfolding outcome_of
   after_stall r short e means =
       let x = (reports c rows s l j Stalled).0 r in

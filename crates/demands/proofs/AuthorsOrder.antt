@@ -17,18 +17,20 @@ use Rattle.model.specs.Values.{Trimmed, trimmed, Same}
 use Rattle.model.specs.Iterations.{position_of, iteration_of, reads_of}
 use Rattle.model.specs.Judging.{repeats, needs_centre, lacks_centre, centred, bad_order, judged}
 use Rattle.model.specs.Steps.{falling, which_of, authors_order, sorted}
-use Rattle.model.specs.Planning.{trimmed_request, judge_request, plan_of}
+use Rattle.model.specs.Planning.{trimmed_request, judge_request, planned_chain, plan_of}
 use Rattle.model_run.specs.Kernels.{terms, words_at, written, difference, scaled, blend}
 use Rattle.model.specs.Windows.{centre_of}
 use Rattle.model_run.specs.Running.{filters_of, terms_of, writes_of, written_by}
 use Rattle.model_run.specs.CallLists.{all_words, firings_made}
 use Rattle.model_run.specs.Words.{words_of, words_from, loop_of, loop_from}
+use Rattle.model.specs.declared.Chain.{Chain}
 use Rattle.model.specs.declared.Kernel.{Kernel}
 use Rattle.model.specs.declared.Kernel.TheVariants as kernel
 use Rattle.model.specs.declared.Request.{Request}
-use Rattle.model.specs.declared.Verdict.TheVariants as verdict
+use Rattle.std.specs.Prelude.{Ok}
 use Rattle.grid_laws.proofs.ListLaws.{length_tabulate, get_d_tabulate, tabulate_back}
 use Rattle.grid_laws.proofs.SameWindows.{same_iteration}
+use Rattle.grid_laws.proofs.StepLaws.{plan_passed, plan_taken, plan_chain}
 use Rattle.grid_laws.proofs.CheckLaws.{value_passes}
 use Rattle.grid_laws.proofs.SortLaws.{length_falling, falling_each, falling_no_other}
 use Rattle.grid_laws.proofs.TermLaws.{order_once, order_each, good_order, number_at_lem, length_authors, authors_below, authors_hold, which_below, which_stands, authors_centre_below, centre_held, same_centre}
@@ -198,7 +200,7 @@ number_14 n order long = (
 )
 
 -- A value that no number turns back, its offsets sorted.
-sorted_writes : (t : Trimmed) → Proper t → judged t ≡ verdict.Accepted → (stream : ℕ → ℕ) (j : ℕ)
+sorted_writes : (t : Trimmed) → Proper t → judged t ≡ Ok tt → (stream : ℕ → ℕ) (j : ℕ)
     → words_of (sorted t) stream j
     ≡ written t.kernel (centre_of t.offsets) (terms t.kernel (centre_of t.offsets) (up_to t.count)) (map (which_of t.offsets) (falling t.offsets))
     (tabulate t.count (λ k. stream (reads_of t j k)))
@@ -208,19 +210,25 @@ sorted_writes t p e stream j =
     written_alike t.the_ground t.offsets t.count p.references stream (iteration_of (sorted t) j) (iteration_of t j)
     (same_iteration (sorted t) t refl (falling_no_other t.offsets) (falling_each t.offsets) refl j) p.entries q.window.distinct t.kernel q.kernel.centre
 
-loop : (r : Request) (rows : List ℕ) → judge_request r rows ≡ verdict.Accepted → (stream : ℕ → ℕ) (j : ℕ) → words_of (trimmed (plan_of r rows).chain rows) stream j ≡ loop_of r rows stream j
-unfolding judge_request plan_of loop_of
-loop r rows ok stream j = rw (ok, planned_lists r rows ok) (sorted_writes (trimmed_request r rows) (request_proper r rows) ok stream j)
+loop : (r : Request) (rows : List ℕ) (c : Chain) → plan_of r rows ≡ Ok c → (stream : ℕ → ℕ) (j : ℕ) → words_of (trimmed c rows) stream j ≡ loop_of r rows stream j
+unfolding judge_request loop_of
+loop r rows c p stream j =
+    let ok = plan_passed r rows c p in
+    rw (plan_chain r rows c p, planned_lists r rows ok) (sorted_writes (trimmed_request r rows) (request_proper r rows) ok stream j)
 
-loops : (r : Request) (rows : List ℕ) → judge_request r rows ≡ verdict.Accepted → (stream : ℕ → ℕ) (j n : ℕ) → words_from (trimmed (plan_of r rows).chain rows) stream j n ≡ loop_from r rows stream j n
+loops : (r : Request) (rows : List ℕ) (c : Chain) → plan_of r rows ≡ Ok c → (stream : ℕ → ℕ) (j n : ℕ) → words_from (trimmed c rows) stream j n ≡ loop_from r rows stream j n
 unfolding words_from loop_from
-loops r rows ok stream j zero = refl
-loops r rows ok stream j (suc n) = ap₂ ◌++◌ (loop r rows ok stream j) (loops r rows ok stream (suc j) n)
+loops r rows c p stream j zero = refl
+loops r rows c p stream j (suc n) = ap₂ ◌++◌ (loop r rows c p stream j) (loops r rows c p stream (suc j) n)
 
-outputs : (r : Request) (rows : List ℕ) → judge_request r rows ≡ verdict.Accepted → (q : ListOfCalls) → Same q.chain q.rows (plan_of r rows).chain rows
+outputs : (r : Request) (rows : List ℕ) (c : Chain) → plan_of r rows ≡ Ok c → (q : ListOfCalls) → Same q.chain q.rows c rows
     → all_words (chain_in q) q.stream q.calls q.start ≡ loop_from r rows q.stream 0 (firings_made (runs_of q))
-outputs r rows ok q e =
-    (demand_2 q).words ∙ ap (λ (t : Trimmed). words_from t q.stream 0 (firings_made (runs_of q))) e ∙ loops r rows ok q.stream 0 (firings_made (runs_of q))
+outputs r rows c p q e =
+    (demand_2 q).words ∙ ap (λ (t : Trimmed). words_from t q.stream 0 (firings_made (runs_of q))) e ∙ loops r rows c p q.stream 0 (firings_made (runs_of q))
 
 pub authors_order_lem : AuthorsOrder
-authors_order_lem = record { number_14 = number_14; loop = loop; outputs = outputs }
+authors_order_lem = record {
+  number_14 = number_14;
+  loop = λ r rows ok. (planned_chain r rows, plan_taken r rows ok, loop r rows _ (plan_taken r rows ok));
+  outputs = λ r rows ok. (planned_chain r rows, plan_taken r rows ok, outputs r rows _ (plan_taken r rows ok));
+}

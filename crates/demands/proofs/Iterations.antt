@@ -18,12 +18,11 @@ use Rattle.model.specs.Boxes.Part.{whole, box}
 use Rattle.model.specs.Values.{Trimmed, trimmed}
 use Rattle.model.specs.Sized.{Sized, Bounded, Proper, Fitting}
 use Rattle.model.specs.Iterations.{cells_of, is_cell_of, position_of, is_iteration_of, covers_of, course_of, iterations_of, iteration_of}
-use Rattle.model.specs.Answers.{number_of, verdict_number, first_of}
+use Rattle.model.specs.Answers.{Verdict, number_of, verdict_number, first_of}
 use Rattle.model.specs.Judging.{bad_ground, bad_count, repeats, no_iteration, centred, lacks_centre, bad_factor, too_large, bad_order, window_checks, kernel_checks, chain_checks, value_checks, judged}
 use Rattle.model.specs.Planning.{trimmed_request}
 use Rattle.model.specs.declared.Refusal.TheVariants as refusal
-use Rattle.model.specs.declared.Verdict.{Verdict}
-use Rattle.model.specs.declared.Verdict.TheVariants as verdict
+use Rattle.std.specs.Prelude.{Ok, Err}
 use Rattle.grid_laws.proofs.Tests.{neither}
 use Rattle.grid_laws.proofs.GroundLaws.{inside_order, inside_below, position_cell, inside_once}
 use Rattle.grid_laws.proofs.WholeLaws.{whole_iterations, whole_complete}
@@ -84,9 +83,9 @@ module _ (t : Trimmed) where
 -- 6 is answered exactly if its condition holds, whatever holds of 15, 7, 8, 9 and 14; and behind it 15 likewise.
 from_15 : Bool → Bool → Bool → Bool → Bool → Verdict
 from_15 a b c d e =
-    cond a (verdict.Refused refusal.BadBox)
-    (cond b (verdict.Refused refusal.NoCentre)
-    (cond c (verdict.Refused refusal.BadFactor) (cond d (verdict.Refused refusal.TooLarge) (cond e (verdict.Refused refusal.BadOrder) verdict.Accepted))))
+    cond a (Err refusal.BadBox)
+    (cond b (Err refusal.NoCentre)
+    (cond c (Err refusal.BadFactor) (cond d (Err refusal.TooLarge) (cond e (Err refusal.BadOrder) (Ok tt)))))
 
 answers_15 : (a b c d e : Bool) → verdict_number (from_15 a b c d e) ≡ 15 ↔ a ≡ true
 unfolding from_15 verdict_number number_of
@@ -107,7 +106,7 @@ not_6 false false false false true q = omega arith
 not_6 false false false false false q = omega arith
 
 from_6 : Bool → Verdict → Verdict
-from_6 a v = cond a (verdict.Refused refusal.NoIteration) v
+from_6 a v = cond a (Err refusal.NoIteration) v
 
 answers_6 : (a : Bool) (v : Verdict) → (verdict_number v ≡ 6 → ⊥) → verdict_number (from_6 a v) ≡ 6 ↔ a ≡ true
 unfolding from_6 verdict_number number_of

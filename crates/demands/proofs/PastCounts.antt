@@ -12,7 +12,7 @@ use Rattle.model.specs.Boxes.{Part}
 use Rattle.model.specs.Boxes.Part.{whole, box}
 use Rattle.model.specs.Grounds.{Row}
 use Rattle.model.specs.Grounds.Ground.{rectangle, skewed}
-use Rattle.model.specs.Values.{Trimmed, sizes_of, rows_of, ground_of, dims_of, offset_of, offsets_of, part_of, capacities_of, order_of, trimmed_of, on_grid, trimmed, chain_of, blank_chain, Same}
+use Rattle.model.specs.Values.{Trimmed, sizes_of, rows_of, ground_of, dims_of, offset_of, offsets_of, part_of, capacities_of, order_of, trimmed_of, on_grid, trimmed, chain_of, Same}
 use Rattle.model.specs.Answers.{check, first_of, by_verdict}
 use Rattle.model.specs.Judging.{judged, judge_chain}
 use Rattle.model.specs.Steps.{sorted, distances}
@@ -28,9 +28,9 @@ use Rattle.model.specs.declared.Kernel.TheVariants as kernel
 use Rattle.model.specs.declared.Order.{Order}
 use Rattle.model.specs.declared.Request.{Request}
 use Rattle.model.specs.declared.Chain.{Chain}
-use Rattle.model.specs.declared.Planned.{Planned}
+use Rattle.model.specs.declared.Refusal.{Refusal}
 use Rattle.model.specs.declared.Refusal.TheVariants as refusal
-use Rattle.model.specs.declared.Verdict.TheVariants as verdict
+use Rattle.std.specs.Prelude.{Result, Ok, Err}
 use Rattle.grid_laws.proofs.ListLaws.{get_d_tabulate, tabulate_same}
 use Rattle.demands.specs.PastCounts.{GridsAgree, WindowsAgree, BoundsAgree, OrdersAgree, ChainsAgree, RequestsAgree, SameRequest, PastCounts}
 
@@ -169,9 +169,8 @@ written_from : Trimmed → List ℕ → Written
 written_from t output =
     let sheet = flat_map framed (lines_from t) in
     let last = first_of (check (ltb (length output) (length sheet)) refusal.ShortOutput ∷ []) in
-    by_verdict (by_verdict (judged t) last verdict.Refused)
-    (record { answer = record { verdict = verdict.Accepted; bytes = length sheet }; output = sheet ++ drop (length sheet) output })
-    (λ x. record { answer = record { verdict = verdict.Refused x; bytes = 0 }; output = output })
+    by_verdict (by_verdict (judged t) last Err)
+    (record { answer = Ok (length sheet); output = sheet ++ drop (length sheet) output }) (λ x. record { answer = Err x; output = output })
 
 box_from_lem : (dims : ℕ) (b : Bounds) → box_lines dims b ≡ box_from dims (part_of dims b)
 unfolding box_lines index_pair box_from part_of up_to
@@ -202,9 +201,8 @@ written_alike : (c d : Chain) (rows rows' : List ℕ) → Same c rows d rows' �
 written_alike c d rows rows' e output = written_from_lem c rows output ∙ ap (λ (t : Trimmed). written_from t output) e ∙ sym (written_from_lem d rows' output)
 
 -- What is planned of a request.
-planned_from : Trimmed → Planned
-planned_from t =
-    by_verdict (judged t) (record { verdict = verdict.Accepted; chain = chain_of (sorted t) }) (λ x. record { verdict = verdict.Refused x; chain = blank_chain })
+planned_from : Trimmed → Result Chain Refusal
+planned_from t = by_verdict (judged t) (Ok (chain_of (sorted t))) Err
 
 planned_from_lem : (r : Request) (rows : List ℕ) → plan_of r rows ≡ planned_from (trimmed_request r rows)
 unfolding plan_of planned_chain judge_request planned_from

@@ -23,7 +23,7 @@ use Rattle.model.specs.declared.Bounds.{Bounds}
 use Rattle.model.specs.declared.Grid.{Grid}
 use Rattle.model.specs.declared.Steps.{Steps}
 use Rattle.model.specs.declared.Window.{Window}
-use Rattle.model.specs.declared.Verdict.TheVariants as verdict
+use Rattle.std.specs.Prelude.{Ok}
 use Rattle.grid_laws.proofs.ListLaws.{length_tabulate, get_d_tabulate}
 use Rattle.grid_laws.proofs.Rectangles as rectangle
 use Rattle.grid_laws.proofs.Distances as window
@@ -41,34 +41,40 @@ use Rattle.demands.specs.PlanSteps as promised
 use Rattle.demands.proofs.Iterations.{enumerated}
 use Rattle.demands.proofs.Plans.{steps_sum}
 
-module _ (g : Grid) (rows : List ℕ) (w : Window) (x : Bounds) (e : judge_window g rows w x ≡ verdict.Accepted) where
+module _ (g : Grid) (rows : List ℕ) (w : Window) (x : Bounds) (s : Steps) (f : steps_of g rows w x ≡ Ok s) where
+  e : judge_window g rows w x ≡ Ok tt
+  e = laws.steps_passed g rows w x s f
+
+  steps_are : s ≡ laws.taken g rows w x
+  steps_are = laws.steps_given g rows w x e s f
+
   abbrev given : List (List ℤ)
   given = offsets_of (dims_of g) w
 
   -- The window's offsets are those sorted.
-  window_is : offsets_of (dims_of g) (steps_of g rows w x).window ≡ falling given
-  window_is = ap (λ (s : Steps). offsets_of (dims_of g) s.window) (laws.steps_taken g rows w x e) ∙ laws.arranged_back g rows w x e
+  window_is : offsets_of (dims_of g) s.window ≡ falling given
+  window_is = ap (λ (y : Steps). offsets_of (dims_of g) y.window) steps_are ∙ laws.arranged_back g rows w x e
 
-  place_is : (k : ℕ) → promised.arranged g rows w x k ≡ get_or (falling given) k []
+  place_is : (k : ℕ) → promised.arranged g rows w x s k ≡ get_or (falling given) k []
   place_is k = ap (λ (os : List (List ℤ)). get_or os k []) window_is
 
   -- ---- Section 3.3.2: the offsets sorted
 
-  filter_is : (i : ℕ) → i < w.count → get_or (steps_of g rows w x).filters i 0 ≡ get_or (authors_order given) i 0
+  filter_is : (i : ℕ) → i < w.count → get_or s.filters i 0 ≡ get_or (authors_order given) i 0
   filter_is i h =
-      ap (λ (s : Steps). get_or s.filters i 0) (laws.steps_taken g rows w x e)
+      ap (λ (y : Steps). get_or y.filters i 0) steps_are
       ∙ get_d_tabulate 32 _ i 0 (omega (arith, few_references w.count (laws.passed g rows w x e).count))
 
-  sorted_right : promised.Sorted g rows w x
+  sorted_right : promised.Sorted g rows w x s
   sorted_right = record {
-    count = ap (λ (s : Steps). s.window.count) (laws.steps_taken g rows w x e);
+    count = ap (λ (y : Steps). y.window.count) steps_are;
     each = subst (Members given) (sym window_is) (falling_each given);
     no_other = subst (λ (os : List (List ℤ)). Members os given) (sym window_is) (falling_no_other given);
     falls = λ k h. ap₂ before (place_is (suc k)) (place_is k) ∙ laws.arranged_falls g rows w x e k h;
     held = λ i h.
         let b : i < length given = omega (arith, offsets_count (dims_of g) w) in (
           omega (arith, filter_is i h, authors_below given i b, offsets_count (dims_of g) w),
-          ap (promised.arranged g rows w x) (filter_is i h) ∙ place_is (get_or (authors_order given) i 0) ∙ authors_hold given i b,
+          ap (promised.arranged g rows w x s) (filter_is i h) ∙ place_is (get_or (authors_order given) i 0) ∙ authors_hold given i b,
         );
   }
 
@@ -84,13 +90,13 @@ module _ (g : Grid) (rows : List ℕ) (w : Window) (x : Bounds) (e : judge_windo
   fit = laws.given_fits g rows w x e
 
   -- What is read in an iteration of the run goes by its number.
-  reads_are : (v : List ℤ) (j k : ℕ) → v ≡ iteration_of t j → promised.read_by g rows w x v k ≡ reads_of arranged j k
+  reads_are : (v : List ℤ) (j k : ℕ) → v ≡ iteration_of t j → promised.read_by g rows w x s v k ≡ reads_of arranged j k
   unfolding sorted position_of reads_of
   reads_are v j k f =
       ap₂ (λ (u o : List ℤ). position (ground_of g rows) (plus u o)) (f ∙ same_iteration t arranged refl (falling_each given) (falling_no_other given) refl j) (place_is k)
 
-  distance_is : (k : ℕ) → suc k < w.count → promised.distance g rows w x k ≡ distance_of arranged k
-  distance_is k h = ap (λ (s : Steps). get_or s.distances k 0) (laws.steps_taken g rows w x e) ∙ laws.distance_there g rows w x e k h
+  distance_is : (k : ℕ) → suc k < w.count → promised.distance g rows w x s k ≡ distance_of arranged k
+  distance_is k h = ap (λ (y : Steps). get_or y.distances k 0) steps_are ∙ laws.distance_there g rows w x e k h
 
   -- In each iteration of the run the first of a pair reads a later position than the second.
   reads_fall : (j k : ℕ) → j < iterations_of arranged → suc k < w.count → reads_of arranged j (suc k) < reads_of arranged j k
@@ -101,7 +107,7 @@ module _ (g : Grid) (rows : List ℕ) (w : Window) (x : Bounds) (e : judge_windo
   unfolding sorted
   same_number = sym (same_count t arranged refl (falling_each given) (falling_no_other given) refl)
 
-  distances_right : promised.Distances g rows w x
+  distances_right : promised.Distances g rows w x s
   unfolding distance_in sorted
   distances_right = record {
     most = λ v k h b.
@@ -120,7 +126,7 @@ module _ (g : Grid) (rows : List ℕ) (w : Window) (x : Bounds) (e : judge_windo
 
   -- On a rectangle they go by its sizes, and an iteration by its number among all.
   module _ (sizes : List ℕ) (is : ground_of g rows ≡ rectangle sizes) where
-    rectangle_distance : (k : ℕ) → suc k < w.count → promised.distance g rows w x k ≡ rectangle.distance sizes (falling given) k
+    rectangle_distance : (k : ℕ) → suc k < w.count → promised.distance g rows w x s k ≡ rectangle.distance sizes (falling given) k
     unfolding sorted position_of reads_of iteration_of course_of iterations_of
     rectangle_distance k b =
         let f = laws.arranged_fits g rows w x e in
@@ -130,7 +136,7 @@ module _ (g : Grid) (rows : List ℕ) (w : Window) (x : Bounds) (e : judge_windo
         → reads_in u (falling given) (part_of (dims_of g) x) s 0 k - reads_in u (falling given) (part_of (dims_of g) x) s 0 (suc k) ≡ rectangle.distance sizes (falling given) k)
         (sym is) (λ s a. by_sizes sizes (falling given) (part_of (dims_of g) x) s 0 k a (omega (arith, f.references))) f.suits some
 
-    every_iteration : (v : List ℤ) (k : ℕ) → is_iteration_of t v ≡ true → suc k < w.count → promised.read_by g rows w x v k ≡ promised.read_by g rows w x v (suc k) + promised.distance g rows w x k
+    every_iteration : (v : List ℤ) (k : ℕ) → is_iteration_of t v ≡ true → suc k < w.count → promised.read_by g rows w x s v k ≡ promised.read_by g rows w x s v (suc k) + promised.distance g rows w x s k
     unfolding is_iteration_of position_of position cell_place rectangle.reads rectangle.position
     every_iteration v k h b =
         let os = falling given in
@@ -138,33 +144,33 @@ module _ (g : Grid) (rows : List ℕ) (w : Window) (x : Bounds) (e : judge_windo
         let sized : Sized (length sizes) os = λ i l. laws.arranged_sized g rows w i (omega arith) ∙ ap (λ (u : Ground). dims u) is in
         let (j, l, f) = window.complete sizes os sized v (omega (arith, some_references w.count (laws.passed g rows w x e).count))
         (sym (rectangle_iteration sizes os v) ∙ same_iterations (rectangle sizes) given os (falling_no_other given) v (ap (λ (u : Ground). is_iteration u given v) (sym is) ∙ h)) in
-        let read : (k : ℕ) → promised.read_by g rows w x v k ≡ rectangle.reads sizes os j k =
-        λ k. ap (λ (u : Ground). position u (plus v (promised.arranged g rows w x k))) is ∙ ap₂ (λ (u o : List ℤ). rectangle.position sizes (plus u o)) f (place_is k) in
+        let read : (k : ℕ) → promised.read_by g rows w x s v k ≡ rectangle.reads sizes os j k =
+        λ k. ap (λ (u : Ground). position u (plus v (promised.arranged g rows w x s k))) is ∙ ap₂ (λ (u o : List ℤ). rectangle.position sizes (plus u o)) f (place_is k) in
         let fall = (window.falls sizes os sized j k (suc k) l (omega arith) (omega arith)).0 (laws.arranged_falls g rows w x e k b) in
         omega (arith, read k, read (suc k), rectangle_distance k b, window.same_distance sizes os sized j k l (omega arith))
 
   -- ---- Section 3.3.3: their sum
 
   abbrev listed : List ℕ
-  listed = tabulate (w.count - 1) (promised.distance g rows w x)
+  listed = tabulate (w.count - 1) (promised.distance g rows w x s)
 
   listed_are : listed ≡ distances (sorted (on_grid g rows w x))
-  listed_are = ap (λ (s : Steps). tabulate (w.count - 1) (λ k. get_or s.distances k 0)) (laws.steps_taken g rows w x e) ∙ laws.distances_back g rows w x e
+  listed_are = ap (λ (y : Steps). tabulate (w.count - 1) (λ k. get_or y.distances k 0)) steps_are ∙ laws.distances_back g rows w x e
 
-  total_right : promised.Summed g rows w x
+  total_right : promised.Summed g rows w x s
   unfolding total
-  total_right = ap (λ (s : Steps). s.total) (laws.steps_taken g rows w x e) ∙ ap sum (sym listed_are)
+  total_right = ap (λ (y : Steps). y.total) steps_are ∙ ap sum (sym listed_are)
 
   module _ (sizes : List ℕ) (is : ground_of g rows ≡ rectangle sizes) where
-    first_to_last : (v : List ℤ) → is_iteration_of t v ≡ true → promised.read_by g rows w x v 0 ≡ promised.read_by g rows w x v (w.count - 1) + (steps_of g rows w x).total
+    first_to_last : (v : List ℤ) → is_iteration_of t v ≡ true → promised.read_by g rows w x s v 0 ≡ promised.read_by g rows w x s v (w.count - 1) + s.total
     first_to_last v h =
-        rw (length_tabulate (w.count - 1) (promised.distance g rows w x)) at (steps_sum (promised.read_by g rows w x v) listed apart)
-        ∙ ap (λ (y : ℕ). promised.read_by g rows w x v (w.count - 1) + y) (sym total_right)
+        rw (length_tabulate (w.count - 1) (promised.distance g rows w x s)) at (steps_sum (promised.read_by g rows w x s v) listed apart)
+        ∙ ap (λ (y : ℕ). promised.read_by g rows w x s v (w.count - 1) + y) (sym total_right)
       where
-        apart : (k : ℕ) → k < length listed → promised.read_by g rows w x v k ≡ promised.read_by g rows w x v (suc k) + get_or listed k 0
+        apart : (k : ℕ) → k < length listed → promised.read_by g rows w x s v k ≡ promised.read_by g rows w x s v (suc k) + get_or listed k 0
         apart k b =
             let l : k < w.count - 1 = rw length_tabulate at b in
-            every_iteration sizes is v k h (omega arith) ∙ ap (λ (y : ℕ). promised.read_by g rows w x v (suc k) + y) (sym (get_d_tabulate (w.count - 1) (promised.distance g rows w x) k 0 l))
+            every_iteration sizes is v k h (omega arith) ∙ ap (λ (y : ℕ). promised.read_by g rows w x s v (suc k) + y) (sym (get_d_tabulate (w.count - 1) (promised.distance g rows w x s) k 0 l))
 
 -- A plan is the steps, what refuses, the chain.
 plans_by_steps : promised.PlansBySteps
@@ -172,8 +178,22 @@ unfolding plan_of
 plans_by_steps r rows = record {
   found = laws.steps_verdict r.grid rows r.window r.bounds;
   refused = laws.plan_verdict_lem r rows ∙ laws.judged_by_steps r rows;
-  chain = λ e. let ok = sym (laws.plan_verdict_lem r rows) ∙ e in rw ok (laws.chain_by_steps r rows (laws.request_passes r rows ok));
+  chain = λ s c f p.
+      let e = laws.steps_passed r.grid rows r.window r.bounds s f in
+      rw (laws.plan_chain r rows c p, laws.steps_given r.grid rows r.window r.bounds e s f) (laws.chain_by_steps r rows e);
 }
 
 pub paper_steps : promised.PaperSteps
-paper_steps = record { sorted = sorted_right; distances = distances_right; total = total_right; rectangles = λ g rows w x sizes is e. record { every = every_iteration g rows w x e sizes is; first_to_last = first_to_last g rows w x e sizes is }; plans = plans_by_steps }
+paper_steps = record {
+  sorted = λ g rows w x e. given g rows w x (promised.Sorted g rows w x) (sorted_right g rows w x) e;
+  distances = λ g rows w x e. given g rows w x (promised.Distances g rows w x) (distances_right g rows w x) e;
+  total = λ g rows w x e. given g rows w x (promised.Summed g rows w x) (total_right g rows w x) e;
+  rectangles = λ g rows w x sizes is e.
+      given g rows w x (promised.OnRectangle g rows w x)
+      (λ s f. record { every = every_iteration g rows w x s f sizes is; first_to_last = first_to_last g rows w x s f sizes is }) e;
+  plans = plans_by_steps;
+}
+  where
+    given : (g : Grid) (rows : List ℕ) (w : Window) (x : Bounds) (P : Steps → Type 0) → ((s : Steps) → steps_of g rows w x ≡ Ok s → P s)
+        → promised.OfSteps g rows w x P
+    given g rows w x P holds e = (laws.taken g rows w x, laws.steps_taken g rows w x e, holds _ (laws.steps_taken g rows w x e))

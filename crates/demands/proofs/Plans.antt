@@ -12,9 +12,10 @@ use Rattle.model.specs.Iterations.{position_of, course_of, iterations_of, iterat
 use Rattle.model.specs.Judging.{judge_chain}
 use Rattle.model_run.specs.Running.{layout}
 use Rattle.model.specs.Steps.{distances, sorted}
-use Rattle.model.specs.Planning.{trimmed_request, judge_request, plan_of}
+use Rattle.model.specs.Planning.{trimmed_request, judge_request}
+use Rattle.grid_laws.proofs.StepLaws.{plan_taken}
 use Rattle.model.specs.declared.Request.{Request}
-use Rattle.model.specs.declared.Verdict.TheVariants as verdict
+use Rattle.std.specs.Prelude.{Ok}
 use Rattle.grid_laws.proofs.ListLaws.{get_d_tabulate}
 use Rattle.grid_laws.proofs.Iterations.{falls, distance_most, distance_reached}
 use Rattle.grid_laws.proofs.SameWindows.{fewest_places}
@@ -59,7 +60,7 @@ module _ (t : Trimmed) (proper : Proper t) (ok : Accepted t) (p : Planned t) whe
     total_distance j h =
         rw proper.fifos at (steps_sum (reads_of t j) t.capacities (λ k b. every_iteration j k h (omega (arith, proper.fifos))))
 
-module _ (r : Request) (rows : List ℕ) (ok : judge_request r rows ≡ verdict.Accepted) where
+module _ (r : Request) (rows : List ℕ) (ok : judge_request r rows ≡ Ok tt) where
   planned_pairs : Planned (sorted (trimmed_request r rows))
   unfolding judge_request trimmed_request sorted distances distance_of distance_in reads_of position_of iteration_of course_of
   planned_pairs k g =
@@ -99,9 +100,8 @@ module _ (r : Request) (rows : List ℕ) (ok : judge_request r rows ≡ verdict.
       }
 
 pub plan_demand : PlanDemand
-unfolding plan_of judge_chain
 plan_demand r rows ok = record {
-  answer = rw ok;
+  answer = plan_taken r rows ok;
   accepted = plan_accepted r rows ok;
-  right = rw (ok, planned_lists r rows ok) (planned_right r rows ok);
+  right = rw (planned_lists r rows ok) (planned_right r rows ok);
 }

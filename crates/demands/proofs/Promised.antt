@@ -8,7 +8,7 @@ use native.Mathlib.Omega.{arith}
 use lib.ListN.{length, take, drop, length-map}
 use lib.Seq.{drop_at}
 use Rattle.model.specs.Values.{Trimmed, trimmed}
-use Rattle.model.specs.Answers.{no_counts, answer_number, answer_counts, number_of, check, first_of, by_verdict}
+use Rattle.model.specs.Answers.{Verdict, no_counts, answer_number, answer_counts, number_of, check, first_of, by_verdict}
 use Rattle.model.specs.Judging.{value_checks, judge_chain, judged}
 use Rattle.model_run.specs.Clock.{Counters, fresh}
 use Rattle.model_run.specs.Running.{layout, counters_of, with_counters, written_by, width_of, outcome_of, short_store, bad_state, judge_run, begun, call, ended, run_trimmed, run_of, Standing, Ended, Run}
@@ -17,9 +17,7 @@ use Rattle.model.specs.declared.CellsPassed.{CellsPassed}
 use Rattle.model.specs.declared.State.{State}
 use Rattle.model.specs.declared.Refusal.{Refusal}
 use Rattle.model.specs.declared.Refusal.TheVariants as refusal
-use Rattle.model.specs.declared.Verdict.{Verdict}
-use Rattle.model.specs.declared.Verdict.TheVariants as verdict
-use Rattle.model.specs.declared.Answer.TheVariants as answer
+use Rattle.std.specs.Prelude.{Ok, Err}
 use Rattle.flow.proofs.Laws.{few_clocks}
 use Rattle.demands.specs.Demand3.{ListOfCalls, runs_of, events_of, handed_on, chain_in}
 use Rattle.model_run.specs.Words.{words_from}
@@ -80,26 +78,26 @@ module _ (t : Trimmed) (s : State) (store lent output : List ℕ) (allowance : �
   accepted_run =
       let e = ended t s store lent output allowance in
       record {
-        answer = answer.Ended (outcome_of e.ending e.standing.done);
+        answer = Ok (outcome_of e.ending e.standing.done);
         state = with_counters s e.standing.counters;
         store = e.standing.store;
         output = e.standing.output;
       }
 
-  by_run : (P : Run → Type 0) → P accepted_run → ((y : Refusal) → P (record { answer = answer.Refused y; state = s; store = store; output = output }))
+  by_run : (P : Run → Type 0) → P accepted_run → ((y : Refusal) → P (record { answer = Err y; state = s; store = store; output = output }))
       → P (run_trimmed t s store lent output allowance)
   unfolding run_trimmed
   by_run P ran-well turned_back_lem = go (judge_run t s store)
     where
-      go : (v : Verdict) → P (by_verdict v accepted_run (λ y. record { answer = answer.Refused y; state = s; store = store; output = output }))
-      go verdict.Accepted = ran-well
-      go (verdict.Refused y) = turned_back_lem y
+      go : (v : Verdict) → P (by_verdict v accepted_run (λ y. record { answer = Err y; state = s; store = store; output = output }))
+      go (Ok _) = ran-well
+      go (Err y) = turned_back_lem y
 
 pub refused_keeps : RefusedKeeps
 unfolding run_of answer_counts
 refused_keeps c rows s store lent output allowance x =
     by_run (trimmed c rows) s store lent output allowance
-    (λ r. r.answer ≡ answer.Refused x → (r.state ≡ s) × (r.store ≡ store) × (r.output ≡ output) × (answer_counts r.answer ≡ no_counts))
+    (λ r. r.answer ≡ Err x → (r.state ≡ s) × (r.store ≡ store) × (r.output ≡ output) × (answer_counts r.answer ≡ no_counts))
     (λ e. absurd (let z : ◌≡◌ {A = ℕ} 0 1 = cc in omega arith)) (λ y e. (refl, refl, refl, refl))
 
 pub past_count : PastCount
@@ -135,7 +133,7 @@ no_part_of t s s' store lent output allowance e =
     subst (λ (v : Verdict). RunsAlike t.count (run_trimmed t s store lent output allowance) (by_verdict_lem s' v)) same_verdict (go (judge_run t s store))
   where
     by_verdict_lem : State → Verdict → Run
-    by_verdict_lem x v = by_verdict v (accepted_run t x store lent output allowance) (λ y. record { answer = answer.Refused y; state = x; store = store; output = output })
+    by_verdict_lem x v = by_verdict v (accepted_run t x store lent output allowance) (λ y. record { answer = Err y; state = x; store = store; output = output })
 
     same_verdict : judge_run t s store ≡ judge_run t s' store
     same_verdict = judged_by t store s s' e
@@ -147,13 +145,13 @@ no_part_of t s s' store lent output allowance e =
     back x = counters_back t.count x (ended t x store lent output allowance).standing.counters (length_ended t x store lent output allowance)
 
     go : (v : Verdict) → RunsAlike t.count (by_verdict_lem s v) (by_verdict_lem s' v)
-    go verdict.Accepted = record {
-      answer = ap (λ (x : Ended). answer.Ended (outcome_of x.ending x.standing.done)) same_end;
+    go (Ok _) = record {
+      answer = ap (λ (x : Ended). Ok (outcome_of x.ending x.standing.done)) same_end;
       store = ap (λ (x : Ended). x.standing.store) same_end;
       output = ap (λ (x : Ended). x.standing.output) same_end;
       counters = back s ∙ ap (λ (x : Ended). x.standing.counters) same_end ∙ sym (back s');
     }
-    go (verdict.Refused y) = record { answer = refl; store = refl; output = refl; counters = e }
+    go (Err y) = record { answer = refl; store = refl; output = refl; counters = e }
 
 pub no_part : NoPart
 unfolding run_of trimmed

@@ -11,7 +11,7 @@ use Rattle.model_run.specs.Clock.{Counters, moves}
 use Rattle.model_run.specs.Running.{layout, Run, Ending, Done, Stalled, ends, outcome_of, short_store, begun, written_by, width_of}
 use Rattle.model_run.specs.CallLists.{Lending, Between, LentEnough, lent_cells, call_run, call_events, firings_among}
 use Rattle.model.specs.declared.Outcome.TheVariants as outcome
-use Rattle.model.specs.declared.Answer.TheVariants as answer
+use Rattle.std.specs.Prelude.{Ok}
 use Rattle.model_run.specs.Reports.{Reports, firings_of}
 use Rattle.flow.specs.Machine.{live, FlowsUpTo}
 use Rattle.flow.proofs.Laws.{no_more, stopped}
@@ -26,11 +26,11 @@ use Rattle.run_laws.proofs.CallSums.{firings_append}
 module _ (S : Setting) (l : Lending) (b : Between) {es : List Bool} (r : Reached S b es) (h : LentEnough S.trimmed l b) where
   open S use {trimmed as t, stream}
 
-  pub reports : (e : Ending) → (ending S l b).ending ≡ e → (call_run t stream l b).answer ≡ answer.Ended (outcome_of e (ending S l b).standing.done)
+  pub reports : (e : Ending) → (ending S l b).ending ≡ e → (call_run t stream l b).answer ≡ Ok (outcome_of e (ending S l b).standing.done)
   unfolding ran
   reports e x =
       ap (λ (y : Run). y.answer) (not_short S l b r h.store)
-      ∙ ap (λ (y : Ending). answer.Ended (outcome_of y (ending S l b).standing.done)) x
+      ∙ ap (λ (y : Ending). Ok (outcome_of y (ending S l b).standing.done)) x
 
 module _ (S : Setting) {B : ℕ} (flows : FlowsUpTo (layout S.trimmed) B) where
   open S use {trimmed as t, proper, accepted as ok, stream}

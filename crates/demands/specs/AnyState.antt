@@ -1,5 +1,5 @@
 -- A run call on any state that no number turns back, not only on one that a list of calls reaches (document 01, "Running").
-use Rattle.std.specs.Prelude.{ℕ, ◌+◌, ◌*◌, ◌≤◌, ◌<◌, true, false, List, ◌↔◌, ◌≡◌, length, drop}
+use Rattle.std.specs.Prelude.{ℕ, ◌+◌, ◌*◌, ◌≤◌, ◌<◌, true, false, List, ◌↔◌, ◌≡◌, length, drop, Ok}
 use Rattle.model.specs.Lists.{sum}
 use Rattle.model.specs.Values.{Trimmed, trimmed}
 use Rattle.model.specs.Iterations.{iterations_of}
@@ -11,8 +11,6 @@ use Rattle.model.specs.declared.Chain.{Chain}
 use Rattle.model.specs.declared.State.{State}
 use Rattle.model.specs.declared.Counts.{Counts}
 use Rattle.model.specs.declared.Outcome.TheVariants as outcome
-use Rattle.model.specs.declared.Verdict.TheVariants as verdict
-use Rattle.model.specs.declared.Answer.TheVariants as answer
 use Rattle.model_run.specs.Reports.{Reports, firings_of}
 
 -- What a call lends.
@@ -61,15 +59,15 @@ module _ (c : Chain) (rows : List ℕ) (s : State) (l : Lent) where
   -- `Again` in `Promises`.
   pub record CalledAgain (m : Lent) : Type 0 where
     pub done : Reports outcome.Done run → short_store (trimmed c rows) m.store ≡ false
-        → (once_more m).answer ≡ answer.Ended (outcome.Done no_counts)
+        → (once_more m).answer ≡ Ok (outcome.Done no_counts)
     pub stalled : Reports outcome.Stalled run → short_store (trimmed c rows) m.store ≡ false → 0 < m.allowance
         → 0 < length m.cells
-        → (once_more m).answer ≡ answer.Ended (outcome.Stalled no_counts)
+        → (once_more m).answer ≡ Ok (outcome.Stalled no_counts)
     pub spent : Reports outcome.Stalled run → short_store (trimmed c rows) m.store ≡ false → m.allowance ≡ 0
-        → (once_more m).answer ≡ answer.Ended (outcome.Spent no_counts)
+        → (once_more m).answer ≡ Ok (outcome.Spent no_counts)
     pub starved : Reports outcome.Stalled run → short_store (trimmed c rows) m.store ≡ false → 0 < m.allowance
         → length m.cells ≡ 0
-        → (once_more m).answer ≡ answer.Ended (outcome.Starved no_counts)
+        → (once_more m).answer ≡ Ok (outcome.Starved no_counts)
 
 -- A call that no number turns back reports an outcome exactly if its end is what the outcome says; and the state and the
 -- store that it hands back are not turned back either.
@@ -79,9 +77,9 @@ pub record AnyState (c : Chain) (rows : List ℕ) (s : State) (l : Lent) : Type 
   pub outcome : (e : Ending) → Reports (outcome_of e) (run c rows s l)
       ↔ Means (trimmed c rows) l (counters_of (trimmed c rows).count (run c rows s l).state)
       (answer_counts (run c rows s l).answer) e
-  pub accepted : judge_run (trimmed c rows) (run c rows s l).state (run c rows s l).store ≡ verdict.Accepted
+  pub accepted : judge_run (trimmed c rows) (run c rows s l).state (run c rows s l).store ≡ Ok tt
   pub again : (m : Lent) → CalledAgain c rows s l m
 
 abbrev pub AnyStates : Type 0
-AnyStates = (c : Chain) (rows : List ℕ) (s : State) (l : Lent) → judge_run (trimmed c rows) s l.store ≡ verdict.Accepted
+AnyStates = (c : Chain) (rows : List ℕ) (s : State) (l : Lent) → judge_run (trimmed c rows) s l.store ≡ Ok tt
     → AnyState c rows s l

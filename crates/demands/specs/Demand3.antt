@@ -1,5 +1,5 @@
 -- Demand 3: one statement about a whole list of calls (document 01, "Running", last paragraph; document 02, request 5).
-use Rattle.std.specs.Prelude.{ℕ, ◌+◌, ◌≤◌, ◌<◌, Bool, List, ◌↔◌, ◌≡◌, length, get_or}
+use Rattle.std.specs.Prelude.{ℕ, ◌+◌, ◌≤◌, ◌<◌, Bool, List, ◌↔◌, ◌≡◌, length, get_or, Ok}
 use Rattle.model.specs.Grounds.Ground.{rectangle}
 use Rattle.model.specs.Values.{Trimmed, trimmed}
 use Rattle.model.specs.Iterations.{iterations_of, iteration_of, newest_of, clock_of}
@@ -9,7 +9,6 @@ use Rattle.model_run.specs.CallLists.{Lending, Between, Fresh, LentEnough, Fires
 use Rattle.model_run.specs.CallLists.{all_events, clocks_made, firings_made, cells_taken}
 use Rattle.model.specs.declared.Chain.{Chain}
 use Rattle.model.specs.declared.Outcome.TheVariants as outcome
-use Rattle.model.specs.declared.Verdict.TheVariants as verdict
 use Rattle.grid_laws.specs.Right.{Falls, Right, Planned, FirstBlocked}
 use Rattle.model_run.specs.Reports.{Reports, firings_of, Each}
 use Rattle.demands.specs.Plan.{SameWindow}
@@ -21,7 +20,7 @@ pub record ListOfCalls : Type 0 where
   pub chain : Chain
   -- The rows, where the grid is skewed.
   pub rows : List ℕ
-  pub accepted : judge_chain chain rows ≡ verdict.Accepted
+  pub accepted : judge_chain chain rows ≡ Ok tt
   pub stream : ℕ → ℕ
   pub start : Between
   pub fresh : Fresh (trimmed chain rows) start

@@ -1,5 +1,5 @@
 -- Iterations, distances and cells, and numbers 6 and 15 (document 01, "Grid, window, distances"; document 02, requests 4 and 5).
-use Rattle.std.specs.Prelude.{ℕ, suc, ◌+◌, ◌-◌, ◌≤◌, ◌<◌, true, false, List, ◌↔◌, ◌≡◌, ℤ}
+use Rattle.std.specs.Prelude.{ℕ, suc, ◌+◌, ◌-◌, ◌≤◌, ◌<◌, true, false, List, ◌↔◌, ◌≡◌, ℤ, Ok}
 use Rattle.model.specs.Vectors.{before}
 use Rattle.model.specs.Grounds.Ground.{rectangle}
 use Rattle.model.specs.Boxes.{between, crossed, bad_box, full_box}
@@ -15,7 +15,6 @@ use Rattle.model.specs.declared.Bounds.{Bounds}
 use Rattle.model.specs.declared.Chain.{Chain}
 use Rattle.model.specs.declared.Request.{Request}
 use Rattle.model.specs.declared.State.{State}
-use Rattle.model.specs.declared.Verdict.TheVariants as verdict
 
 module _ (t : Trimmed) where
   -- 4 and 15 let the value pass.
@@ -94,8 +93,8 @@ pub record Filling (c : Chain) (sizes : List ℕ) (b : Bounds) : Type 0 where
 -- word and clock.
 abbrev pub FullBoxRuns : Type 0
 FullBoxRuns = (c : Chain) (rows sizes : List ℕ) → (trimmed c rows).the_ground ≡ rectangle sizes → (b : Bounds) → Filling c sizes b
-    → judge_chain c rows ≡ verdict.Accepted
-    → (judge_chain (set_bounds b c) rows ≡ verdict.Accepted)
+    → judge_chain c rows ≡ Ok tt
+    → (judge_chain (set_bounds b c) rows ≡ Ok tt)
     × ((s : State) (store lent output : List ℕ) (allowance : ℕ)
     → run_of (set_bounds b c) rows s store lent output allowance ≡ run_of c rows s store lent output allowance)
 
@@ -105,7 +104,7 @@ pub record Geometry : Type 0 where
   pub iterations : (c : Chain) (rows : List ℕ) → Passes (trimmed c rows) → Enumerated (trimmed c rows)
   pub request_iterations : (r : Request) (rows : List ℕ) → Passes (trimmed_request r rows) → Enumerated (trimmed_request r rows)
   pub newest : (c : Chain) (rows : List ℕ) → Passes (trimmed c rows) → Newest (trimmed c rows)
-  pub largest : (c : Chain) (rows : List ℕ) → judge_chain c rows ≡ verdict.Accepted → Largest (trimmed c rows)
+  pub largest : (c : Chain) (rows : List ℕ) → judge_chain c rows ≡ Ok tt → Largest (trimmed c rows)
   pub distances : (c : Chain) (rows sizes : List ℕ) → (trimmed c rows).the_ground ≡ rectangle sizes → Passes (trimmed c rows)
       → SameDistance (trimmed c rows)
   pub cells : (c : Chain) (rows : List ℕ) → Placed (trimmed c rows)

@@ -1,15 +1,14 @@
 -- Demand 2, of a plan: the sorted window and the reuse distances, and the author's order.
-use Rattle.std.specs.Prelude.{ℕ, suc, ◌+◌, ◌-◌, ◌≤◌, ◌<◌, true, List, [], ◌≡◌, length, get_or}
+use Rattle.std.specs.Prelude.{ℕ, suc, ◌+◌, ◌-◌, ◌≤◌, ◌<◌, true, List, [], ◌≡◌, length, get_or, Ok}
 use Rattle.model.specs.Lists.{sum}
 use Rattle.model.specs.Windows.{Members}
 use Rattle.model.specs.Grounds.Ground.{rectangle}
 use Rattle.model.specs.Values.{Trimmed, ground_of, dims_of, offsets_of, part_of, trimmed}
 use Rattle.model.specs.Iterations.{iterations_of, reads_of}
 use Rattle.model.specs.Judging.{judge_chain}
-use Rattle.model.specs.Planning.{judge_request, plan_of}
+use Rattle.model.specs.Planning.{judge_request, planned_chain, plan_of}
 use Rattle.model.specs.declared.Chain.{Chain}
 use Rattle.model.specs.declared.Request.{Request}
-use Rattle.model.specs.declared.Verdict.TheVariants as verdict
 use Rattle.grid_laws.specs.Right.{Right, Planned}
 
 -- Values of the same grid, box and window: the same cells, the same box or none, and the same offsets in any order;
@@ -55,10 +54,10 @@ pub record PlanRight (r : Request) (rows : List ℕ) (t : Trimmed) : Type 0 wher
 
 -- What planning gives.
 pub record PlanGives (r : Request) (rows : List ℕ) : Type 0 where
-  pub answer : (plan_of r rows).verdict ≡ verdict.Accepted
-  pub accepted : judge_chain (plan_of r rows).chain rows ≡ verdict.Accepted
-  pub right : PlanRight r rows (trimmed (plan_of r rows).chain rows)
+  pub answer : plan_of r rows ≡ Ok (planned_chain r rows)
+  pub accepted : judge_chain (planned_chain r rows) rows ≡ Ok tt
+  pub right : PlanRight r rows (trimmed (planned_chain r rows) rows)
 
 -- A request that no number turns back is planned, and its chain is accepted.
 abbrev pub PlanDemand : Type 0
-PlanDemand = (r : Request) (rows : List ℕ) → judge_request r rows ≡ verdict.Accepted → PlanGives r rows
+PlanDemand = (r : Request) (rows : List ℕ) → judge_request r rows ≡ Ok tt → PlanGives r rows

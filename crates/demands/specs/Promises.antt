@@ -1,5 +1,5 @@
 -- The other promises of document 01, "Running" and "Turned back".
-use Rattle.std.specs.Prelude.{ℕ, ◌+◌, ◌-◌, ◌*◌, ◌≤◌, ◌<◌, true, false, List, [], ◌∷◌, ◌⊎◌, ◌≡◌, length, take, drop}
+use Rattle.std.specs.Prelude.{ℕ, ◌+◌, ◌-◌, ◌*◌, ◌≤◌, ◌<◌, true, false, List, [], ◌∷◌, ◌⊎◌, ◌≡◌, length, take, drop, Ok, Err}
 use Rattle.model.specs.Values.{Trimmed, Same}
 use Rattle.model.specs.Answers.{no_counts, answer_number, answer_counts}
 use Rattle.model.specs.Judging.{judge_chain}
@@ -10,7 +10,6 @@ use Rattle.model.specs.declared.Chain.{Chain}
 use Rattle.model.specs.declared.State.{State}
 use Rattle.model.specs.declared.Refusal.{Refusal}
 use Rattle.model.specs.declared.Outcome.TheVariants as outcome
-use Rattle.model.specs.declared.Answer.TheVariants as answer
 use Rattle.model_run.specs.Reports.{Reports, firings_of, clocks_of}
 use Rattle.demands.specs.Demand3.{ListOfCalls, runs_of, handed_on, one_more, chain_in}
 
@@ -51,15 +50,15 @@ module _ (q : ListOfCalls) where
   -- line before Stalled are Spent, with no clock allowed, and Starved, with no cell lent.
   pub record Again (l m : Lending) : Type 0 where
     pub done : Reports outcome.Done (one_more q l) → short_store (chain_in q) (again_store l m) ≡ false
-        → (again l m).answer ≡ answer.Ended (outcome.Done no_counts)
+        → (again l m).answer ≡ Ok (outcome.Done no_counts)
     pub stalled : Reports outcome.Stalled (one_more q l) → short_store (chain_in q) (again_store l m) ≡ false → 0 < m.allowance
         → 0 < m.cells
-        → (again l m).answer ≡ answer.Ended (outcome.Stalled no_counts)
+        → (again l m).answer ≡ Ok (outcome.Stalled no_counts)
     pub spent : Reports outcome.Stalled (one_more q l) → short_store (chain_in q) (again_store l m) ≡ false → m.allowance ≡ 0
-        → (again l m).answer ≡ answer.Ended (outcome.Spent no_counts)
+        → (again l m).answer ≡ Ok (outcome.Spent no_counts)
     pub starved : Reports outcome.Stalled (one_more q l) → short_store (chain_in q) (again_store l m) ≡ false → 0 < m.allowance
         → m.cells ≡ 0
-        → (again l m).answer ≡ answer.Ended (outcome.Starved no_counts)
+        → (again l m).answer ≡ Ok (outcome.Starved no_counts)
 
 -- Two lists of calls on one chain and one stream.
 pub record SameRun (p q : ListOfCalls) : Type 0 where
@@ -141,7 +140,7 @@ pub record SmallPieces : Type 0 where
 -- A refused call, of any chain and any state, changes nothing and counts 0.
 abbrev pub RefusedKeeps : Type 0
 RefusedKeeps = (c : Chain) (rows : List ℕ) (s : State) (store lent output : List ℕ) (allowance : ℕ) (x : Refusal)
-    → (run_of c rows s store lent output allowance).answer ≡ answer.Refused x
+    → (run_of c rows s store lent output allowance).answer ≡ Err x
     → ((run_of c rows s store lent output allowance).state ≡ s)
     × ((run_of c rows s store lent output allowance).store ≡ store)
     × ((run_of c rows s store lent output allowance).output ≡ output)

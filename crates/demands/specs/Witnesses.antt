@@ -1,6 +1,6 @@
 -- Values of which the premises hold that no statement concludes, by computation (`LentEnough` has its own beside its
 -- definition): whoever asks for more in one of them is refused here.
-use Rattle.std.specs.Prelude.{ℕ, zero, suc, ◌-◌, true, false, List, [], ◌∷◌, ◌≡◌, refl, pos}
+use Rattle.std.specs.Prelude.{ℕ, zero, suc, ◌-◌, true, false, List, [], ◌∷◌, ◌≡◌, refl, pos, Ok}
 use Rattle.std.proofs.Common.{true≢false, arith}
 use Rattle.model.specs.Lists.{tabulate, sum, product, greatest, all, any}
 use Rattle.model.specs.Vectors.{same, above, plus, equal, before, is_zero}
@@ -18,7 +18,6 @@ use Rattle.model.specs.Judging.{judged, judge_chain}
 use Rattle.model.specs.declared.CellsPassed.{CellsPassed}
 use Rattle.model.specs.declared.Chain.{Chain}
 use Rattle.model.specs.declared.Kernel.TheVariants as kernel
-use Rattle.model.specs.declared.Verdict.TheVariants as verdict
 use Rattle.model_run.specs.Kernels.{width}
 use Rattle.model_run.specs.Clock.{fresh}
 use Rattle.model_run.specs.Running.{layout, counters_of, width_of, short_store}
@@ -94,7 +93,7 @@ printed past = record {
   kernel = kernel.Raw;
 }
 
-pub accepted : (past rows : List ℕ) → judge_chain (printed past) rows ≡ verdict.Accepted
+pub accepted : (past rows : List ℕ) → judge_chain (printed past) rows ≡ Ok tt
 unfolding tabulate sum product greatest all any same above plus equal before is_zero
     rectangular.cell_count cell_count first_entry other_entries least_from least lows extent extents count all_iterations bad_box
     sizes_of ground_of dims_of offset_of offsets_of part_of capacities_of order_of trimmed first_of

@@ -10,7 +10,7 @@ use Rattle.model.specs.Answers.{first_of}
 use Rattle.model.specs.Judging.{bad_ground, bad_count, repeats, no_iteration, centred, needs_centre, lacks_centre, bad_factor, too_large, twice, bad_order, window_checks, kernel_checks, chain_checks, value_checks}
 use Rattle.model.specs.Pairs.{Own, not_union, raw_of, raw_chain, pair_checks}
 use Rattle.model.specs.declared.Chain.{Chain}
-use Rattle.model.specs.declared.Verdict.TheVariants as verdict
+use Rattle.std.specs.Prelude.{Ok}
 use Rattle.grid_laws.proofs.CheckLaws.{passes}
 use Rattle.grid_laws.proofs.Tests.{neither, both_false}
 
@@ -32,7 +32,7 @@ module _ (t : Trimmed) (a b : Own) where
     pub places : too_large t.capacities ≡ false
     pub is_union : not_union t.offsets a b ≡ false
 
-  pub pair_passes : first_of (pair_checks t a b) ≡ verdict.Accepted → PairPasses
+  pub pair_passes : first_of (pair_checks t a b) ≡ Ok tt → PairPasses
   unfolding pair_checks any
   pair_passes e =
       let p3 = passes _ _ _ e in
@@ -71,7 +71,7 @@ module _ (t : Trimmed) (a b : Own) where
       }
 
   -- The raw chain is not turned back either.
-  pub raw_checks : PairPasses → first_of (value_checks (raw_of t)) ≡ verdict.Accepted
+  pub raw_checks : PairPasses → first_of (value_checks (raw_of t)) ≡ Ok tt
   unfolding value_checks window_checks kernel_checks chain_checks first_of raw_of lacks_centre needs_centre bad_factor bad_order any twice
   raw_checks p = rw (p.grid, p.count, p.distinct, p.iterates, p.fits, p.places) refl
 

@@ -2,7 +2,7 @@
 use Prim.Native.Nat.{ℕ, suc, ◌+◌, ◌-◌, ◌≤◌, ◌<◌}
 use mathlib.Core.Bool.{Bool, true, false}
 use mathlib.Core.List.{List, [], ◌++◌}
-use mathlib.Core.Path.{◌≡◌, refl, ◌∙◌, ap}
+use mathlib.Core.Path.{◌≡◌, refl, sym, ◌∙◌, ap}
 use native.Mathlib.Omega.{arith}
 use lib.ListN.{length, get_or}
 use lib.IntN.{ℤ}
@@ -13,21 +13,20 @@ use Rattle.model.specs.Courses.{count}
 use Rattle.model.specs.Boxes.{course, bad_box}
 use Rattle.model.specs.Boxes.Part.{whole}
 use Rattle.model.specs.Sized.{Fitting}
-use Rattle.model.specs.Values.{Trimmed, ground_of, dims_of, offsets_of, part_of, on_grid, window_of, capacity_array, filter_array, chain_of, blank_chain}
+use Rattle.model.specs.Values.{Trimmed, ground_of, dims_of, offsets_of, part_of, on_grid, window_of, capacity_array, filter_array, chain_of}
 use Rattle.model.specs.Iterations.{iterations_of, distance_of}
-use Rattle.model.specs.Answers.{first_of, by_verdict}
+use Rattle.model.specs.Answers.{Verdict, verdict_of, first_of, by_verdict, by_answer}
 use Rattle.model.specs.Judging.{no_iteration, too_large, twice, bad_order, centred, window_checks, kernel_checks, chain_checks, value_checks, judged, judge_window, judge_behind}
-use Rattle.model.specs.Steps.{falling, authors_order, sorted, distances, total, steps_of, refused_steps}
+use Rattle.model.specs.Steps.{falling, authors_order, sorted, distances, total, steps_of}
 use Rattle.model.specs.Planning.{trimmed_request, judge_request, planned_chain, plan_of, chain_by}
 use Rattle.model.specs.declared.Bounds.{Bounds}
+use Rattle.model.specs.declared.Chain.{Chain}
 use Rattle.model.specs.declared.Grid.{Grid}
 use Rattle.model.specs.declared.Kernel.{Kernel}
-use Rattle.model.specs.declared.Planned.{Planned}
 use Rattle.model.specs.declared.Refusal.{Refusal}
 use Rattle.model.specs.declared.Request.{Request}
 use Rattle.model.specs.declared.Steps.{Steps}
-use Rattle.model.specs.declared.Verdict.{Verdict}
-use Rattle.model.specs.declared.Verdict.TheVariants as verdict
+use Rattle.std.specs.Prelude.{Result, Ok, Err}
 use Rattle.model.specs.declared.Window.{Window}
 use Rattle.grid_laws.proofs.ListLaws.{length_tabulate, get_d_tabulate}
 use Rattle.grid_laws.proofs.Iterations.{some_covered}
@@ -35,7 +34,7 @@ use Rattle.grid_laws.proofs.SameCourses.{same_course}
 use Rattle.grid_laws.proofs.SameWindows.{same_count, fitting_too}
 use Rattle.grid_laws.proofs.SortLaws.{length_falling, falling_each, falling_no_other, sized_falling, falling_falls, repeats_falling}
 use Rattle.grid_laws.proofs.ChainLaws.{ground_dims, grid_normal, offsets_count, offsets_sized, part_bounded, offsets_back, capacities_back}
-use Rattle.grid_laws.proofs.CheckLaws.{then_checks, both_pass, WindowPasses, window_passes, few_dims, some_references, few_references}
+use Rattle.grid_laws.proofs.CheckLaws.{then_checks, both_pass, verdict_back, WindowPasses, window_passes, few_dims, some_references, few_references}
 
 -- 9 of the distances is 9 of their sum; a request has no order, so there is no 14.
 by_total : (k : Kernel) (centred : Bool) (n : ℕ) (t : Trimmed) → first_of (kernel_checks k centred ++ chain_checks (distances t) n []) ≡ judge_behind k centred (total t)
@@ -57,16 +56,28 @@ module _ (g : Grid) (rows : List ℕ) (w : Window) where
   arranged_sized k h = sized_falling (dims (ground_of g rows)) given (offsets_sized g rows w) k (omega (arith, arranged_count))
 
   module _ (bounds : Bounds) where
+    -- What the steps give.
+    abbrev pub taken : Steps
+    taken = record {
+      window = window_of w.count arranged;
+      filters = filter_array (authors_order given);
+      distances = capacity_array (distances (sorted (on_grid g rows w bounds)));
+      total = total (sorted (on_grid g rows w bounds));
+    }
+
     -- What the steps answer, by what comes before them.
-    pub steps_verdict : (steps_of g rows w bounds).verdict ≡ judge_window g rows w bounds
+    pub steps_verdict : verdict_of (steps_of g rows w bounds) ≡ judge_window g rows w bounds
     unfolding steps_of
     steps_verdict = go (judge_window g rows w bounds) refl
       where
-        go : (v : Verdict) → judge_window g rows w bounds ≡ v → (steps_of g rows w bounds).verdict ≡ judge_window g rows w bounds
-        go verdict.Accepted e = rw e
-        go (verdict.Refused x) e = rw e
+        go : (v : Verdict) → judge_window g rows w bounds ≡ v → verdict_of (steps_of g rows w bounds) ≡ judge_window g rows w bounds
+        go (Ok _) e = rw e
+        go (Err x) e = rw e
 
-    pub steps_refused : (x : Refusal) → judge_window g rows w bounds ≡ verdict.Refused x → steps_of g rows w bounds ≡ refused_steps x
+    pub steps_passed : (s : Steps) → steps_of g rows w bounds ≡ Ok s → judge_window g rows w bounds ≡ Ok tt
+    steps_passed s e = sym steps_verdict ∙ ap verdict_of e
+
+    pub steps_refused : (x : Refusal) → judge_window g rows w bounds ≡ Err x → steps_of g rows w bounds ≡ Err x
     unfolding steps_of
     steps_refused x e = rw e
 
@@ -75,16 +86,13 @@ module _ (g : Grid) (rows : List ℕ) (w : Window) where
     unfolding steps_of ground_of
     steps_flat flat = rw flat
 
-    module _ (e : judge_window g rows w bounds ≡ verdict.Accepted) where
-      pub steps_taken : steps_of g rows w bounds ≡ (record {
-        verdict = verdict.Accepted;
-        window = window_of w.count arranged;
-        filters = filter_array (authors_order given);
-        distances = capacity_array (distances (sorted (on_grid g rows w bounds)));
-        total = total (sorted (on_grid g rows w bounds));
-      })
+    module _ (e : judge_window g rows w bounds ≡ Ok tt) where
+      pub steps_taken : steps_of g rows w bounds ≡ Ok taken
       unfolding steps_of sorted
       steps_taken = rw e
+
+      pub steps_given : (s : Steps) → steps_of g rows w bounds ≡ Ok s → s ≡ taken
+      steps_given s f = cc steps_taken
 
       pub passed : WindowPasses (on_grid g rows w bounds)
       passed = window_passes (on_grid g rows w bounds) e
@@ -108,7 +116,7 @@ module _ (g : Grid) (rows : List ℕ) (w : Window) where
           (λ k h. arranged_sized k (omega (arith, arranged_count))) (part_bounded g rows bounds)
 
       -- The sorted window is let pass as the author's is.
-      pub arranged_judged : first_of (window_checks (sorted (on_grid g rows w bounds))) ≡ verdict.Accepted
+      pub arranged_judged : first_of (window_checks (sorted (on_grid g rows w bounds))) ≡ Ok tt
       unfolding sorted window_checks no_iteration course
       arranged_judged = ap first_of same ∙ e
         where
@@ -152,36 +160,43 @@ module _ (g : Grid) (rows : List ℕ) (w : Window) where
 
 -- A request is judged by what comes before the steps, then by 7 and 8, then by 9 of their total,
 module _ (r : Request) (rows : List ℕ) where
-  abbrev steps : Steps
+  abbrev steps : Result Steps Refusal
   steps = steps_of r.grid rows r.window r.bounds
 
   abbrev has_centre : Bool
   has_centre = centred (offsets_of (dims_of r.grid) r.window)
 
-  pub judged_by_steps : judge_request r rows ≡ by_verdict steps.verdict (judge_behind r.kernel has_centre steps.total) verdict.Refused
+  pub judged_by_steps : judge_request r rows ≡ by_answer steps (λ s. judge_behind r.kernel has_centre s.total) Err
   unfolding judge_request judged value_checks trimmed_request window_checks
   judged_by_steps = then_checks (window_checks (trimmed_request r rows)) _ ∙ go (judge_window r.grid rows r.window r.bounds) refl
     where
       go : (v : Verdict) → judge_window r.grid rows r.window r.bounds ≡ v
-          → by_verdict (judge_window r.grid rows r.window r.bounds) (first_of (kernel_checks r.kernel has_centre ++ chain_checks (distances (sorted (on_grid r.grid rows r.window r.bounds))) r.window.count [])) verdict.Refused
-          ≡ by_verdict steps.verdict (judge_behind r.kernel has_centre steps.total) verdict.Refused
-      go verdict.Accepted e = rw (e, steps_taken r.grid rows r.window r.bounds e) (by_total r.kernel has_centre r.window.count (sorted (on_grid r.grid rows r.window r.bounds)))
-      go (verdict.Refused x) e = rw (e, steps_refused r.grid rows r.window r.bounds x e)
+          → by_verdict (judge_window r.grid rows r.window r.bounds) (first_of (kernel_checks r.kernel has_centre ++ chain_checks (distances (sorted (on_grid r.grid rows r.window r.bounds))) r.window.count [])) Err
+          ≡ by_answer steps (λ s. judge_behind r.kernel has_centre s.total) Err
+      go (Ok _) e = rw (e, steps_taken r.grid rows r.window r.bounds e) (by_total r.kernel has_centre r.window.count (sorted (on_grid r.grid rows r.window r.bounds)))
+      go (Err x) e = rw (e, steps_refused r.grid rows r.window r.bounds x e)
 
-  pub request_passes : judge_request r rows ≡ verdict.Accepted → judge_window r.grid rows r.window r.bounds ≡ verdict.Accepted
+  pub request_passes : judge_request r rows ≡ Ok tt → judge_window r.grid rows r.window r.bounds ≡ Ok tt
   unfolding judge_request judged value_checks trimmed_request window_checks
   request_passes e = (both_pass (window_checks (trimmed_request r rows)) _ e).0
 
-  pub plan_verdict_lem : (plan_of r rows).verdict ≡ judge_request r rows
+  pub plan_verdict_lem : verdict_of (plan_of r rows) ≡ judge_request r rows
   unfolding plan_of
-  plan_verdict_lem = go (judge_request r rows)
-    where
-      go : (v : Verdict) → (by_verdict {A = Planned} v (record { verdict = verdict.Accepted; chain = planned_chain r rows }) (λ x. record { verdict = verdict.Refused x; chain = blank_chain })).verdict ≡ v
-      go verdict.Accepted = refl
-      go (verdict.Refused x) = refl
+  plan_verdict_lem = verdict_back (judge_request r rows) (planned_chain r rows)
+
+  pub plan_passed : (c : Chain) → plan_of r rows ≡ Ok c → judge_request r rows ≡ Ok tt
+  plan_passed c e = sym plan_verdict_lem ∙ ap verdict_of e
+
+  -- Of a request that is planned the chain is the planned one;
+  pub plan_taken : judge_request r rows ≡ Ok tt → plan_of r rows ≡ Ok (planned_chain r rows)
+  unfolding plan_of
+  plan_taken e = rw e
+
+  pub plan_chain : (c : Chain) → plan_of r rows ≡ Ok c → c ≡ planned_chain r rows
+  plan_chain c e = cc (plan_taken (plan_passed c e))
 
   -- and its chain is made of their results.
-  module _ (e : judge_window r.grid rows r.window r.bounds ≡ verdict.Accepted) where
-    pub chain_by_steps : planned_chain r rows ≡ chain_by r.grid r.bounds r.kernel steps
+  module _ (e : judge_window r.grid rows r.window r.bounds ≡ Ok tt) where
+    pub chain_by_steps : planned_chain r rows ≡ chain_by r.grid r.bounds r.kernel (taken r.grid rows r.window r.bounds)
     unfolding planned_chain trimmed_request sorted chain_of
-    chain_by_steps = rw (grid_normal r.grid rows, steps_taken r.grid rows r.window r.bounds e)
+    chain_by_steps = rw (grid_normal r.grid rows)

@@ -8,7 +8,7 @@ ghost use Rattle.model_run.specs.Kernels.{words_at};
 ghost use Rattle.kernel.specs.Applied.{applied};
 
 use kernel_terms::width;
-use kernel_words::{blend, difference, listed, scaled};
+use kernel_words::{blend, difference, scaled};
 use model::Kernel;
 
 // The words of these filters, from place `at` on.
@@ -16,10 +16,8 @@ fn copy(filters: &[u8], words: &[u32; 256], out: &mut [u32], at: usize)
     requires { at + length filters.now ≤ length out.old }
     ensures { out.new ≡ sets out.old at (words_at filters.now words.now) }
 {
-    let mut i = 0;
-    while i < filters.len() {
-        out[at + i] = listed(filters, words, i);
-        i += 1;
+    for (i, k) in filters.iter().enumerate() {
+        out[at + i] = words[*k as usize];
     }
 }
 

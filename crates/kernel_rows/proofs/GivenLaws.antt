@@ -1,14 +1,15 @@
 -- What the firings of a batch leave in the output.
-use Prim.Native.Nat.{ℕ, zero, suc, ◌+◌, ◌-◌, ◌*◌, ◌/◌, ◌<◌, ◌≤◌}
+use Prim.Native.Nat.{ℕ, suc, ◌+◌, ◌-◌, ◌*◌, ◌/◌, ◌<◌, ◌≤◌}
 use mathlib.Core.Bool.{Bool, true, false, ◌&&◌}
 use mathlib.Core.List.{List, ◌++◌}
 use mathlib.Core.Path.{◌≡◌, refl, sym, ap, ◌∙◌}
-use native.Mathlib.Nat.{suc-mul, le-div_iff_mul-le, mul-le-mul_right, zero-mul}
+use native.Mathlib.Nat.{suc-mul, le-div_iff_mul-le}
+use native.Mathlib.Numerals.{add-one}
 use native.Mathlib.Omega.{arith}
 use lib.ListN.{length, take, drop}
 use lib.Seq.{sets, drop-drop, length-sets}
 use lib.Dec.{leb, ltb}
-use borrow.Author.Tests.{ltb-true, leb-true, le-leb, lt-leb, lt-ltb, le-ltb}
+use borrow.Author.Tests.{ltb-true, leb-true, le-leb, lt-ltb}
 use Rattle.model.specs.declared.Kernel.{Kernel}
 use Rattle.model_run.specs.Kernels.{written, width}
 use Rattle.model_run.specs.PairRuns.{by_rows}
@@ -28,29 +29,6 @@ module _ (n wide count words at places : ℕ) where
     le-leb at places (omega arith),
     le-leb count ((places - at) / wide) ((le-div_iff_mul-le hw).1 (omega arith)),
   )
-
-  pub no_words : n ≡ 0 → false ≡ fits n wide count words at places
-  unfolding fits
-  no_words e = rw (le-ltb 0 n (omega arith))
-
-  module _ (hn : n ≡ 0 → ⊥) where
-    pub no_width : wide ≡ 0 → false ≡ fits n wide count words at places
-    unfolding fits
-    no_width e = rw (lt-ltb 0 n (omega arith), le-ltb 0 wide (omega arith))
-
-    module _ (hw : wide ≡ 0 → ⊥) where
-      pub too_few : words / n < count → false ≡ fits n wide count words at places
-      unfolding fits
-      too_few h = rw (lt-ltb 0 n (omega arith), lt-ltb 0 wide (omega arith), lt-leb count (words / n) h)
-
-      module _ (rows : count ≤ words / n) where
-        pub past_end : places < at → false ≡ fits n wide count words at places
-        unfolding fits
-        past_end h = rw (lt-ltb 0 n (omega arith), lt-ltb 0 wide (omega arith), le-leb count (words / n) rows, lt-leb at places h)
-
-        pub by_places : at ≤ places → leb count ((places - at) / wide) ≡ fits n wide count words at places
-        unfolding fits
-        by_places h = rw (lt-ltb 0 n (omega arith), lt-ltb 0 wide (omega arith), le-leb count (words / n) rows, le-leb at places h)
 
 both : (a b : Bool) → (a && b) ≡ true → (a ≡ true) × (b ≡ true)
 both true b e = (refl, e)
@@ -88,56 +66,39 @@ module _ (k : Kernel) (c : ℕ) (ts us : List ℕ) (n count : ℕ) (batch : List
 
 -- ---- one row more
 
--- What the loop keeps: there is room for the rows that are left, and they give what all give.
-pub record Going (k : Kernel) (c : ℕ) (ts us : List ℕ) (n count wide : ℕ) (batch : List ℕ) (at : ℕ) (out₀ : List ℕ) (from to left : ℕ) (out : List ℕ) : Type 0 where
+-- What the loop keeps before row i: the rows that are left give what all give.
+pub record Going (k : Kernel) (c : ℕ) (ts us : List ℕ) (n count wide : ℕ) (batch : List ℕ) (at : ℕ) (out₀ : List ℕ) (i : ℕ) (out : List ℕ) : Type 0 where
   pub same : length out ≡ length out₀
-  pub is_width : wide ≡ width k (length us)
-  pub there : from + left * n ≤ length batch
-  pub space : to + left * wide ≤ length out
-  pub gives : sets out to (by_rows n (written k c ts us) left (drop from batch)) ≡ sets out₀ at (by_rows n (written k c ts us) count batch)
+  pub gives : sets out (at + i * wide) (by_rows n (written k c ts us) (count - i) (drop (i * n) batch)) ≡ sets out₀ at (by_rows n (written k c ts us) count batch)
 
-module _ {k : Kernel} {c : ℕ} {ts us : List ℕ} {n count wide : ℕ} {batch : List ℕ} {at : ℕ} {out₀ : List ℕ} where
-  pub going_start : Room k us n count wide (length batch) at (length out₀) → Going k c ts us n count wide batch at out₀ 0 at count out₀
-  going_start r = record { same = refl; is_width = r.is_width; there = omega (arith, r.there); space = r.space; gives = refl }
-
-  next : {from to m : ℕ} {out out' : List ℕ} → Going k c ts us n count wide batch at out₀ from to (suc m) out → out' ≡ sets out to (written k c ts us (take n (drop from batch)))
-      → Going k c ts us n count wide batch at out₀ (from + n) (to + wide) m out'
+module _ (k : Kernel) (c : ℕ) (ts us : List ℕ) (n : ℕ) (batch : List ℕ) where
+  -- The row at `from`, and then m more.
+  row_more : {wide : ℕ} (from to m : ℕ) (out out' : List ℕ) → wide ≡ width k (length us) → out' ≡ sets out to (written k c ts us (take n (drop from batch)))
+      → sets out' (to + wide) (by_rows n (written k c ts us) m (drop (from + n) batch)) ≡ sets out to (by_rows n (written k c ts us) (suc m) (drop from batch))
   unfolding by_rows
-  next {from} {to} {m} {out} {out'} g e =
+  row_more {wide} from to m out out' width_is e =
       let w = written k c ts us in
       let row = w (take n (drop from batch)) in
       let rest = by_rows n w m (drop (from + n) batch) in
-      let long : length out' ≡ length out = ap length e ∙ length-sets out to row in
-      let wide_is : wide ≡ length row = g.is_width ∙ sym (written_width k c ts us (take n (drop from batch))) in
-      record {
-        same = long ∙ g.same;
-        is_width = g.is_width;
-        there = omega (arith, g.there, suc-mul m n);
-        space = omega (arith, g.space, suc-mul m wide);
-        gives = ap (λ (o : List ℕ). sets o (to + wide) rest) e
-            ∙ ap (λ (j : ℕ). sets (sets out to row) (to + j) rest) wide_is
-            ∙ sets_join row rest out to
-            ∙ ap (λ (l : List ℕ). sets out to (row ++ by_rows n w m l)) (sym (drop-drop n from batch))
-            ∙ g.gives;
-      }
+      let wide_is : wide ≡ length row = width_is ∙ sym (written_width k c ts us (take n (drop from batch))) in
+      ap (λ (o : List ℕ). sets o (to + wide) rest) e
+      ∙ ap (λ (j : ℕ). sets (sets out to row) (to + j) rest) wide_is
+      ∙ sets_join row rest out to
+      ∙ ap (λ (l : List ℕ). sets out to (row ++ by_rows n w m l)) (sym (drop-drop n from batch))
 
-  module _ {from to left : ℕ} {out : List ℕ} (g : Going k c ts us n count wide batch at out₀ from to left out) where
-    pub row_there : 0 < left → from + n ≤ length batch
-    row_there h = omega (arith, g.there, mul-le-mul_right n h, suc-mul 0 n, zero-mul n)
+module _ {k : Kernel} {c : ℕ} {ts us : List ℕ} {n count wide : ℕ} {batch : List ℕ} {at : ℕ} {out₀ : List ℕ} where
+  pub going_next : {i : ℕ} {out out' : List ℕ} → wide ≡ width k (length us) → i < count → Going k c ts us n count wide batch at out₀ i out
+      → out' ≡ sets out (at + i * wide) (written k c ts us (take ((i + 1) * n - i * n) (drop (i * n) batch))) → Going k c ts us n count wide batch at out₀ (i + 1) out'
+  going_next {i} {out} {out'} r h g e = record {
+    same = ap length e ∙ length-sets out (at + i * wide) (written k c ts us (take ((i + 1) * n - i * n) (drop (i * n) batch))) ∙ g.same;
+    gives =
+        let to : at + (i + 1) * wide ≡ at + i * wide + wide = omega (arith, suc-mul i wide, ap (λ (j : ℕ). j * wide) (add-one i)) in
+        let from : (i + 1) * n ≡ i * n + n = omega (arith, suc-mul i n, ap (λ (j : ℕ). j * n) (add-one i)) in
+        let one : (i + 1) * n - i * n ≡ n = omega arith in
+        let left : count - i ≡ suc (count - (i + 1)) = omega arith in
+        rw (to, from) (row_more k c ts us n batch (i * n) (at + i * wide) (count - (i + 1)) out out' r (rw one at e) ∙ rw left at g.gives);
+  }
 
-    pub place_there : 0 < left → to + wide ≤ length out
-    place_there h = omega (arith, g.space, mul-le-mul_right wide h, suc-mul 0 wide, zero-mul wide)
-
-    pub going_end : left ≤ 0 → out ≡ sets out₀ at (by_rows n (written k c ts us) count batch)
-    unfolding by_rows
-    going_end h =
-        let z : left ≡ 0 = omega arith in
-        rw z at g.gives
-
-  pub going_next : {from to left : ℕ} {out out' : List ℕ} → Going k c ts us n count wide batch at out₀ from to left out → 0 < left
-      → out' ≡ sets out to (written k c ts us (take (from + n - from) (drop from batch))) → Going k c ts us n count wide batch at out₀ (from + n) (to + wide) (left - 1) out'
-  going_next {left = zero} g h e = absurd (omega arith)
-  going_next {from} {left = suc m} g h e =
-      let p : from + n - from ≡ n = omega arith in
-      let q : suc m - 1 ≡ m = omega arith in
-      rw q (next g (rw p at e))
+  pub going_end : {i : ℕ} {out : List ℕ} → count ≤ i → Going k c ts us n count wide batch at out₀ i out → out ≡ sets out₀ at (by_rows n (written k c ts us) count batch)
+  unfolding by_rows
+  going_end {i} h g = let z : count - i ≡ 0 = omega arith in rw z at g.gives

@@ -2,9 +2,9 @@
 
 #![tactic(auto)]
 
-ghost use Rattle.std.specs.Prelude.{◌≡◌, ◌+◌, ◌≤◌, length, get_or};
+ghost use Rattle.std.specs.Prelude.{◌≡◌, ℕ, Float, map, ◌+◌, ◌≤◌, length, get_or};
 ghost use Rattle.std.proofs.lemmas.List.Edits.{sets};
-ghost use Rattle.model_run.specs.Kernels.{words_at, written, width as width_of};
+ghost use Rattle.model_run.specs.Kernels.{sum_of, words_at, written, width as width_of};
 ghost use Rattle.model_run.specs.Kernels.{difference as difference_of, scaled as scaled_of, blend as blend_of};
 ghost use Rattle.model_run.specs.PairRuns.{by_rows};
 ghost use Rattle.kernel_words.specs.Sums.{sum_of_terms, sum_of_squares};
@@ -22,47 +22,35 @@ fn word_at(row: &[u32], k: u8) -> u32
     number_at(row, k as usize)
 }
 
-// The word of the filter at place i of the list; 0 where there is none.
-fn listed(filters: &[u8], row: &[u32], i: usize) -> u32
-    ensures { result ≡ get_or (words_at filters.now row.now) i 0 }
+// The terms added in their order, starting from the first, where `term` makes them of the filters' words.
+fn sum_of<F: Fn(u32) -> f32>(term: F, terms: &[u8], row: &[u32]) -> f32
+    requires { F.IsAlwaysCallable term }
+    ensures { (t : ℕ → Float) → ((w : ℕ) (x : Float) → F.post term w x → x ≡ t w)
+        → result ≡ sum_of (map t (words_at terms.now row.now)) }
 {
-    if i < filters.len() {
-        return word_at(row, filters[i]);
-    }
-    0
-}
-
-// The terms added in their order, starting from the first.
-fn sum_of_terms(terms: &[u8], row: &[u32]) -> f32
-    ensures { result ≡ sum_of_terms terms.now row.now }
-{
-    if terms.len() == 0 {
+    let Some((first, rest)) = terms.split_first() else {
         return 0.0;
-    }
-    let mut sum = float_of(listed(terms, row, 0));
-    let mut i = 1;
-    while i < terms.len() {
-        sum = sum + float_of(listed(terms, row, i));
-        i += 1;
+    };
+    let mut sum = term(word_at(row, *first));
+    for k in rest {
+        sum += term(word_at(row, *k));
     }
     sum
 }
 
-// As `sum_of_terms`, of the squares of the centre less each.
+// The sum of the terms.
+fn sum_of_terms(terms: &[u8], row: &[u32]) -> f32
+    ensures { result ≡ sum_of_terms terms.now row.now }
+{
+    sum_of(float_of, terms, row)
+}
+
+// The sum of the squares of the centre less each term.
 fn sum_of_squares(centre: u8, terms: &[u8], row: &[u32]) -> f32
     ensures { result ≡ sum_of_squares centre terms.now row.now }
 {
-    if terms.len() == 0 {
-        return 0.0;
-    }
     let c = word_at(row, centre);
-    let mut squares = squared(c, listed(terms, row, 0));
-    let mut i = 1;
-    while i < terms.len() {
-        squares = squares + squared(c, listed(terms, row, i));
-        i += 1;
-    }
-    squares
+    sum_of(|w| squared(c, w), terms, row)
 }
 
 fn difference(centre: u8, terms: &[u8], row: &[u32]) -> u32
@@ -91,10 +79,8 @@ fn copy(filters: &[u8], row: &[u32], out: &mut [u32], at: usize)
     requires { at + length filters.now ≤ length out.old }
     ensures { out.new ≡ sets out.old at (words_at filters.now row.now) }
 {
-    let mut i = 0;
-    while i < filters.len() {
-        out[at + i] = listed(filters, row, i);
-        i += 1;
+    for (i, &k) in filters.iter().enumerate() {
+        out[at + i] = word_at(row, k);
     }
 }
 
@@ -144,14 +130,9 @@ fn apply_all(
         ≡ sets out.old at
         (by_rows n (written k centre terms.now writes.now) count batch.now) }
 {
-    let mut from = 0;
-    let mut to = at;
-    let mut left = count;
-    while 0 < left {
-        apply(k, centre, terms, writes, &batch[from..from + n], out, to);
-        from += n;
-        to += wide;
-        left -= 1;
+    for i in 0..count {
+        let row = &batch[i * n..(i + 1) * n];
+        apply(k, centre, terms, writes, row, out, at + i * wide);
     }
 }
 
@@ -159,19 +140,7 @@ fn apply_all(
 fn room(n: usize, wide: usize, count: usize, words: usize, at: usize, places: usize) -> bool
     ensures { result ≡ fits n wide count words at places }
 {
-    if n == 0 {
-        return false;
-    }
-    if wide == 0 {
-        return false;
-    }
-    if words / n < count {
-        return false;
-    }
-    if places < at {
-        return false;
-    }
-    count <= (places - at) / wide
+    0 < n && 0 < wide && count <= words / n && at <= places && count <= (places - at) / wide
 }
 
 // `count` firings, each of which has n words in `batch`: reference `centre` is the centre, `terms` are the filters that the

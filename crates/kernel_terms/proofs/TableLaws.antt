@@ -9,7 +9,9 @@ use native.Mathlib.Omega.{arith}
 use lib.Dec.{eqb}
 use lib.ListN.{length, get_or, take, set, replicate, length-append, length-set, get_or-append, get_or-eq_default}
 use lib.Seq.{ext_get_or, get_or-set_same, get_or-set_other, get_or-append_seam, get_or-take, length-take-le}
-use borrow.Author.Tests.{eq-eqb, ne_eqb}
+use borrow.Author.Tests.{eqb-true, eqb-false, eq-eqb, ne_eqb}
+use Rattle.std.specs.Prelude.{Option, Some, None}
+use Rattle.std.specs.Option.{option_eq}
 use Rattle.model.specs.Lists.{tabulate, up_to, without}
 use Rattle.model.specs.Values.{order_of}
 use Rattle.model_run.specs.Kernels.{terms}
@@ -18,7 +20,7 @@ use Rattle.model.specs.declared.Kernel.TheVariants as kernel
 use Rattle.model.specs.declared.Order.{Order}
 use Rattle.grid_laws.proofs.ListLaws.{length_tabulate, get_d_tabulate}
 use Rattle.kernel_terms.specs.declared.Terms.{Terms}
-use Rattle.kernel_terms.specs.FilterTables.{table_of, term_of, filters_for}
+use Rattle.kernel_terms.specs.FilterTables.{table_of, term_of, filters_for, all_but}
 
 -- One number more.
 tabulate_snoc : (n : ℕ) (f : ℕ → ℕ) → tabulate (suc n) f ≡ tabulate n f ++ (f n ∷ [])
@@ -47,22 +49,35 @@ module _ (c : ℕ) (f : ℕ → ℕ) (k : ℕ) where
   unfolding without
   with_centre e = more ∙ rw (eq-eqb (f k) c e, append-nil)
 
+  few_more : length (without c (tabulate k f)) ≤ k → length (without c (tabulate (suc k) f)) ≤ suc k
+  few_more l = go (ℕ_discrete (f k) c)
+    where
+      go : Dec (f k ≡ c) → length (without c (tabulate (suc k) f)) ≤ suc k
+      go (yes e) = omega (arith, ap length (with_centre e))
+      go (no n) = omega (arith, ap length (with_other n), length-append (without c (tabulate k f)) (f k ∷ []))
+
 -- No more than there are filters.
 few : (c : ℕ) (f : ℕ → ℕ) (k : ℕ) → length (without c (tabulate k f)) ≤ k
 unfolding tabulate without
 few c f zero = omega arith
-few c f (suc k) = go (ℕ_discrete (f k) c) (few c f k)
-  where
-    go : Dec (f k ≡ c) → length (without c (tabulate k f)) ≤ k → length (without c (tabulate (suc k) f)) ≤ suc k
-    go (yes e) l = omega (arith, ap length (with_centre c f k e))
-    go (no n) l = omega (arith, ap length (with_other c f k n), length-append (without c (tabulate k f)) (f k ∷ []))
+few c f (suc k) = few_more c f k (few c f k)
 
--- A centre that is none of them.
-pub absent : (c : ℕ) (f : ℕ → ℕ) (k : ℕ) → ((i : ℕ) → i < k → f i < c) → without c (tabulate k f) ≡ tabulate k f
-unfolding tabulate without
-absent c f zero h = refl
-absent c f (suc k) h =
-    with_other c f k (λ (e : f k ≡ c). omega (arith, h k (omega arith))) ∙ ap (λ (l : List ℕ). l ++ (f k ∷ [])) (absent c f k (λ i b. h i (omega arith))) ∙ sym (tabulate_snoc k f)
+-- The same where a filter need not be left out.
+module _ (f : ℕ → ℕ) (k : ℕ) where
+  but_one : (c : Option ℕ) → c ≡ Some (f k) → all_but c (tabulate (suc k) f) ≡ all_but c (tabulate k f)
+  unfolding all_but
+  but_one None e = absurd (cc)
+  but_one (Some c) e = with_centre c f k (cc)
+
+  but_other : (c : Option ℕ) → (c ≡ Some (f k) → ⊥) → all_but c (tabulate (suc k) f) ≡ all_but c (tabulate k f) ++ (f k ∷ [])
+  unfolding all_but
+  but_other None n = tabulate_snoc k f
+  but_other (Some c) n = with_other c f k (λ e. n (ap Some (sym e)))
+
+  but_few : (c : Option ℕ) → length (all_but c (tabulate k f)) ≤ k
+  unfolding all_but
+  but_few None = omega (arith, length_tabulate k f)
+  but_few (Some c) = few c f k
 
 -- The table with one entry more.
 module _ (ks : List ℕ) (v : ℕ) (h : length ks < 32) where
@@ -88,43 +103,51 @@ module _ (ks : List ℕ) (v : ℕ) (h : length ks < 32) where
       (λ i l. let b : i < 32 = omega (arith, length-set old (length ks) v, old_length) in
       entry i b ∙ sym (get_d_tabulate 32 (λ j. get_or (ks ++ (v ∷ [])) j 0) i 0 b))
 
--- The first k filters, the centre left out, are entered; and none is above a byte.
-module _ (c : ℕ) (f : ℕ → ℕ) where
+-- What the test says of a filter.
+pub is_one : (c : Option ℕ) (k : ℕ) (b : Bool) → b ≡ option_eq eqb c (Some k) → b ≡ true → c ≡ Some k
+is_one None k b e t = absurd (cc)
+is_one (Some c) k b e t = ap Some (eqb-true c k (sym e ∙ t))
+
+pub is_other : (c : Option ℕ) (k : ℕ) (b : Bool) → b ≡ option_eq eqb c (Some k) → b ≡ false → c ≡ Some k → ⊥
+is_other None k b e t d = cc
+is_other (Some c) k b e t d = eqb-false c k (sym e ∙ t) (cc)
+
+-- The first k filters, the centre left out, are entered.
+module _ (c : Option ℕ) (f : ℕ → ℕ) where
   pub record Listed (k : ℕ) (filters : List ℕ) (count : ℕ) : Type 0 where
-    pub entered : filters ≡ tabulate 32 (λ i. get_or (without c (tabulate k f)) i 0)
-    pub counted : count ≡ length (without c (tabulate k f))
-    pub bytes : (i : ℕ) → i < k → f i < 256
+    pub entered : filters ≡ tabulate 32 (λ i. get_or (all_but c (tabulate k f)) i 0)
+    pub counted : count ≡ length (all_but c (tabulate k f))
+
+  none : all_but c (tabulate 0 f) ≡ []
+  unfolding tabulate without all_but
+  none = go c
+    where
+      go : (c : Option ℕ) → all_but c (tabulate 0 f) ≡ []
+      go None = refl
+      go (Some c) = refl
 
   pub listed_none : Listed 0 (replicate 32 0) 0
-  unfolding tabulate without
-  listed_none = record { entered = refl; counted = refl; bytes = λ i h. absurd (omega arith) }
+  unfolding tabulate
+  listed_none = record { entered = rw none; counted = rw none }
 
   module _ (k : ℕ) (filters : List ℕ) (count : ℕ) (l : Listed k filters count) where
     pub listed_room : k < 32 → count < 32
-    listed_room h = omega (arith, l.counted, few c f k)
+    listed_room h = omega (arith, l.counted, but_few f k c)
 
-    byte_more : f k < 256 → (i : ℕ) → i < k + 1 → f i < 256
-    byte_more b i h = go (ℕ_discrete i k)
-      where
-        go : Dec (i ≡ k) → f i < 256
-        go (yes e) = rw e b
-        go (no n) = l.bytes i (omega arith)
+    pub listed_centre : c ≡ Some (f k) → Listed (k + 1) filters count
+    listed_centre e = record { entered = rw (add-one, but_one f k c e) l.entered; counted = rw (add-one, but_one f k c e) l.counted }
 
-    pub listed_centre : f k < 256 → f k ≡ c → Listed (k + 1) filters count
-    listed_centre b e = record { entered = rw (add-one, with_centre c f k e) l.entered; counted = rw (add-one, with_centre c f k e) l.counted; bytes = byte_more b }
-
-    pub listed_other : f k < 256 → (f k ≡ c → ⊥) → k < 32 → Listed (k + 1) (set filters count (f k)) (count + 1)
-    listed_other b n h =
-        let r : length (without c (tabulate k f)) < 32 = omega (arith, few c f k) in
+    pub listed_other : (c ≡ Some (f k) → ⊥) → k < 32 → Listed (k + 1) (set filters count (f k)) (count + 1)
+    listed_other n h =
+        let r : length (all_but c (tabulate k f)) < 32 = omega (arith, but_few f k c) in
         record {
-          entered = rw (l.entered, l.counted, add-one, with_other c f k n) (set_table (without c (tabulate k f)) (f k) r);
-          counted = rw (add-one k, with_other c f k n, length-append, l.counted);
-          bytes = byte_more b;
+          entered = rw (l.entered, l.counted, add-one, but_other f k c n) (set_table (all_but c (tabulate k f)) (f k) r);
+          counted = rw (add-one k, but_other f k c n, length-append, l.counted);
         }
 
-    pub listed_all : (n : ℕ) → k ≡ n → (record { filters = filters; count = count } ≡ table_of (without c (tabulate n f))) × ((i : ℕ) → i < n → f i < 256)
+    pub listed_all : (n : ℕ) → k ≡ n → record { filters = filters; count = count } ≡ table_of (all_but c (tabulate n f))
     unfolding table_of
-    listed_all n e = rw (← e) (ap₂ (λ (fs : List ℕ) (m : ℕ). let t : Terms = record { filters = fs; count = m } in t) l.entered l.counted, l.bytes)
+    listed_all n e = rw (← e) (ap₂ (λ (fs : List ℕ) (m : ℕ). let t : Terms = record { filters = fs; count = m } in t) l.entered l.counted)
 
 -- A list of at most 32, back from its table.
 pub table_back : (ks : List ℕ) → length ks ≤ 32 → take (length ks) (tabulate 32 (λ i. get_or ks i 0)) ≡ ks

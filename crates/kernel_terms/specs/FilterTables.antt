@@ -1,6 +1,6 @@
 -- Filter numbers in a table.
-use Rattle.std.specs.Prelude.{ℕ, Bool, cond, List, length, get_or}
-use Rattle.model.specs.Lists.{tabulate}
+use Rattle.std.specs.Prelude.{ℕ, Bool, cond, List, Option, Some, None, length, get_or}
+use Rattle.model.specs.Lists.{tabulate, without}
 use Rattle.model.specs.declared.Order.{Order}
 use Rattle.kernel_terms.specs.declared.Terms.{Terms}
 
@@ -15,3 +15,8 @@ term_of stood filters i = cond stood (get_or filters i 0) i
 -- and those of n terms.
 unfoldable pub filters_for : (n : ℕ) → Order → List ℕ
 filters_for n o = tabulate n (term_of o.stood o.filters)
+
+-- All filters but one, or all where none is left out.
+unfoldable pub all_but : Option ℕ → List ℕ → List ℕ
+all_but None ks = ks
+all_but (Some c) ks = without c ks

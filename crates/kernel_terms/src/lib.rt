@@ -2,23 +2,20 @@
 
 #![tactic(auto)]
 
-ghost use Rattle.std.specs.Prelude.{cond, ◌≡◌, ℕ, ◌≤◌, ◌<◌, min, eqb, get_or};
-ghost use Rattle.model.specs.Lists.{tabulate, without};
+ghost use Rattle.std.specs.Prelude.{◌≡◌, ◌≤◌, ◌<◌, min};
 ghost use Rattle.model_run.specs.Kernels.{width as width_of, terms as terms_of};
-ghost use Rattle.kernel_terms.specs.FilterTables.{table_of, term_of, filters_for};
+ghost use Rattle.kernel_terms.specs.FilterTables.{table_of, term_of, filters_for, all_but};
 
 use model::{Kernel, Order};
-use numbers::lesser;
 
 // How many words a firing writes, where raw writes those of n filters.
+#[tactic(auto, unfolding(model_run::specs::Kernels::width))]
 pub fn width(k: Kernel, n: usize) -> usize
     ensures { result ≡ width_of k n }
 {
     match k {
         Kernel::Raw => n,
-        Kernel::Difference => 1,
-        Kernel::Scaled(_) => 1,
-        Kernel::Blend(_) => 1,
+        Kernel::Difference | Kernel::Scaled(_) | Kernel::Blend(_) => 1,
     }
 }
 
@@ -30,43 +27,31 @@ pub struct Terms {
 }
 
 // The filter of term t: the author's, or, where the line did not stand, that of chain order.
-fn term_at(stood: bool, filters: &[u8; 32], t: usize) -> u8
+fn term_at(order: &Order, t: usize) -> u8
     requires { t < 32 }
-    ensures { result ≡ cond stood (get_or filters.now t 0) t }
+    ensures { result ≡ term_of order.now.stood order.now.filters t }
 {
-    let written = filters[t];
-    let unwritten = t as u8;
-    if stood {
-        return written;
+    if order.stood {
+        order.filters[t]
+    } else {
+        t as u8
     }
-    unwritten
 }
 
-// Whether filter k is the centre; no filter's number is above 255.
-fn is_centre(k: u8, centre: usize) -> bool
-    ensures { (result ≡ eqb k centre) × (k < 256) }
-{
-    k as usize == centre
-}
-
-// The filters of the first n terms but the centre; a centre of 256 is none of them.
-fn all_but(centre: usize, n: usize, stood: bool, from: &[u8; 32]) -> Terms
+// The filters of the first n terms but the centre, if there is one to leave out.
+fn all_but(centre: Option<u8>, n: usize, order: &Order) -> Terms
     requires { n ≤ 32 }
-    ensures { (result ≡ table_of (without centre (tabulate n (term_of stood from.now))))
-        × ((i : ℕ) → i < n → term_of stood from.now i < 256) }
+    ensures { result ≡ table_of (all_but centre (filters_for n order.now)) }
 {
     let mut filters = [0u8; 32];
     let mut count = 0;
-    let mut t = 0;
-    while t < n {
-        let k = term_at(stood, from, t);
-        if is_centre(k, centre) {
-            t += 1;
+    for t in 0..n {
+        let k = term_at(order, t);
+        if centre == Some(k) {
             continue;
         }
         filters[count] = k;
         count += 1;
-        t += 1;
     }
     Terms { filters, count }
 }
@@ -75,16 +60,14 @@ fn all_but(centre: usize, n: usize, stood: bool, from: &[u8; 32]) -> Terms
 pub fn terms_of(k: Kernel, centre: u8, n: usize, order: Order) -> Terms
     ensures { result ≡ table_of (terms_of k centre (filters_for (min n 32) order)) }
 {
-    let stood = order.stood;
-    let from = order.filters;
-    let m = lesser(n, 32);
+    let m = n.min(32);
     match k {
         Kernel::Raw => Terms {
             filters: [0; 32],
             count: 0,
         },
-        Kernel::Difference => all_but(centre as usize, m, stood, &from),
-        Kernel::Scaled(_) => all_but(256, m, stood, &from),
-        Kernel::Blend(_) => all_but(centre as usize, m, stood, &from),
+        Kernel::Difference => all_but(Some(centre), m, &order),
+        Kernel::Scaled(_) => all_but(None, m, &order),
+        Kernel::Blend(_) => all_but(Some(centre), m, &order),
     }
 }

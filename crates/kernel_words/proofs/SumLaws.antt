@@ -45,6 +45,18 @@ module _ (t : ℕ → Float) (ks vs : List ℕ) where
   unfolding sum_from
   add_next sum i s h = rw add-one (rw (drop-cons (words_at ks vs) i 0 (omega (arith, words_count ks vs))) at s)
 
+  -- The first term, and those after it.
+  module _ (k : ℕ) (rest : List ℕ) (split : ks ≡ k ∷ rest) where
+    pub add_split : Adding (t (get_or vs k 0)) 1
+    unfolding sum_of words_at
+    add_split = rw split
+
+    pub add_rest : (sum : Float) (i : ℕ) → Adding sum (i + 1) → i < length rest → Adding (add binary32 sum (t (get_or vs (get_or rest i 0) 0))) (i + 1 + 1)
+    unfolding words_at
+    add_rest sum i s h =
+        let e : get_or (words_at ks vs) (i + 1) 0 ≡ get_or vs (get_or rest i 0) 0 = rw (split, add-one) (word_there rest vs i h) in
+        rw (← e) (add_next sum (i + 1) s (omega (arith, ap length split)))
+
   pub add_end : (sum : Float) (i : ℕ) → Adding sum i → length ks ≤ i → sum ≡ sum_of (map t (words_at ks vs))
   unfolding sum_from
   add_end sum i s h = rw (drop_of_length-le (words_at ks vs) {i = i} (omega (arith, words_count ks vs))) at s

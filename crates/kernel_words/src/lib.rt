@@ -2,8 +2,8 @@
 
 #![tactic(auto)]
 
-ghost use Rattle.std.specs.Prelude.{◌≡◌, get_or};
-ghost use Rattle.model_run.specs.Kernels.{float, word, words_at, squared as squared_of};
+ghost use Rattle.std.specs.Prelude.{◌≡◌, ℕ, Float, map, get_or};
+ghost use Rattle.model_run.specs.Kernels.{float, word, sum_of, words_at, squared as squared_of};
 ghost use Rattle.model_run.specs.Kernels.{difference as difference_of, scaled as scaled_of, blend as blend_of};
 ghost use Rattle.kernel_words.specs.Sums.{sum_of_terms, sum_of_squares};
 
@@ -37,30 +37,27 @@ fn word_at(words: &[u32; 256], k: u8) -> u32
     words[k as usize]
 }
 
-// The word of the filter at place i of the list; 0 where there is none.
-pub fn listed(filters: &[u8], words: &[u32; 256], i: usize) -> u32
-    ensures { result ≡ get_or (words_at filters.now words.now) i 0 }
+// "terms added .. starting from the first term; a sum of no terms is +0", where `term` makes them of the filters' words.
+fn sum_of<F: Fn(u32) -> f32>(term: F, terms: &[u8], words: &[u32; 256]) -> f32
+    requires { F.IsAlwaysCallable term }
+    ensures { (t : ℕ → Float) → ((w : ℕ) (x : Float) → F.post term w x → x ≡ t w)
+        → result ≡ sum_of (map t (words_at terms.now words.now)) }
 {
-    if i < filters.len() {
-        return word_at(words, filters[i]);
+    let Some((first, rest)) = terms.split_first() else {
+        return 0.0;
+    };
+    let mut sum = term(word_at(words, *first));
+    for k in rest {
+        sum += term(word_at(words, *k));
     }
-    0
+    sum
 }
 
-// "terms added .. starting from the first term; a sum of no terms is +0"
+// The sum of the terms.
 fn sum_of_terms(terms: &[u8], words: &[u32; 256]) -> f32
     ensures { result ≡ sum_of_terms terms.now words.now }
 {
-    if terms.len() == 0 {
-        return 0.0;
-    }
-    let mut sum = float_of(listed(terms, words, 0));
-    let mut i = 1;
-    while i < terms.len() {
-        sum = sum + float_of(listed(terms, words, i));
-        i += 1;
-    }
-    sum
+    sum_of(float_of, terms, words)
 }
 
 // The square of the centre less another reference.
@@ -71,21 +68,12 @@ pub fn squared(centre: u32, other: u32) -> f32
     d * d
 }
 
-// As `sum_of_terms`, of the squares.
+// The sum of the squares of the centre less each term.
 fn sum_of_squares(centre: u8, terms: &[u8], words: &[u32; 256]) -> f32
     ensures { result ≡ sum_of_squares centre terms.now words.now }
 {
-    if terms.len() == 0 {
-        return 0.0;
-    }
     let c = word_at(words, centre);
-    let mut squares = squared(c, listed(terms, words, 0));
-    let mut i = 1;
-    while i < terms.len() {
-        squares = squares + squared(c, listed(terms, words, i));
-        i += 1;
-    }
-    squares
+    sum_of(|w| squared(c, w), terms, words)
 }
 
 // "sums the squares of centre less each other reference"

@@ -4,10 +4,8 @@ use mathlib.Core.Bool.{Bool, true, false}
 use mathlib.Core.List.{List, ◌∷◌}
 use mathlib.Core.Path.{◌≡◌, sym, ap₂, ◌∙◌}
 use native.Mathlib.Numerals.{add-one}
-use lib.Dec.{ltb}
 use lib.ListN.{drop, drop_of_length-le}
 use lib.Seq.{drop-cons}
-use borrow.Author.Tests.{eq-eqb, ne_eqb, lt-ltb, le-ltb}
 use Rattle.model.specs.Lists.{any}
 use Rattle.model.specs.Grounds.{Row, no_row}
 use Rattle.model.specs.Values.{rows_of}
@@ -15,20 +13,6 @@ use Rattle.model.specs.Judging.{bad_row, bad_row_count, bad_rows}
 use Rattle.grid_laws.proofs.ChainLaws.{rows_count}
 use Rattle.grid_laws.proofs.ListLaws.{get_d_tabulate}
 use Rattle.limits.specs.Lent.{row_of}
-
--- One row.
-module _ (s l : ℕ) where
-  pub start_large : 4095 < s → true ≡ bad_row (record { start = s; length = l })
-  unfolding bad_row
-  start_large h = rw (lt-ltb 4095 s h)
-
-  pub length_none : s ≤ 4095 → l ≡ 0 → true ≡ bad_row (record { start = s; length = l })
-  unfolding bad_row
-  length_none h e = rw (le-ltb 4095 s h, eq-eqb l 0 e)
-
-  pub length_some : s ≤ 4095 → (l ≡ 0 → ⊥) → ltb 1024 l ≡ bad_row (record { start = s; length = l })
-  unfolding bad_row
-  length_some h e = rw (le-ltb 4095 s h, ne_eqb l 0 e)
 
 module _ (count : ℕ) (rows : List ℕ) where
   -- All of them.

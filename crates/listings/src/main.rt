@@ -3,7 +3,7 @@
 #![tactic(auto)]
 
 use case_runs::fresh;
-use model::{Answer, Chain, Outcome};
+use model::{Chain, Outcome, Refusal};
 use std::io;
 
 // A number as four bytes of a sheet.
@@ -32,7 +32,7 @@ fn run(rt: &impl Print, chain: Chain) -> io::Result<()> {
     let mut out = [0u32; 4];
     let r = runner::run(chain, &[], fresh(), &mut store, &cells, &mut out, 100);
     let answer = r.answer;
-    if let Answer::Ended(o) = answer {
+    if let Ok(o) = answer {
         if let Outcome::Done(c) = o {
             if c.firings == 2 {
                 firing(rt, 0, out[0], out[1])?;
@@ -47,8 +47,7 @@ fn run(rt: &impl Print, chain: Chain) -> io::Result<()> {
 // The chain as a sheet.
 fn sheet(rt: &impl Print, chain: Chain) -> io::Result<()> {
     let mut text = [0u8; 256];
-    let w = sheet_calls::write_chain(chain, &[], &mut text);
-    let n = w.bytes;
+    let n = sheet_calls::write_chain(chain, &[], &mut text).unwrap_or(0);
     if n <= 256 {
         rt.write_all(&text[..n])?;
     }
@@ -56,10 +55,12 @@ fn sheet(rt: &impl Print, chain: Chain) -> io::Result<()> {
 }
 
 fn main(rt: HostRuntime) -> io::Result<()> {
-    let read = sheet_calls::read_request(b"010100000005\n020000\n020003\n0400\n");
-    let request = read.request;
-    let p = planner::plan(request, &[]);
-    let chain = p.chain;
+    let Ok(request) = sheet_calls::read_request(b"010100000005\n020000\n020003\n0400\n") else {
+        return Ok(());
+    };
+    let Ok(chain) = planner::plan(request, &[]) else {
+        return Ok(());
+    };
     println!(rt; "the listing of plan")?;
     sheet(&rt, chain)?;
     println!(rt; "the listing of run")?;

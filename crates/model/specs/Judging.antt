@@ -10,7 +10,7 @@ use Rattle.model.specs.Grounds.Ground.{rectangle, skewed}
 use Rattle.model.specs.Courses.{count, all_iterations}
 use Rattle.model.specs.Boxes.{bad_box}
 use Rattle.model.specs.Values.{Trimmed, trimmed, on_grid, on_rectangle, on_rows}
-use Rattle.model.specs.Answers.{Check, check, first_of}
+use Rattle.model.specs.Answers.{Verdict, Check, check, first_of}
 use Rattle.model.specs.declared.Bounds.{Bounds}
 use Rattle.model.specs.declared.Chain.{Chain}
 use Rattle.model.specs.declared.Grid.{Grid}
@@ -18,7 +18,6 @@ use Rattle.model.specs.declared.Kernel.{Kernel}
 use Rattle.model.specs.declared.Kernel.TheVariants as kernel
 use Rattle.model.specs.declared.Refusal.{Refusal}
 use Rattle.model.specs.declared.Refusal.TheVariants as refusal
-use Rattle.model.specs.declared.Verdict.{Verdict}
 use Rattle.model.specs.declared.Window.{Window}
 
 abbrev pub most_cells : ℕ

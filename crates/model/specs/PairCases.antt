@@ -1,6 +1,7 @@
 -- Two kernels on one chain, judged and planned (document 02, request 6): tables, computed; the expected sides are worked out by
 -- hand.
 use Rattle.std.specs.Prelude.{ℕ, ◌+◌, true, false, ◌≡◌, refl, ℤ, pos, negsuc, length, replicate, Float}
+use Rattle.std.specs.Result.{result_unwrap_or}
 use mathlib.Core.List.{List, [], ◌∷◌, map, flat_map}
 use Rattle.std.specs.Float.{binary32}
 use Rattle.std.specs.Float.Ieee.{of_bits}
@@ -15,9 +16,9 @@ use Rattle.model.specs.Courses.{count, vector, smallest, rows_down, columns_on, 
 use Rattle.model.specs.Courses.{all_iterations}
 use Rattle.model.specs.Boxes.{index_count, widths, equal_rows, box_shape, box_course, course, crossed, reads_outside, bad_box}
 use Rattle.model.specs.Values.{sizes_of, offset_of, offsets_of, part_of, bounds_of, capacities_of, order_of, trimmed, no_bounds}
-use Rattle.model.specs.Values.{ground_of, dims_of, rows_of, grid_of, chain_of}
+use Rattle.model.specs.Values.{ground_of, dims_of, rows_of, grid_of, chain_of, blank_chain}
 use Rattle.model.specs.Iterations.{position_of, course_of, iteration_of, reads_of, firsts_from, firsts, distance_in, distance_of}
-use Rattle.model.specs.Answers.{number_of, verdict_number, first_of}
+use Rattle.model.specs.Answers.{number_of, verdict_of, verdict_number, first_of}
 use Rattle.model.specs.Judging.{bad_dims, bad_sizes, bad_grid, bad_count, repeats, no_iteration, needs_centre, lacks_centre}
 use Rattle.model.specs.Judging.{not_finite, bad_factor, too_large, twice, bad_order, bad_row, bad_row_count, bad_rows}
 use Rattle.model.specs.Steps.{insert, falling, which_of, authors_order, sorted, distances}
@@ -180,13 +181,14 @@ pub record Plan : Type 0 where
 unfoldable pub planned : Plan → Results
 planned p =
     let r = plan_pair_of p.grid [] p.bounds p.first p.second in
+    let c = result_unwrap_or r blank_chain in
     record {
-      number = verdict_number r.verdict;
-      offsets = offsets_of (dims_of r.chain.grid) r.chain.window;
-      capacities = capacities_of r.chain;
-      order = order_of r.chain.window.count r.chain.order;
-      bounds = r.chain.bounds;
-      kernel = r.chain.kernel;
+      number = verdict_number (verdict_of r);
+      offsets = offsets_of (dims_of c.grid) c.window;
+      capacities = capacities_of c;
+      order = order_of c.window.count c.order;
+      bounds = c.bounds;
+      kernel = c.kernel;
     }
 
 unfoldable pub wanted : Plan → Results

@@ -1,9 +1,9 @@
 -- Two kernels on one chain (document 02, request 6): the union of their windows, judging, planning.
-use Rattle.std.specs.Prelude.{ℕ, Bool, true, false, not, cond, ◌||◌, List, [], ◌∷◌, ◌++◌, ℤ, length}
+use Rattle.std.specs.Prelude.{ℕ, Bool, true, false, not, cond, ◌||◌, List, [], ◌∷◌, ◌++◌, ℤ, length, Result, Ok, Err}
 use Rattle.model.specs.Lists.{any, up_to}
 use Rattle.model.specs.Vectors.{equal}
 use Rattle.model.specs.Boxes.{bad_box}
-use Rattle.model.specs.Values.{Trimmed, dims_of, offsets_of, window_of, chain_of, blank_chain, no_order, set_order, set_kernel}
+use Rattle.model.specs.Values.{Trimmed, dims_of, offsets_of, window_of, chain_of, no_order, set_order, set_kernel}
 use Rattle.model.specs.Answers.{Check, check, first_of, by_verdict}
 use Rattle.model.specs.Judging.{bad_ground, ground_refusal, bad_count, repeats, no_iteration, centred, lacks_centre}
 use Rattle.model.specs.Judging.{bad_factor, too_large}
@@ -14,11 +14,10 @@ use Rattle.model.specs.declared.Chain.{Chain}
 use Rattle.model.specs.declared.Grid.{Grid}
 use Rattle.model.specs.declared.Kernel.{Kernel}
 use Rattle.model.specs.declared.Kernel.TheVariants as kernel
-use Rattle.model.specs.declared.Planned.{Planned}
+use Rattle.model.specs.declared.Refusal.{Refusal}
 use Rattle.model.specs.declared.Refusal.TheVariants as refusal
 use Rattle.model.specs.declared.Request.{Request}
 use Rattle.model.specs.declared.Side.{Side}
-use Rattle.model.specs.declared.Verdict.TheVariants as verdict
 
 -- "Two kernels, each with its own references and output": what of one of them plays a part.
 pub record Own : Type 0 where
@@ -112,11 +111,10 @@ planned_union r rows =
     }
 
 -- What planning a pair answers.
-unfoldable pub plan_pair_of : Grid → (rows : List ℕ) → Bounds → Side → Side → Planned
+unfoldable pub plan_pair_of : Grid → (rows : List ℕ) → Bounds → Side → Side → Result Chain Refusal
 plan_pair_of g rows bounds x y =
     let a = own_of (dims_of g) x in
     let b = own_of (dims_of g) y in
     let r = union_request g bounds a b in
     let chain = chain_of (planned_union r rows) in
-    by_verdict (first_of (pair_checks (trimmed_request r rows) a b)) (record { verdict = verdict.Accepted; chain = chain })
-    (λ z. record { verdict = verdict.Refused z; chain = blank_chain })
+    by_verdict (first_of (pair_checks (trimmed_request r rows) a b)) (Ok chain) Err

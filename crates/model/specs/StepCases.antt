@@ -1,6 +1,7 @@
 -- The three steps of planning on grids and windows (document 003, section 3.3): one table, computed, the expected side worked
 -- out by hand.
-use Rattle.std.specs.Prelude.{ℕ, ◌-◌, false, List, [], ◌∷◌, map, ◌≡◌, refl, ℤ, pos, Float, length, get_or}
+use Rattle.std.specs.Prelude.{ℕ, ◌-◌, false, List, [], ◌∷◌, map, ◌≡◌, refl, ℤ, pos, Float, length, get_or, replicate}
+use Rattle.std.specs.Result.{result_unwrap_or}
 use Rattle.std.specs.Float.{binary32}
 use Rattle.std.specs.Float.Ieee.{of_bits}
 use Rattle.model.specs.Lists.{tabulate, sum, product, greatest, all, any, some_below}
@@ -11,15 +12,16 @@ use Rattle.model.specs.Grounds.{cell_count, inside, cell_place, position, cell_a
 use Rattle.model.specs.Courses.{count, vector, all_iterations}
 use Rattle.model.specs.Boxes.{Part, index_count, widths, box_shape, box_course, course, crossed, reads_outside, bad_box}
 use Rattle.model.specs.Boxes.Part.{whole, box}
-use Rattle.model.specs.Values.{sizes_of, offset_of, offsets_of, part_of, window_of, bounds_of, ground_of, dims_of}
+use Rattle.model.specs.Values.{sizes_of, offset_of, offsets_of, part_of, window_of, bounds_of, ground_of, dims_of, blank_window}
 use Rattle.model.specs.Iterations.{position_of, course_of, iteration_of, reads_of, firsts, distance_in, distance_of}
-use Rattle.model.specs.Answers.{number_of, verdict_number, first_of}
+use Rattle.model.specs.Answers.{number_of, verdict_of, verdict_number, first_of}
 use Rattle.model.specs.Judging.{bad_dims, bad_sizes, bad_grid, bad_count, repeats, no_iteration, needs_centre, lacks_centre}
 use Rattle.model.specs.Judging.{not_finite, bad_factor, too_large, twice, bad_order, window_checks, kernel_checks}
 use Rattle.model.specs.Judging.{chain_checks, value_checks, judged}
 use Rattle.model.specs.Steps.{insert, falling, which_of, authors_order, sorted, distances, total, steps_of}
 use Rattle.model.specs.Planning.{trimmed_request, judge_request}
 use Rattle.model.specs.declared.Grid.{Grid}
+use Rattle.model.specs.declared.Steps.{Steps}
 use Rattle.model.specs.declared.Window.{Window}
 use Rattle.model.specs.declared.Kernel.{Kernel}
 use Rattle.model.specs.declared.Kernel.TheVariants as kernel
@@ -51,16 +53,21 @@ pub record Answers : Type 0 where
   pub request : ℕ
   pub results : Results
 
+-- What stands beside a number.
+abbrev no_steps : Steps
+no_steps = record { window = blank_window; filters = replicate 32 0; distances = replicate 31 0; total = 0 }
+
 unfoldable pub answered : Case → Answers
 answered c =
     let g : Grid = record { skewed = false; rows = 0; dims = length c.sizes; sizes = c.sizes } in
     let w : Window = window_of (length c.given) c.given in
-    let s = steps_of g [] w (bounds_of c.part) in
+    let answer = steps_of g [] w (bounds_of c.part) in
+    let s = result_unwrap_or answer no_steps in
     record {
       request = verdict_number
           (judge_request (record { grid = g; window = w; bounds = bounds_of c.part; kernel = c.kernel }) []);
       results = record {
-        number = verdict_number s.verdict;
+        number = verdict_number (verdict_of answer);
         offsets = offsets_of g.dims s.window;
         filters = tabulate s.window.count (λ t. get_or s.filters t 0);
         distances = tabulate (s.window.count - 1) (λ k. get_or s.distances k 0);

@@ -2,6 +2,9 @@
 
 #![tactic(auto)]
 
+ghost use Rattle.std.specs.Prelude.{◌≡◌};
+ghost use Rattle.model.specs.Answers.{number_of};
+
 // Cells that passed a filter's splitter: its input counter.
 #[derive(Clone, Copy)]
 pub struct CellsPassed(pub u32);
@@ -11,7 +14,7 @@ pub struct CellsPassed(pub u32);
 pub struct FiringsMade(pub u32);
 
 // A grid: a rectangle by its first `dims` sizes, slowest dimension first; where it is skewed, `rows` rows, which are lent
-// beside it, each by its start and its length.
+// beside it, each by its start and its length. No enum of the two: `PastCounts` speaks of what plays no part, too.
 #[derive(Clone, Copy)]
 pub struct Grid {
     pub skewed: bool,
@@ -47,7 +50,7 @@ pub enum Kernel {
 }
 
 // A smaller box: whether its line stood, and where it did, in each of the grid's dimensions the lowest and the highest index
-// of the iterations.
+// of the iterations. No Option: `PastCounts` speaks of what stands beside a box that does not stand.
 #[derive(Clone, Copy)]
 pub struct Bounds {
     pub stood: bool,
@@ -72,7 +75,7 @@ pub struct Request {
 }
 
 // The author's order of terms: whether its line stood, and where it did, filters[t] is the filter that holds the author's
-// reference t.
+// reference t. No Option, as with Bounds.
 #[derive(Clone, Copy)]
 pub struct Order {
     pub stood: bool,
@@ -155,18 +158,37 @@ pub enum Refusal {
     BadRows,
 }
 
-// What judging answers.
-#[derive(Clone, Copy)]
-pub enum Verdict {
-    Accepted,
-    Refused(Refusal),
+// The number of a refusal.
+impl From<Refusal> for u8 {
+    #[tactic(auto, unfolding(crate::specs::Answers::number_of))]
+    fn from(x: Refusal) -> u8
+        ensures { result ≡ number_of x }
+    {
+        match x {
+            Refusal::Malformed => 1,
+            Refusal::Misplaced => 2,
+            Refusal::BadGrid => 3,
+            Refusal::BadCount => 4,
+            Refusal::EqualOffsets => 5,
+            Refusal::NoIteration => 6,
+            Refusal::NoCentre => 7,
+            Refusal::BadFactor => 8,
+            Refusal::TooLarge => 9,
+            Refusal::ShortStore => 10,
+            Refusal::BadState => 11,
+            Refusal::ShortOutput => 12,
+            Refusal::BadName => 13,
+            Refusal::BadOrder => 14,
+            Refusal::BadBox => 15,
+            Refusal::BadRows => 16,
+        }
+    }
 }
 
 // What the three steps of planning give (document 003, section 3.3), of a grid, a window and a box that 3 to 6 and 15 let
-// pass; where one of these refuses, there is no reference, and the numbers are 0.
+// pass.
 #[derive(Clone, Copy)]
 pub struct Steps {
-    pub verdict: Verdict,
     // The offsets sorted, and for each of the author's references the filter that holds it.
     pub window: Window,
     pub filters: [u8; 32],
@@ -176,23 +198,10 @@ pub struct Steps {
     pub total: u64,
 }
 
-// What planning answers; where it refuses, the chain is the blank one.
-#[derive(Clone, Copy)]
-pub struct Planned {
-    pub verdict: Verdict,
-    pub chain: Chain,
-}
-
-// What a run call answers.
-#[derive(Clone, Copy)]
-pub enum Answer {
-    Ended(Outcome),
-    Refused(Refusal),
-}
-
+// What a run call answers: how it ended, or why it is turned back; and the state that is left.
 #[derive(Clone, Copy)]
 pub struct Ran {
-    pub answer: Answer,
+    pub answer: Result<Outcome, Refusal>,
     pub state: State,
 }
 
@@ -202,15 +211,13 @@ pub struct Ran {
 pub const KEPT: usize = 40;
 
 // A line decoded as its characters arrive: the bytes that are kept, 0 past its end; how many it has, counted no further than
-// one past the longest `09` line; whether every character was a digit; and, where `half`, the digit `high` of a byte that is
-// not whole yet.
+// one past the longest `09` line; whether every character was a digit; and the digit of a byte that is not whole yet.
 #[derive(Clone, Copy)]
 pub struct Frame {
     pub first: [u8; KEPT],
     pub len: usize,
     pub sound: bool,
-    pub half: bool,
-    pub high: u8,
+    pub upper: Option<u8>,
 }
 
 // Which of a sheet's lines stood last: none, the grid's (`01` or `09`), or an `02`, `07`, `08`, `03`, `06` or `04` line.
@@ -234,39 +241,19 @@ pub struct Reading {
     pub chain: Chain,
 }
 
-// What reading one line answers; where it refuses, the reading stays as it was.
+// What reading one line answers; where it refuses, the reading stays as it was. No Result, here and where lines arrive:
+// `AsItArrives` says which reading stands when a line is turned back.
 #[derive(Clone, Copy)]
 pub struct LineStep {
-    pub verdict: Verdict,
+    pub verdict: Result<(), Refusal>,
     pub reading: Reading,
-}
-
-// What reading a chain sheet answers; where it refuses, the chain is the blank one.
-#[derive(Clone, Copy)]
-pub struct ReadChain {
-    pub verdict: Verdict,
-    pub chain: Chain,
-}
-
-// What reading a request sheet answers; where it refuses, the request is the blank one.
-#[derive(Clone, Copy)]
-pub struct ReadRequest {
-    pub verdict: Verdict,
-    pub request: Request,
-}
-
-// What writing a chain sheet answers, and how many bytes it wrote.
-#[derive(Clone, Copy)]
-pub struct Wrote {
-    pub verdict: Verdict,
-    pub bytes: usize,
 }
 
 // Where the reading of a sheet stands as its characters arrive: the verdict on the last line that was read, what was read,
 // and the line that is open, with whether it has a character.
 #[derive(Clone, Copy)]
 pub struct Arriving {
-    pub verdict: Verdict,
+    pub verdict: Result<(), Refusal>,
     pub reading: Reading,
     pub frame: Frame,
     pub begun: bool,
@@ -275,7 +262,7 @@ pub struct Arriving {
 // The same where cells are read.
 #[derive(Clone, Copy)]
 pub struct CellLine {
-    pub verdict: Verdict,
+    pub verdict: Result<(), Refusal>,
     pub frame: Frame,
     pub begun: bool,
 }

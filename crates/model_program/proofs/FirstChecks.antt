@@ -10,7 +10,7 @@ use lib.ListN.{length, get_or}
 use Rattle.model.specs.Grounds.{Ground}
 use Rattle.model.specs.Grounds.Ground.{rectangle, skewed}
 use Rattle.model.specs.Values.{ground_of, Trimmed, trimmed, request_of}
-use Rattle.model.specs.Answers.{number_of, verdict_number, Check, check, first_of, by_verdict}
+use Rattle.model.specs.Answers.{Verdict, number_of, verdict_number, Check, check, first_of, by_verdict, verdict_of}
 use Rattle.model.specs.Judging.{ground_refusal, window_checks, kernel_checks, chain_checks, value_checks, judged, judge_chain}
 use Rattle.model.specs.Planning.{trimmed_request, judge_request}
 use Rattle.model_run.specs.Running.{layout, counters_of, short_store, bad_state, judge_run}
@@ -25,9 +25,8 @@ use Rattle.model.specs.declared.LineStep.{LineStep}
 use Rattle.model.specs.declared.Reading.{Reading}
 use Rattle.model.specs.declared.Refusal.TheVariants as refusal
 use Rattle.model.specs.declared.State.{State}
-use Rattle.model.specs.declared.Verdict.{Verdict}
-use Rattle.model.specs.declared.Verdict.TheVariants as verdict
-use Rattle.grid_laws.proofs.CheckLaws.{passes, then_checks}
+use Rattle.std.specs.Prelude.{Ok, Err}
+use Rattle.grid_laws.proofs.CheckLaws.{passes, then_checks, verdict_back}
 
 -- What holds first of what stands behind a condition that does not hold.
 behind : (b : Bool) (bs : List Bool) (k : ℕ) → b ≡ false → HoldsFirst bs k → HoldsFirst (b ∷ bs) (suc k)
@@ -49,18 +48,18 @@ unfolding conditions_of numbers_of first_of verdict_number
 only_first [] x h e = absurd (omega arith)
 only_first (c ∷ cs) x h e = go c.holds refl e (only_first cs x h)
   where
-    go : (b : Bool) → c.holds ≡ b → verdict_number (cond b (verdict.Refused c.refusal) (first_of cs)) ≡ x
+    go : (b : Bool) → c.holds ≡ b → verdict_number (cond b (Err c.refusal) (first_of cs)) ≡ x
         → (verdict_number (first_of cs) ≡ x → (k : ℕ) × HoldsFirst (conditions_of cs) k × (get_or (numbers_of cs) k 0 ≡ x))
         → (k : ℕ) × HoldsFirst (conditions_of (c ∷ cs)) k × (get_or (numbers_of (c ∷ cs)) k 0 ≡ x)
     go true t e later = (0, record { holds = t; none_before = λ j l. absurd (omega arith) }, e)
     go false t e later = let (k, f, n) = later e in (suc k, behind c.holds (conditions_of cs) k t f, n)
 
-if_none : (cs : List Check) → NoneHolds (conditions_of cs) → first_of cs ≡ verdict.Accepted
+if_none : (cs : List Check) → NoneHolds (conditions_of cs) → first_of cs ≡ Ok tt
 unfolding conditions_of first_of
 if_none [] h = refl
 if_none (c ∷ cs) h = rw (h 0) (if_none cs (λ k. h (suc k)))
 
-only_none : (cs : List Check) → first_of cs ≡ verdict.Accepted → NoneHolds (conditions_of cs)
+only_none : (cs : List Check) → first_of cs ≡ Ok tt → NoneHolds (conditions_of cs)
 unfolding conditions_of
 only_none [] e k = refl
 only_none (c ∷ cs) e zero = (passes c.holds c.refusal cs e).0
@@ -110,7 +109,7 @@ lines_first : (chain_sheet : Bool) (rows : List ℕ) (checked : Reading → List
 unfolding read_lines lines_checks all_taken end_verdict step_of line_verdict first_of
 lines_first chain_sheet rows checked r [] = go (complete r)
   where
-    go : (b : Bool) → cond b (first_of (checked r)) (verdict.Refused refusal.Misplaced) ≡ cond (not b) (verdict.Refused refusal.Misplaced) (first_of (checked r))
+    go : (b : Bool) → cond b (first_of (checked r)) (Err refusal.Misplaced) ≡ cond (not b) (Err refusal.Misplaced) (first_of (checked r))
     go true = refl
     go false = refl
 lines_first chain_sheet rows checked r (l ∷ ls) =
@@ -139,9 +138,9 @@ lines_first chain_sheet rows checked r (l ∷ ls) =
     further v = by_verdict v (read_lines chain_sheet rows (stepped v).reading ls) (λ x. stepped v)
 
     go : (v : Verdict) → end_verdict rest (first_of (checked rest.reading)) ≡ first_of below
-        → end_verdict (further v) (first_of (checked (further v).reading)) ≡ by_verdict v (first_of below) verdict.Refused
-    go verdict.Accepted e = e
-    go (verdict.Refused x) e = refl
+        → end_verdict (further v) (first_of (checked (further v).reading)) ≡ by_verdict v (first_of below) Err
+    go (Ok _) e = e
+    go (Err x) e = refl
 
 -- The numbers of the lines.
 lines_numbers : (chain_sheet : Bool) (rows : List ℕ) (r : Reading) (ls : List Line) → numbers_of (lines_checks chain_sheet rows r ls) ≡ flat_map (λ _. line_numbers) ls
@@ -164,13 +163,13 @@ sheet_numbers_lem chain_sheet sheet =
 sheet : (chain_sheet : Bool) (s : List ℕ) (v : Verdict) → v ≡ first_of (sheet_checks chain_sheet s) → AnswersFirst (sheet_numbers chain_sheet s) (conditions_of (sheet_checks chain_sheet s)) v
 sheet chain_sheet s v e = rw (e, sym (sheet_numbers_lem chain_sheet s)) (checks (sheet_checks chain_sheet s))
 
-chain_first : (s : List ℕ) → (read_chain s).verdict ≡ first_of (sheet_checks true s)
+chain_first : (s : List ℕ) → verdict_of (read_chain s) ≡ first_of (sheet_checks true s)
 unfolding read_chain sheet_checks value_read judge_chain judged
-chain_first s = lines_first true (numbers_in s) (λ r. value_checks (trimmed r.chain (numbers_in s))) start (lines_of s)
+chain_first s = verdict_back _ _ ∙ lines_first true (numbers_in s) (λ r. value_checks (trimmed r.chain (numbers_in s))) start (lines_of s)
 
-request_first : (s : List ℕ) → (read_request s).verdict ≡ first_of (sheet_checks false s)
+request_first : (s : List ℕ) → verdict_of (read_request s) ≡ first_of (sheet_checks false s)
 unfolding read_request sheet_checks value_read judge_request judged
-request_first s = lines_first false (numbers_in s) (λ r. value_checks (trimmed_request (request_of r.chain) (numbers_in s))) start (lines_of s)
+request_first s = verdict_back _ _ ∙ lines_first false (numbers_in s) (λ r. value_checks (trimmed_request (request_of r.chain) (numbers_in s))) start (lines_of s)
 
 cell : (l : Seen) → AnswersFirst (1 ∷ 2 ∷ []) (malformed l.sound l.len (kind_of l) (second_of l) ∷ not (eqb (kind_of l) 5) ∷ []) (cell_verdict l)
 unfolding numbers_of conditions_of number_of cell_verdict
@@ -185,7 +184,7 @@ first_checks = record {
   run = run;
   write = write;
   line = line;
-  chain_sheet = λ s. sheet true s (read_chain s).verdict (chain_first s);
-  request_sheet = λ s. sheet false s (read_request s).verdict (request_first s);
+  chain_sheet = λ s. sheet true s (verdict_of (read_chain s)) (chain_first s);
+  request_sheet = λ s. sheet false s (verdict_of (read_request s)) (request_first s);
   cell = cell;
 }

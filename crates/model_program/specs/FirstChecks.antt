@@ -1,10 +1,10 @@
 -- "a number is answered if its condition holds first, and never otherwise" (document 01, "Contracts and cases").
-use Rattle.std.specs.Prelude.{ℕ, ◌<◌, Bool, true, false, not, cond, ◌≡◌, eqb, ltb, length, get_or}
+use Rattle.std.specs.Prelude.{ℕ, ◌<◌, Bool, true, false, not, cond, ◌≡◌, eqb, ltb, length, get_or, Ok}
 use mathlib.Core.List.{List, [], ◌∷◌, ◌++◌, map, flat_map}
 use Rattle.model.specs.Grounds.{Ground}
 use Rattle.model.specs.Grounds.Ground.{rectangle, skewed}
 use Rattle.model.specs.Values.{Trimmed, trimmed, ground_of, request_of}
-use Rattle.model.specs.Answers.{number_of, verdict_number, Check, check, first_of}
+use Rattle.model.specs.Answers.{Verdict, number_of, verdict_number, Check, check, first_of, verdict_of}
 use Rattle.model.specs.Judging.{value_checks, judge_chain}
 use Rattle.model.specs.Planning.{trimmed_request, judge_request}
 use Rattle.model_run.specs.Running.{layout, counters_of, short_store, bad_state, judge_run}
@@ -18,8 +18,6 @@ use Rattle.model.specs.declared.Reading.{Reading}
 use Rattle.model.specs.declared.Refusal.TheVariants as refusal
 use Rattle.model.specs.declared.Request.{Request}
 use Rattle.model.specs.declared.State.{State}
-use Rattle.model.specs.declared.Verdict.{Verdict}
-use Rattle.model.specs.declared.Verdict.TheVariants as verdict
 
 -- Condition k holds, and none before it.
 pub record HoldsFirst (conditions : List Bool) (k : ℕ) : Type 0 where
@@ -34,8 +32,8 @@ NoneHolds conditions = (k : ℕ) → get_or conditions k false ≡ false
 pub record AnswersFirst (rows : List ℕ) (conditions : List Bool) (v : Verdict) : Type 0 where
   pub if_first : (k : ℕ) → HoldsFirst conditions k → verdict_number v ≡ get_or rows k 0
   pub only_first : (x : ℕ) → 0 < x → verdict_number v ≡ x → (k : ℕ) × HoldsFirst conditions k × (get_or rows k 0 ≡ x)
-  pub if_none : NoneHolds conditions → v ≡ verdict.Accepted
-  pub only_none : v ≡ verdict.Accepted → NoneHolds conditions
+  pub if_none : NoneHolds conditions → v ≡ Ok tt
+  pub only_none : v ≡ Ok tt → NoneHolds conditions
 
 -- The numbers and the conditions of checks.
 unfoldable pub numbers_of : List Check → List ℕ
@@ -109,9 +107,9 @@ pub record FirstChecks : Type 0 where
   pub line : (chain_sheet : Bool) (rows : List ℕ) (r : Reading) (l : Seen)
       → AnswersFirst line_numbers (conditions_of (line_checks chain_sheet rows r l)) (line_verdict chain_sheet rows r l)
   pub chain_sheet : (sheet : List ℕ)
-      → AnswersFirst (sheet_numbers true sheet) (conditions_of (sheet_checks true sheet)) (read_chain sheet).verdict
+      → AnswersFirst (sheet_numbers true sheet) (conditions_of (sheet_checks true sheet)) (verdict_of (read_chain sheet))
   pub request_sheet : (sheet : List ℕ)
-      → AnswersFirst (sheet_numbers false sheet) (conditions_of (sheet_checks false sheet)) (read_request sheet).verdict
+      → AnswersFirst (sheet_numbers false sheet) (conditions_of (sheet_checks false sheet)) (verdict_of (read_request sheet))
   pub cell : (l : Seen)
       → AnswersFirst (1 ∷ 2 ∷ []) (malformed l.sound l.len (kind_of l) (second_of l) ∷ not (eqb (kind_of l) 5) ∷ [])
       (cell_verdict l)

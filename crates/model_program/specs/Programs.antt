@@ -1,9 +1,9 @@
 -- What the two programs write (document 01, "Lines of the sheet").
-use Rattle.std.specs.Prelude.{ℕ, zero, suc, ◌*◌, true, cond, take, drop, replicate}
+use Rattle.std.specs.Prelude.{ℕ, zero, suc, ◌*◌, true, cond, take, drop, replicate, Ok, Err}
 use mathlib.Core.List.{List, [], ◌∷◌, ◌++◌, flat_map}
 use Rattle.model.specs.Lists.{sum}
 use Rattle.model.specs.Values.{Trimmed, trimmed}
-use Rattle.model.specs.Answers.{number_of, done_byte, stalled_byte, starved_byte, by_verdict}
+use Rattle.model.specs.Answers.{Verdict, number_of, done_byte, stalled_byte, starved_byte, by_verdict, by_answer}
 use Rattle.model.specs.Judging.{judge_chain}
 use Rattle.model.specs.Planning.{planned_chain}
 use Rattle.model_run.specs.Clock.{fresh}
@@ -16,8 +16,6 @@ use Rattle.model_sheet.specs.Writing.{sheet_of}
 use Rattle.model.specs.declared.LineStep.{LineStep}
 use Rattle.model.specs.declared.Reading.{Reading}
 use Rattle.model.specs.declared.Refusal.{Refusal}
-use Rattle.model.specs.declared.Verdict.{Verdict}
-use Rattle.model.specs.declared.Verdict.TheVariants as verdict
 
 -- "for each firing, `10`, the firing's index from 0 (4 bytes) and the written words"
 unfoldable pub firing_line : (index : ℕ) → List ℕ → List ℕ
@@ -43,10 +41,8 @@ firings_text size index (suc n) words = framed (firing_line index (take size wor
 -- "`plan` turns a request sheet on standard input into a chain sheet."
 unfoldable pub plan_text : (input : List ℕ) → List ℕ
 plan_text input =
-    let r = read_request input in
     let rows = numbers_in input in
-    let sheet = sheet_of (planned_chain r.request rows) rows in
-    by_verdict r.verdict sheet refusal_text
+    by_answer (read_request input) (λ r. sheet_of (planned_chain r rows) rows) refusal_text
 
 -- "`run` reads a chain sheet followed by `05` lines": the lines of the sheet, to its `04`, and the lines behind it.
 pub record Split : Type 0 where
@@ -54,7 +50,7 @@ pub record Split : Type 0 where
   pub behind : List Line
 
 unfoldable pub sheet_and_behind : (rows : List ℕ) → Reading → List Line → Split
-sheet_and_behind rows r [] = record { step = record { verdict = verdict.Accepted; reading = r }; behind = [] }
+sheet_and_behind rows r [] = record { step = record { verdict = Ok tt; reading = r }; behind = [] }
 sheet_and_behind rows r (l ∷ ls) =
     let s = step_of true rows r (seen_of l.ended l.chars) in
     let here : Split = record { step = s; behind = ls } in
@@ -70,10 +66,10 @@ cells_in (l ∷ ls) =
     by_verdict (cell_verdict seen) (cell_in seen ∷ further) (λ x. [])
 
 unfoldable pub behind_cells : List Line → Verdict
-behind_cells [] = verdict.Accepted
+behind_cells [] = Ok tt
 behind_cells (l ∷ ls) =
     let further = behind_cells ls in
-    by_verdict (cell_verdict (seen_of l.ended l.chars)) further verdict.Refused
+    by_verdict (cell_verdict (seen_of l.ended l.chars)) further Err
 
 -- How a run ends. "It reads a `05` line only when starved, and stops reading at done or stalled": so a line that is turned
 -- back answers only where the run took every cell before it.

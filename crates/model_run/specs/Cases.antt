@@ -1,4 +1,5 @@
 -- Document 01, "Grids to try", 6 to 13, and its printed example: one table, computed.
+use Rattle.std.specs.Result.{result_unwrap_or}
 use Rattle.std.specs.Prelude.{ℕ, zero, suc, ◌*◌, Bool, false, cond, List, [], ◌∷◌, map, ◌≡◌, refl, ℤ, pos, length, take, replicate}
 use Rattle.model.specs.Lists.{tabulate, up_to, sum, product, greatest, all, any, some_below}
 use Rattle.model.specs.Vectors.{−1, same, above, plus, equal, before, is_zero}
@@ -10,7 +11,7 @@ use Rattle.model.specs.Courses.{count, vector, all_iterations}
 use Rattle.model.specs.Boxes.{Part, index_count, widths, box_shape, box_course, course, crossed, reads_outside, bad_box}
 use Rattle.model.specs.Boxes.Part.{whole, box}
 use Rattle.model.specs.Values.{sizes_of, offset_of, offsets_of, part_of, capacities_of, order_of, trimmed, bounds_of, chain_of}
-use Rattle.model.specs.Values.{request_of, ground_of, dims_of, grid_of}
+use Rattle.model.specs.Values.{request_of, ground_of, dims_of, grid_of, blank_chain}
 use Rattle.model.specs.Iterations.{cells_of, position_of, course_of, iterations_of, iteration_of, reads_of, firsts, distance_in}
 use Rattle.model.specs.Iterations.{distance_of}
 use Rattle.model.specs.Answers.{number_of, verdict_number, outcome_case, outcome_counts, answer_counts, answer_number, first_of}
@@ -28,8 +29,8 @@ use Rattle.model_run.specs.Running.{short_store, not_past, bad_counter, bad_fifo
 use Rattle.model_run.specs.Running.{filters_of, terms_of, writes_of, written_by, width_of, ended, run_trimmed, events_trimmed}
 use Rattle.model.specs.declared.Chain.{Chain}
 use Rattle.model.specs.declared.State.{State}
-use Rattle.model.specs.declared.Answer.{Answer}
-use Rattle.model.specs.declared.Answer.TheVariants as answer
+use Rattle.std.specs.Prelude.{Ok, Err}
+use Rattle.model.specs.Answers.{Answer, verdict_of}
 use Rattle.model.specs.declared.Kernel.TheVariants as kernel
 
 -- A row of the table, with raw kernel, and a run that covers all iterations or those of a box.
@@ -67,8 +68,8 @@ firing_clocks t [] = []
 firing_clocks t (e ∷ es) = let later = firing_clocks (suc t) es in cond e (t ∷ later) later
 
 unfoldable pub end_of : Answer → ℕ
-end_of (answer.Ended o) = outcome_case o
-end_of (answer.Refused r) = 5
+end_of (Ok o) = outcome_case o
+end_of (Err r) = 5
 
 -- The raw chain of these sizes, offsets and capacities, without an order.
 abbrev raw_chain : Part → List ℕ → List (List ℤ) → List ℕ → Chain
@@ -88,9 +89,9 @@ raw_chain part sizes offsets capacities =
 unfoldable pub planned : Part → List ℕ → List (List ℤ) → Result
 planned part sizes offsets =
     let p = plan_of (request_of (raw_chain part sizes offsets [])) [] in
-    let t = trimmed p.chain [] in
+    let t = trimmed (result_unwrap_or p blank_chain) [] in
     record {
-      number = verdict_number p.verdict;
+      number = verdict_number (verdict_of p);
       offsets = t.offsets;
       part = t.part;
       capacities = t.capacities;

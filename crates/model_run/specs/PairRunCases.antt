@@ -1,5 +1,5 @@
 -- Run calls of a pair in full (document 02, request 6): one table, computed; the expected side is worked out by hand.
-use Rattle.std.specs.Prelude.{ℕ, true, false, ◌≡◌, refl, ℤ, pos, length, get_or, replicate}
+use Rattle.std.specs.Prelude.{ℕ, true, false, ◌≡◌, refl, ℤ, pos, length, get_or, replicate, Ok, Err}
 use mathlib.Core.List.{List, [], ◌∷◌, ◌++◌, map, flat_map}
 use Rattle.std.specs.Float.Ieee.{of_bits, to_bits, add, sub, mul}
 use Rattle.model.specs.Lists.{tabulate, up_to, without, sum, product, greatest, all, any, some_below}
@@ -37,7 +37,6 @@ use Rattle.model.specs.declared.Refusal.{Refusal}
 use Rattle.model.specs.declared.Refusal.TheVariants as refusal
 use Rattle.model.specs.declared.Side.{Side}
 use Rattle.model.specs.declared.State.{State}
-use Rattle.model.specs.declared.Answer.TheVariants as answer
 use Rattle.model.specs.declared.Window.{Window}
 
 -- A chain and two windows, what is handed in and lent, and what the call leaves.
@@ -120,7 +119,7 @@ ran x y first second o done s' store' first' second' = record {
   first = first;
   second = second;
   allowance = 100;
-  leaves = record { answer = answer.Ended (o done); state = s'; store = store'; first = first'; second = second' };
+  leaves = record { answer = Ok (o done); state = s'; store = store'; first = first'; second = second' };
 }
 
 abbrev counts : (cells firings clocks : ℕ) → Counts
@@ -160,7 +159,7 @@ runs =
       second = zeros 1;
       allowance = 9;
       leaves = record {
-        answer = answer.Ended (outcome.Done (counts 3 1 3));
+        answer = Ok (outcome.Done (counts 3 1 3));
         state = state 1 (3 ∷ 2 ∷ 1 ∷ []);
         store = 0x3F800000 ∷ 0x3F800000 ∷ [];
         first = 0x4B800000 ∷ [];
@@ -180,7 +179,7 @@ turned_back x y s store r = record {
   first = 70 ∷ [];
   second = 80 ∷ 81 ∷ [];
   allowance = 100;
-  leaves = record { answer = answer.Refused r; state = s; store = store; first = 70 ∷ []; second = 80 ∷ 81 ∷ [] };
+  leaves = record { answer = Err r; state = s; store = store; first = 70 ∷ []; second = 80 ∷ 81 ∷ [] };
 }
 
 unfoldable pub refusals : List Case

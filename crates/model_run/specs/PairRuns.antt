@@ -4,19 +4,17 @@ use Rattle.std.proofs.lemmas.List.Edits.{sets}
 use Rattle.model.specs.Lists.{up_to}
 use Rattle.model.specs.Values.{Trimmed, trimmed, dims_of}
 use Rattle.model.specs.Windows.{centre_of}
-use Rattle.model.specs.Answers.{check, first_of, by_verdict}
+use Rattle.model.specs.Answers.{Verdict, Answer, check, first_of, by_verdict}
 use Rattle.model.specs.Steps.{which_of}
 use Rattle.model.specs.Pairs.{Own, own_of, member, raw_of, pair_checks}
 use Rattle.model_run.specs.Kernels.{terms, words_at, written, width}
 use Rattle.model_run.specs.Running.{layout, counters_of, with_counters, Standing, Ended, outcome_of, call, begun}
 use Rattle.model_run.specs.Running.{short_store, bad_state, ended}
-use Rattle.model.specs.declared.Answer.{Answer}
-use Rattle.model.specs.declared.Answer.TheVariants as answer
+use Rattle.std.specs.Prelude.{Ok, Err}
 use Rattle.model.specs.declared.Chain.{Chain}
 use Rattle.model.specs.declared.Refusal.TheVariants as refusal
 use Rattle.model.specs.declared.Side.{Side}
 use Rattle.model.specs.declared.State.{State}
-use Rattle.model.specs.declared.Verdict.{Verdict}
 
 -- ---- what a firing writes
 
@@ -93,13 +91,13 @@ module _ (t : Trimmed) (a b : Own) (s : State) (store lent first second : List �
       let second' = pair_output b second in
       by_verdict (judge_pair t a b s store)
       (record {
-        answer = answer.Ended (outcome_of e.ending e.standing.done);
+        answer = Ok (outcome_of e.ending e.standing.done);
         state = with_counters s e.standing.counters;
         store = e.standing.store;
         first = first';
         second = second';
       })
-      (λ r. record { answer = answer.Refused r; state = s; store = store; first = first; second = second })
+      (λ r. record { answer = Err r; state = s; store = store; first = first; second = second })
 
 -- A run call of a pair: a chain with its rows, and two windows.
 unfoldable pub run_pair_of : Chain → (rows : List ℕ) → Side → Side → State → (store lent first second : List ℕ)

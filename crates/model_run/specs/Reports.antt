@@ -1,15 +1,14 @@
 -- What the runs of a list report.
-use Rattle.std.specs.Prelude.{ℕ, List, [], ◌∷◌, ◌≡◌}
+use Rattle.std.specs.Prelude.{ℕ, List, [], ◌∷◌, ◌≡◌, Ok}
 use Rattle.model.specs.Answers.{answer_counts}
 use Rattle.model_run.specs.Running.{Run}
 use Rattle.model.specs.declared.Counts.{Counts}
 use Rattle.model.specs.declared.Outcome.{Outcome}
-use Rattle.model.specs.declared.Answer.TheVariants as answer
 
 -- The run is not refused and its outcome is that one, as `Reports outcome.Done r`.
 pub record Reports (outcome : Counts → Outcome) (r : Run) : Type 0 where
   pub counts : Counts
-  pub answer : r.answer ≡ answer.Ended (outcome counts)
+  pub answer : r.answer ≡ Ok (outcome counts)
 
 -- Firings and clocks of one run; 0 for a refused one.
 abbrev pub firings_of : Run → ℕ

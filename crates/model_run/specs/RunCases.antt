@@ -1,5 +1,5 @@
 -- Run calls in full (document 01, "Running" and "Turned back on account of the state"): one table, computed.
-use Rattle.std.specs.Prelude.{ℕ, false, ◌≡◌, refl, ℤ, pos, length}
+use Rattle.std.specs.Prelude.{ℕ, false, ◌≡◌, refl, ℤ, pos, length, Ok, Err}
 use mathlib.Core.List.{List, [], ◌∷◌, ◌++◌, map, flat_map}
 use Rattle.model.specs.Lists.{tabulate, up_to, sum, product, greatest, all, any, some_below}
 use Rattle.model.specs.Vectors.{same, above, plus, equal, is_zero}
@@ -28,7 +28,6 @@ use Rattle.model.specs.declared.Outcome.{Outcome}
 use Rattle.model.specs.declared.Outcome.TheVariants as outcome
 use Rattle.model.specs.declared.Refusal.{Refusal}
 use Rattle.model.specs.declared.Refusal.TheVariants as refusal
-use Rattle.model.specs.declared.Answer.TheVariants as answer
 use Rattle.model.specs.declared.Kernel.TheVariants as kernel
 
 -- A chain, what is handed in and lent, and what the call leaves.
@@ -81,7 +80,7 @@ ends c s store lent output allowance o cells firings clocks s' store' output' = 
   output = output;
   allowance = allowance;
   leaves = record {
-    answer = answer.Ended (o (record { cells = cells; firings = firings; clocks = clocks }));
+    answer = Ok (o (record { cells = cells; firings = firings; clocks = clocks }));
     state = s';
     store = store';
     output = output';
@@ -105,7 +104,7 @@ refuses c s store r =
       lent = lent;
       output = output;
       allowance = 9;
-      leaves = record { answer = answer.Refused r; state = s; store = store; output = output };
+      leaves = record { answer = Err r; state = s; store = store; output = output };
     }
 
 -- Size 5, offsets 3 and 0: two iterations, which read 3 and 0, then 4 and 1.

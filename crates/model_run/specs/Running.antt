@@ -4,7 +4,7 @@ use Rattle.std.proofs.lemmas.List.Edits.{sets}
 use Rattle.model.specs.Lists.{tabulate, up_to, sum}
 use Rattle.model.specs.Values.{Trimmed, trimmed}
 use Rattle.model.specs.Iterations.{cells_of, iterations_of, reads_of}
-use Rattle.model.specs.Answers.{check, first_of, by_verdict}
+use Rattle.model.specs.Answers.{Verdict, Answer, check, first_of, by_verdict}
 use Rattle.model.specs.Judging.{value_checks}
 use Rattle.model_run.specs.Kernels.{written, width, terms}
 use Rattle.model.specs.Windows.{centre_of}
@@ -17,9 +17,7 @@ use Rattle.model.specs.declared.Counts.{Counts}
 use Rattle.model.specs.declared.Outcome.{Outcome}
 use Rattle.model.specs.declared.Outcome.TheVariants as outcome
 use Rattle.model.specs.declared.Refusal.TheVariants as refusal
-use Rattle.model.specs.declared.Verdict.{Verdict}
-use Rattle.model.specs.declared.Answer.{Answer}
-use Rattle.model.specs.declared.Answer.TheVariants as answer
+use Rattle.std.specs.Prelude.{Ok, Err}
 
 -- A chain as numbers. "A filter wants a cell if .. it is the cell its reference reads in the next iteration."
 unfoldable pub layout : Trimmed → Layout
@@ -208,12 +206,12 @@ module _ (t : Trimmed) (s : State) (store lent output : List ℕ) (allowance : �
       let e = ended in
       by_verdict (judge_run t s store)
       (record {
-        answer = answer.Ended (outcome_of e.ending e.standing.done);
+        answer = Ok (outcome_of e.ending e.standing.done);
         state = with_counters s e.standing.counters;
         store = e.standing.store;
         output = e.standing.output;
       })
-      (λ r. record { answer = answer.Refused r; state = s; store = store; output = output })
+      (λ r. record { answer = Err r; state = s; store = store; output = output })
 
   -- The events of the call's clocks: none where it is refused.
   unfoldable pub events_trimmed : List Bool

@@ -1,20 +1,18 @@
 -- Reading in fixed memory, as the characters arrive: a sheet, and the cells that follow a chain sheet.
-use Rattle.std.specs.Prelude.{ℕ, zero, suc, Bool, true, false, cond, List, [], ◌∷◌, eqb, replicate}
+use Rattle.std.specs.Prelude.{ℕ, zero, suc, Bool, true, false, cond, List, [], ◌∷◌, eqb, replicate, Ok, Err}
 use Rattle.model.specs.declared.Arriving.{Arriving}
 use Rattle.model.specs.declared.CellLine.{CellLine}
 use Rattle.model.specs.declared.Last.{Last}
 use Rattle.model.specs.declared.Last.TheVariants as stood
 use Rattle.model.specs.declared.LineStep.{LineStep}
 use Rattle.model.specs.declared.Refusal.TheVariants as refusal
-use Rattle.model.specs.declared.Verdict.{Verdict}
-use Rattle.model.specs.declared.Verdict.TheVariants as verdict
-use Rattle.model.specs.Answers.{by_verdict}
+use Rattle.model.specs.Answers.{Verdict, by_verdict}
 use Rattle.model_sheet.specs.Lines.{line_feed}
 use Rattle.model_sheet.specs.Frames.{empty_frame, fed, shown, row_numbers, numbers_fed}
 use Rattle.model_sheet.specs.Reading.{step_of, start, cell_verdict, cell_in}
 
 abbrev pub opened : Arriving
-opened = record { verdict = verdict.Accepted; reading = start; frame = empty_frame; begun = false }
+opened = record { verdict = Ok tt; reading = start; frame = empty_frame; begun = false }
 
 -- At its LF the open line is read.
 abbrev pub closed : LineStep → Arriving
@@ -25,7 +23,7 @@ closed s = record { verdict = s.verdict; reading = s.reading; frame = empty_fram
 unfoldable pub arrives : (chained : Bool) → (rows : List ℕ) → Arriving → ℕ → Arriving
 arrives chained rows a c =
     let line = closed (step_of chained rows a.reading (shown a.frame)) in
-    let longer : Arriving = record { verdict = verdict.Accepted; reading = a.reading; frame = fed a.frame c; begun = true } in
+    let longer : Arriving = record { verdict = Ok tt; reading = a.reading; frame = fed a.frame c; begun = true } in
     by_verdict a.verdict (cond (eqb c line_feed) line longer) (λ x. a)
 
 -- No line of the sheet was read yet.
@@ -62,8 +60,8 @@ arrive chained a (c ∷ cs) =
 unfoldable pub finished : Arriving → LineStep
 finished a =
     let answered : Verdict → LineStep = λ v. record { verdict = v; reading = a.reading } in
-    by_verdict a.verdict (answered (cond a.begun (verdict.Refused refusal.Malformed) verdict.Accepted))
-    (λ x. answered (verdict.Refused x))
+    by_verdict a.verdict (answered (cond a.begun (Err refusal.Malformed) (Ok tt)))
+    (λ x. answered (Err x))
 
 -- Up to the first LF and with it; all where there is none.
 unfoldable pub through_feed : List ℕ → List ℕ
@@ -72,10 +70,10 @@ through_feed (c ∷ cs) = let rest = through_feed cs in cond (eqb c line_feed) (
 
 -- Where cells are read: before a line's first character, one character more of it, and at its LF.
 abbrev pub new_line : CellLine
-new_line = record { verdict = verdict.Accepted; frame = empty_frame; begun = false }
+new_line = record { verdict = Ok tt; frame = empty_frame; begun = false }
 
 abbrev pub longer_line : CellLine → ℕ → CellLine
-longer_line l c = record { verdict = verdict.Accepted; frame = fed l.frame c; begun = true }
+longer_line l c = record { verdict = Ok tt; frame = fed l.frame c; begun = true }
 
 abbrev pub ended_line : CellLine → CellLine
 ended_line l = record { verdict = cell_verdict (shown l.frame); frame = empty_frame; begun = false }

@@ -1,5 +1,7 @@
 -- "Each line is one frame: uppercase hexadecimal, two digits a byte, then LF."
 use Rattle.std.specs.Prelude.{ℕ, ◌+◌, ◌-◌, ◌*◌, ◌/◌, ◌%◌, Bool, true, false, cond, not, ◌&&◌, List, [], ◌∷◌, ◌++◌, eqb, leb, ltb, length, take, get_or, set, replicate}
+use Rattle.std.specs.Prelude.{Option, None, Some}
+use Rattle.std.specs.Option.{is_some}
 use Rattle.model.specs.declared.Frame.{Frame}
 use Rattle.model_sheet.specs.Lines.{line_feed}
 
@@ -55,7 +57,7 @@ seen_of ended chars = record { sound = ended && whole chars; len = length (bytes
 
 -- The same in fixed memory, as the characters arrive: before the first.
 abbrev pub empty_frame : Frame
-empty_frame = record { first = replicate kept 0; len = 0; sound = true; half = false; high = 0 }
+empty_frame = record { first = replicate kept 0; len = 0; sound = true; upper = None }
 
 -- One byte more.
 unfoldable pub pushed : Frame → ℕ → Frame
@@ -63,18 +65,19 @@ pushed f b = record {
   first = cond (ltb f.len kept) (set f.first f.len b) f.first;
   len = cond (ltb f.len counted) (f.len + 1) f.len;
   sound = f.sound;
-  half = false;
-  high = 0;
+  upper = None;
 }
+
+-- One digit more: the first of a byte, or the second.
+abbrev pub with_digit : Frame → (upper : Option ℕ) → (v : ℕ) → Frame
+with_digit f None v = record { first = f.first; len = f.len; sound = f.sound; upper = Some v }
+with_digit f (Some high) v = pushed f (high % 16 * 16 + v)
 
 -- One character more.
 unfoldable pub fed : Frame → ℕ → Frame
 fed f d =
-    cond (is_digit d)
-    (cond f.half
-    (pushed f (f.high % 16 * 16 + value_of d))
-    (record { first = f.first; len = f.len; sound = f.sound; half = true; high = value_of d }))
-    (record { first = f.first; len = f.len; sound = false; half = f.half; high = f.high })
+    cond (is_digit d) (with_digit f f.upper (value_of d))
+    (record { first = f.first; len = f.len; sound = false; upper = f.upper })
 
 unfoldable pub feeds : Frame → List ℕ → Frame
 feeds f [] = f
@@ -91,11 +94,16 @@ with_half numbers i b =
     let at = i / 2 in
     cond (eqb (i % 2) 0) (set numbers at (b * 256)) (set numbers at (get_or numbers at 0 / 256 * 256 + b))
 
--- One character more of a line that stands as f, and all characters of a piece of it.
+-- One character more of a line of `len` bytes whose last byte is open or whole; and of one that stands as f, one more, and all
+-- characters of a piece of it.
+abbrev pub with_character : (numbers : List ℕ) → (len : ℕ) → (upper : Option ℕ) → (d : ℕ) → List ℕ
+with_character numbers len None d = numbers
+with_character numbers len (Some high) d =
+    let longer = with_half numbers (len - 3) (high % 16 * 16 + value_of d) in
+    cond (is_digit d && leb 3 len) longer numbers
+
 unfoldable pub numbers_fed : (numbers : List ℕ) → Frame → ℕ → List ℕ
-numbers_fed numbers f d =
-    let longer = with_half numbers (f.len - 3) (f.high % 16 * 16 + value_of d) in
-    cond (f.half && (is_digit d && leb 3 f.len)) longer numbers
+numbers_fed numbers f d = with_character numbers f.len f.upper d
 
 unfoldable pub numbers_feeds : (numbers : List ℕ) → Frame → List ℕ → List ℕ
 numbers_feeds numbers f [] = numbers
@@ -103,4 +111,4 @@ numbers_feeds numbers f (d ∷ ds) = numbers_feeds (numbers_fed numbers f d) (fe
 
 -- What a step sees of a frame at its LF.
 abbrev pub shown : Frame → Seen
-shown f = record { sound = f.sound && not f.half; len = f.len; first = f.first }
+shown f = record { sound = f.sound && not (is_some f.upper); len = f.len; first = f.first }

@@ -7,17 +7,17 @@ use Rattle.model.specs.declared.Kernel.{Kernel}
 use Rattle.model.specs.declared.Kernel.TheVariants as kernel
 use Rattle.model.specs.declared.Last.{Last}
 use Rattle.model.specs.declared.Last.TheVariants as stood
+use Rattle.model.specs.declared.Chain.{Chain}
+use Rattle.model.specs.declared.Request.{Request}
+use Rattle.model.specs.declared.Refusal.{Refusal}
 use Rattle.model.specs.declared.Refusal.TheVariants as refusal
-use Rattle.model.specs.declared.Verdict.{Verdict}
-use Rattle.model.specs.declared.Verdict.TheVariants as verdict
+use Rattle.std.specs.Prelude.{Result, Ok, Err}
 use Rattle.model.specs.declared.Reading.{Reading}
 use Rattle.model.specs.declared.LineStep.{LineStep}
-use Rattle.model.specs.declared.ReadChain.{ReadChain}
-use Rattle.model.specs.declared.ReadRequest.{ReadRequest}
 use Rattle.model.specs.Lists.{tabulate, any}
 use Rattle.model.specs.Values.{rows_of, dims_of, with_reference, blank_chain, request_of, set_grid, set_window, set_bounds}
 use Rattle.model.specs.Values.{set_capacities, set_order, set_kernel}
-use Rattle.model.specs.Answers.{Check, check, first_of, by_verdict}
+use Rattle.model.specs.Answers.{Verdict, Check, check, first_of, by_verdict}
 use Rattle.model.specs.Judging.{bad_dims, bad_sizes, bad_row_count, bad_row, judge_chain}
 use Rattle.model.specs.Planning.{judge_request}
 use Rattle.model_sheet.specs.Lines.{Line, lines_of}
@@ -273,7 +273,7 @@ complete r = closes r.last
 
 -- The lines from the top, up to the first that is turned back.
 unfoldable pub read_lines : (chain_sheet : Bool) → (rows : List ℕ) → Reading → List Line → LineStep
-read_lines chain_sheet rows r [] = record { verdict = verdict.Accepted; reading = r }
+read_lines chain_sheet rows r [] = record { verdict = Ok tt; reading = r }
 read_lines chain_sheet rows r (l ∷ ls) =
     let s = step_of chain_sheet rows r (seen_of l.ended l.chars) in
     let rest = read_lines chain_sheet rows s.reading ls in
@@ -283,8 +283,8 @@ read_lines chain_sheet rows r (l ∷ ls) =
 -- which 3, 16 and 4 hold no more.
 unfoldable pub end_verdict : LineStep → (judged : Verdict) → Verdict
 end_verdict s judged =
-    let at_end = cond (complete s.reading) judged (verdict.Refused refusal.Misplaced) in
-    by_verdict s.verdict at_end verdict.Refused
+    let at_end = cond (complete s.reading) judged (Err refusal.Misplaced) in
+    by_verdict s.verdict at_end Err
 
 -- The numbers on a sheet's first line: the rows of its grid, where it is skewed.
 abbrev pub first_numbers : List Line → List ℕ
@@ -294,19 +294,18 @@ first_numbers (l ∷ ls) = numbers_on (bytes_of l.chars)
 unfoldable pub numbers_in : List ℕ → List ℕ
 numbers_in sheet = first_numbers (lines_of sheet)
 
-unfoldable pub read_chain : List ℕ → ReadChain
+unfoldable pub read_chain : List ℕ → Result Chain Refusal
 read_chain sheet =
     let rows = numbers_in sheet in
     let s = read_lines true rows start (lines_of sheet) in
-    let v = end_verdict s (judge_chain s.reading.chain rows) in
-    record { verdict = v; chain = by_verdict v s.reading.chain (λ x. blank_chain) }
+    by_verdict (end_verdict s (judge_chain s.reading.chain rows)) (Ok s.reading.chain) Err
 
-unfoldable pub read_request : List ℕ → ReadRequest
+unfoldable pub read_request : List ℕ → Result Request Refusal
 read_request sheet =
     let rows = numbers_in sheet in
     let s = read_lines false rows start (lines_of sheet) in
-    let v = end_verdict s (judge_request (request_of s.reading.chain) rows) in
-    record { verdict = v; request = request_of (by_verdict v s.reading.chain (λ x. blank_chain)) }
+    let r = request_of s.reading.chain in
+    by_verdict (end_verdict s (judge_request r rows)) (Ok r) Err
 
 -- Where a cell is wanted: 1 as on any line, then 2 for a line other than `05`; and the cell of an `05` line.
 unfoldable pub cell_verdict : Seen → Verdict

@@ -1,5 +1,6 @@
 -- The sheets that document 01 prints, and damaged ones, read by computation; an accepted chain sheet is written back.
-use Rattle.std.specs.Prelude.{ℕ, zero, suc, ◌+◌, ◌-◌, ◌≡◌, refl, Bool, true, false, ◌&&◌, eqb, length, take, drop, replicate}
+use Rattle.std.specs.Prelude.{ℕ, zero, suc, ◌+◌, ◌-◌, ◌≡◌, refl, Bool, true, false, ◌&&◌, eqb, length, take, drop, replicate, Result}
+use Rattle.std.specs.Result.{result_unwrap_or}
 use Prim.Native.Char.{code}
 use Prim.Native.String.{String, ◌++◌}
 use Prim.Native.String as Text
@@ -18,7 +19,8 @@ use Rattle.model.specs.Boxes.{index_count, widths, box_shape, box_course, course
 use Rattle.model.specs.Values.{sizes_of, offset_of, offsets_of, part_of, capacities_of, order_of, trimmed, blank_chain, ground_of}
 use Rattle.model.specs.Values.{dims_of, rows_of}
 use Rattle.model.specs.Iterations.{position_of, course_of, iteration_of, reads_of, firsts, distance_in, distance_of, firsts_from}
-use Rattle.model.specs.Answers.{number_of, verdict_number, first_of, by_verdict}
+use Rattle.model.specs.Answers.{number_of, verdict_of, verdict_number, first_of, by_verdict, by_answer}
+use Rattle.model.specs.declared.Refusal.{Refusal}
 use Rattle.model.specs.Judging.{bad_dims, bad_sizes, bad_grid, bad_count, repeats, no_iteration, needs_centre, lacks_centre}
 use Rattle.model.specs.Judging.{not_finite, bad_factor, too_large, twice, bad_order, window_checks, kernel_checks, chain_checks}
 use Rattle.model.specs.Judging.{value_checks, judged, judge_chain, bad_row, bad_row_count, bad_rows}
@@ -368,7 +370,11 @@ same_bytes (x ∷ xs) [] = false
 same_bytes (x ∷ xs) (y ∷ ys) = eqb x y && same_bytes xs ys
 
 unfoldable pub request_right : Case → Bool
-request_right c = eqb (verdict_number (read_request (bytes_in c.sheet)).verdict) c.number
+request_right c = eqb (verdict_number (verdict_of (read_request (bytes_in c.sheet)))) c.number
+
+-- No byte where writing is refused.
+abbrev bytes_written : Result ℕ Refusal → ℕ
+bytes_written a = result_unwrap_or a 0
 
 -- The sheet is what is written to an output with two places more, which stay as they were; with a place too few it is 12, and
 -- all stay.
@@ -377,20 +383,20 @@ writes_back c rows sheet =
     let room = length sheet in
     let long = write_of c rows (replicate (room + 2) 7) in
     let short = write_of c rows (replicate (room - 1) 7) in
-    eqb (verdict_number long.answer.verdict) 0
-    && (eqb long.answer.bytes room
+    eqb (verdict_number (verdict_of long.answer)) 0
+    && (eqb (bytes_written long.answer) room
     && (same_bytes (take room long.output) sheet
     && (same_bytes (drop room long.output) (7 ∷ 7 ∷ [])
-    && (eqb (verdict_number short.answer.verdict) 12
-    && (eqb short.answer.bytes 0
+    && (eqb (verdict_number (verdict_of short.answer)) 12
+    && (eqb (bytes_written short.answer) 0
     && same_bytes short.output (replicate (room - 1) 7))))))
 
 unfoldable pub chain_right : Case → Bool
 chain_right c =
     let sheet = bytes_in c.sheet in
     let r = read_chain sheet in
-    eqb (verdict_number r.verdict) c.number
-    && by_verdict r.verdict (writes_back r.chain (numbers_in sheet) sheet) (λ x. true)
+    eqb (verdict_number (verdict_of r)) c.number
+    && by_answer r (λ d. writes_back d (numbers_in sheet) sheet) (λ x. true)
 
 unfoldable pub cell_right : Case → Bool
 cell_right c = all (λ l. eqb (verdict_number (cell_verdict (seen_of l.ended l.chars))) c.number)
@@ -400,14 +406,14 @@ cell_right c = all (λ l. eqb (verdict_number (cell_verdict (seen_of l.ended l.c
 unfoldable pub fits : Bool
 fits =
     let sheet = bytes_in printed in
-    let w = write_of (read_chain sheet).chain [] (replicate (length sheet) 7) in
-    eqb (verdict_number w.answer.verdict) 0 && (eqb w.answer.bytes (length sheet) && same_bytes w.output sheet)
+    let w = write_of (result_unwrap_or (read_chain sheet) blank_chain) [] (replicate (length sheet) 7) in
+    eqb (verdict_number (verdict_of w.answer)) 0 && (eqb (bytes_written w.answer) (length sheet) && same_bytes w.output sheet)
 
 -- 3 comes before 12.
 unfoldable pub blank_right : Bool
 blank_right =
     let w = write_of blank_chain [] (7 ∷ []) in
-    eqb (verdict_number w.answer.verdict) 3 && (eqb w.answer.bytes 0 && same_bytes w.output (7 ∷ []))
+    eqb (verdict_number (verdict_of w.answer)) 3 && (eqb (bytes_written w.answer) 0 && same_bytes w.output (7 ∷ []))
 
 pub table : (all request_right requests && (all chain_right chains && (all cell_right cells && (fits && blank_right)))) ≡ true
 unfolding bytes_in times requests chains cells same_bytes request_right writes_back chain_right cell_right fits blank_right flat_map

@@ -1,5 +1,5 @@
 -- Writing a chain sheet (document 01, "Lines of the sheet"; number 12; document 02, requests 2, 4 and 5).
-use Rattle.std.specs.Prelude.{ℕ, cond, ltb, ℤ, pos, length, drop, get_or}
+use Rattle.std.specs.Prelude.{ℕ, cond, ltb, ℤ, pos, length, drop, get_or, Result, Ok, Err}
 use mathlib.Core.List.{List, [], ◌∷◌, ◌++◌, map, flat_map}
 use Rattle.std.specs.Float.Ieee.{to_bits}
 use Rattle.std.specs.Float.{binary32}
@@ -9,15 +9,13 @@ use Rattle.model.specs.declared.Kernel.{Kernel}
 use Rattle.model.specs.declared.Kernel.TheVariants as kernel
 use Rattle.model.specs.declared.Order.{Order}
 use Rattle.model.specs.declared.Chain.{Chain}
+use Rattle.model.specs.declared.Refusal.{Refusal}
 use Rattle.model.specs.declared.Refusal.TheVariants as refusal
-use Rattle.model.specs.declared.Verdict.{Verdict}
-use Rattle.model.specs.declared.Verdict.TheVariants as verdict
-use Rattle.model.specs.declared.Wrote.{Wrote}
 use Rattle.model.specs.Lists.{up_to}
 use Rattle.model.specs.Grounds.{Ground}
 use Rattle.model.specs.Grounds.Ground.{rectangle, skewed}
 use Rattle.model.specs.Values.{ground_of, dims_of, offsets_of, capacities_of, order_of}
-use Rattle.model.specs.Answers.{check, first_of, by_verdict}
+use Rattle.model.specs.Answers.{Verdict, check, first_of, by_verdict}
 use Rattle.model.specs.Judging.{judge_chain}
 use Rattle.model_sheet.specs.Frames.{framed}
 use Rattle.model_sheet.specs.Numbers.{half_bytes, word_bytes, pattern, word_pattern}
@@ -79,11 +77,11 @@ longest_sheet = 4919
 unfoldable pub write_verdict : Chain → (rows : List ℕ) → (room : ℕ) → Verdict
 write_verdict c rows room =
     let last = first_of (check (ltb room (length (sheet_of c rows))) refusal.ShortOutput ∷ []) in
-    by_verdict (judge_chain c rows) last verdict.Refused
+    by_verdict (judge_chain c rows) last Err
 
--- What a write call answers, and the output as it leaves it.
+-- What a write call answers, how many bytes it wrote or why not, and the output as it leaves it.
 pub record Written : Type 0 where
-  pub answer : Wrote
+  pub answer : Result ℕ Refusal
   pub output : List ℕ
 
 -- The sheet from the first place on; later places, and after a refusal all places, stay as they were.
@@ -93,7 +91,7 @@ write_of c rows output =
     let sheet = sheet_of c rows in
     by_verdict v
     (record {
-      answer = record { verdict = verdict.Accepted; bytes = length sheet };
+      answer = Ok (length sheet);
       output = sheet ++ drop (length sheet) output;
     })
-    (λ r. record { answer = record { verdict = verdict.Refused r; bytes = 0 }; output = output })
+    (λ r. record { answer = Err r; output = output })

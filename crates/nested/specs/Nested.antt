@@ -1,5 +1,5 @@
 -- What the plain nested loop's functions leave.
-use Rattle.std.specs.Prelude.{ℕ, zero, suc, ◌+◌, ◌-◌, ◌*◌, ◌/◌, ◌%◌, Bool, true, false, cond, ◌&&◌, List, [], ◌∷◌, eqb, ltb, leb, Float, ℤ, pos, negsuc, length, get_or, set, replicate}
+use Rattle.std.specs.Prelude.{ℕ, zero, suc, ◌+◌, ◌-◌, ◌*◌, ◌/◌, ◌%◌, Bool, true, false, cond, ◌&&◌, List, [], ◌∷◌, Option, Some, None, unwrap_or, eqb, ltb, leb, Float, ℤ, pos, negsuc, length, get_or, set, replicate}
 use Rattle.std.specs.Float.{binary32}
 use Rattle.std.specs.Float.Ieee.{add, mul}
 use Rattle.model_run.specs.Kernels.{float, word, squared}
@@ -9,31 +9,28 @@ use Rattle.model.specs.declared.Window.{Window}
 use Rattle.model.specs.declared.Request.{Request}
 use Rattle.model.specs.declared.Kernel.{Kernel}
 use Rattle.model.specs.declared.Kernel.TheVariants as kernel
-use Rattle.nested.specs.declared.Sum.{Sum}
 use Rattle.nested.specs.declared.windows.Loops.{Loops}
 
--- A sum so far, which begins with its first term: of none, and of one term more.
-abbrev pub no_terms : Sum
-no_terms = record { begun = false; total = float 0 }
-
-abbrev pub added : Sum → Float → Sum
-added s t = record { begun = true; total = cond s.begun (add binary32 s.total t) t }
+-- A sum so far, which begins with its first term, and a term more.
+abbrev pub added : Option Float → Float → Option Float
+added None t = Some t
+added (Some s) t = Some (add binary32 s t)
 
 -- The terms of references 0 to n - 1 but one, in their order.
-unfoldable pub sum_but : (term : ℕ → Float) (but n : ℕ) → Sum
-sum_but term but zero = no_terms
+unfoldable pub sum_but : (term : ℕ → Float) (but n : ℕ) → Option Float
+sum_but term but zero = None
 sum_but term but (suc k) = cond (eqb k but) (sum_but term but k) (added (sum_but term but k) (term k))
 
 -- Reference k's word, of 32.
 unfoldable pub word_in : (words : List ℕ) (k : ℕ) → ℕ
 word_in ws k = cond (ltb k 32) (get_or ws k 0) 0
 
--- The sum of the references' values but one, and that of the squares of the centre less each other reference.
+-- 0 of no term. The sum of the references' values but one, and that of the squares of the centre less each other reference.
 unfoldable pub values : (words : List ℕ) (n but : ℕ) → Float
-values ws n but = (sum_but (λ k. float (word_in ws k)) but n).total
+values ws n but = unwrap_or (sum_but (λ k. float (word_in ws k)) but n) (float 0)
 
 unfoldable pub squares : (words : List ℕ) (n centre : ℕ) → Float
-squares ws n c = (sum_but (λ k. squared (word_in ws c) (word_in ws k)) c n).total
+squares ws n c = unwrap_or (sum_but (λ k. squared (word_in ws c) (word_in ws k)) c n) (float 0)
 
 -- The words of n references as a firing leaves them: raw all, the others one word at the first place.
 unfoldable pub fired : Kernel → (n centre : ℕ) → List ℕ → List ℕ

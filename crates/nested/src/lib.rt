@@ -5,15 +5,16 @@
 pub mod requests;
 pub mod windows;
 
-ghost use Rattle.std.specs.Prelude.{◌≡◌};
+ghost use Rattle.std.specs.Prelude.{◌≡◌, replicate};
 ghost use Rattle.model_run.specs.Kernels.{float, word as word_of, width as width_of};
-ghost use Rattle.nested.specs.Nested.{no_terms, added, word_in, values, squares, fired, moved_by, index_in, cell_of};
+ghost use Rattle.nested.specs.Nested.{added, word_in, values, squares, fired, moved_by, index_in, cell_of};
 ghost use Rattle.nested.specs.Nested.{gathered, agreed};
 
 use crate::windows::Loops;
 use model::Kernel;
 
 // The value of a word.
+#[tactic(auto, using(kernel_words::proofs::FloatLaws::nan_word, kernel_words::proofs::FloatLaws::number_word))]
 fn value(w: u32) -> f32
     ensures { result ≡ float w }
 {
@@ -25,6 +26,7 @@ fn value(w: u32) -> f32
 }
 
 // The word of a result.
+#[tactic(auto, using(kernel_words::proofs::FloatLaws::nan_bits_lem, kernel_words::proofs::FloatLaws::no_nan))]
 fn result(x: f32) -> u32
     ensures { result ≡ word_of x }
 {
@@ -34,37 +36,17 @@ fn result(x: f32) -> u32
     f32::to_bits(x)
 }
 
-// A sum so far, which begins with its first term.
-#[derive(Clone, Copy)]
-struct Sum {
-    begun: bool,
-    total: f32,
-}
-
-fn no_terms() -> Sum
-    ensures { result ≡ no_terms }
+// A sum so far, which begins with its first term, and a term more.
+fn add(sum: Option<f32>, term: f32) -> Option<f32>
+    ensures { result ≡ added sum term }
 {
-    Sum {
-        begun: false,
-        total: 0.0,
+    match sum {
+        Some(total) => Some(total + term),
+        None => Some(term),
     }
 }
 
-fn add(s: Sum, term: f32) -> Sum
-    ensures { result ≡ added s term }
-{
-    if s.begun {
-        return Sum {
-            begun: true,
-            total: s.total + term,
-        };
-    }
-    Sum {
-        begun: true,
-        total: term,
-    }
-}
-
+#[tactic(auto, unfolding(crate::specs::Nested::word_in))]
 fn word(words: &[u32; 32], k: usize) -> u32
     ensures { result ≡ word_in words.now k }
 {
@@ -78,30 +60,31 @@ fn differences(words: &[u32; 32], n: usize, centre: usize) -> f32
     ensures { result ≡ squares words.now n centre }
 {
     let c = value(word(words, centre));
-    let mut sum = no_terms();
+    let mut sum = None;
     for k in 0..n {
         if k != centre {
             let d = c - value(word(words, k));
             sum = add(sum, d * d);
         }
     }
-    sum.total
+    sum.unwrap_or(0.0)
 }
 
 // The sum of all references but the one numbered `but`.
 fn sum_but(words: &[u32; 32], n: usize, but: usize) -> f32
     ensures { result ≡ values words.now n but }
 {
-    let mut sum = no_terms();
+    let mut sum = None;
     for k in 0..n {
         if k != but {
             sum = add(sum, value(word(words, k)));
         }
     }
-    sum.total
+    sum.unwrap_or(0.0)
 }
 
 // How many words a firing of n references writes.
+#[tactic(auto, unfolding(model_run::specs::Kernels::width))]
 pub fn width(kernel: Kernel, n: usize) -> usize
     ensures { result ≡ width_of kernel n }
 {
@@ -113,94 +96,70 @@ pub fn width(kernel: Kernel, n: usize) -> usize
     }
 }
 
-// Turns the n cells of an iteration into the words that its firing writes. Words past the first stay.
-pub fn apply(kernel: Kernel, n: usize, centre: usize, words: &mut [u32; 32])
-    ensures { words.new ≡ fired kernel n centre words.old }
+// The words that a firing writes, from the n cells of its iteration: raw writes these, the others one word at the first place.
+#[tactic(auto, unfolding(crate::specs::Nested::fired))]
+pub fn apply(kernel: Kernel, n: usize, centre: usize, words: [u32; 32]) -> [u32; 32]
+    ensures { result ≡ fired kernel n centre words }
 {
-    match kernel {
-        Kernel::Raw => {}
-        Kernel::Difference => {
-            words[0] = result(differences(words, n, centre));
-        }
-        Kernel::Scaled(f) => {
-            words[0] = result(sum_but(words, n, n) * f);
-        }
-        Kernel::Blend(g) => {
-            let c = value(word(words, centre));
-            words[0] = result(g.a * c + g.b * sum_but(words, n, centre));
-        }
-    }
+    let first = match kernel {
+        Kernel::Raw => return words,
+        Kernel::Difference => differences(&words, n, centre),
+        Kernel::Scaled(f) => sum_but(&words, n, n) * f,
+        Kernel::Blend(g) => g.a * value(word(&words, centre)) + g.b * sum_but(&words, n, centre),
+    };
+    let mut words = words;
+    words[0] = result(first);
+    words
 }
 
 // An index moved by an entry of an offset; outside of every grid where that cannot be.
+#[tactic(auto, unfolding(crate::specs::Nested::moved_by))]
 fn moved(i: usize, entry: u8) -> usize
     ensures { result ≡ moved_by i entry }
 {
-    if entry == b'0' {
-        return i;
+    match entry {
+        b'0' => i,
+        b'+' if i < 1048576 => i + 1,
+        b'-' if 0 < i => i - 1,
+        _ => 1048576,
     }
-    if entry == b'+' {
-        if i < 1048576 {
-            return i + 1;
-        }
-        return 1048576;
-    }
-    if entry == b'-' {
-        if 0 < i {
-            return i - 1;
-        }
-    }
-    1048576
 }
 
 // Index b of row a, where rows have `size` entries.
+#[tactic(auto, unfolding(crate::specs::Nested::index_in))]
 fn index(a: usize, size: usize, b: usize) -> usize
     ensures { result ≡ index_in a size b }
 {
-    if a < 1048576 {
-        if size < 1048576 {
-            if b < 1048576 {
-                return a * size + b;
-            }
-        }
+    if a < 1048576 && size < 1048576 && b < 1048576 {
+        a * size + b
+    } else {
+        1099511627776
     }
-    1099511627776
 }
 
 // The cell at [z][y][x].
+#[tactic(auto, unfolding(crate::specs::Nested::cell_of))]
 fn cell_at(l: Loops, cells: &[u32], z: usize, y: usize, x: usize) -> u32
     ensures { result ≡ cell_of l cells.now z y x }
 {
-    if z < l.planes {
-        if y < l.rows {
-            if x < l.columns {
-                let p = index(index(z, l.rows, y), l.columns, x);
-                if p < cells.len() {
-                    return cells[p];
-                }
-            }
+    if z < l.planes && y < l.rows && x < l.columns {
+        let p = index(index(z, l.rows, y), l.columns, x);
+        if p < cells.len() {
+            return cells[p];
         }
     }
     0x0BAD0BAD
 }
 
-// The cells that iteration [z][y][x] reads, in the window's order. Words past the window's references stay.
-pub fn gather(
-    l: Loops,
-    window: &[u8],
-    cells: &[u32],
-    z: usize,
-    y: usize,
-    x: usize,
-    words: &mut [u32; 32],
-)
-    ensures { words.new ≡ gathered l window.now cells.now z y x 0 32 words.old }
+// The cells that iteration [z][y][x] reads, in the window's order; 0 past the window's references.
+pub fn gather(l: Loops, window: &[u8], cells: &[u32], z: usize, y: usize, x: usize) -> [u32; 32]
+    ensures { result ≡ gathered l window.now cells.now z y x 0 32 (replicate 32 0) }
 {
-    let mut k = 0;
-    let mut at = 0;
-    while k < 32 {
+    let mut words = [0u32; 32];
+    for k in 0..32 {
+        let at = 4 * k;
         if window.len() <= at + 2 {
-            return;
+            return words;
         }
         words[k] = cell_at(
             l,
@@ -209,34 +168,22 @@ pub fn gather(
             moved(y, window[at + 1]),
             moved(x, window[at + 2]),
         );
-        k += 1;
-        at += 4;
     }
+    words
 }
 
 // How many of the first `count` words stand in `out` from place `at` to before `end`, up to the first that does not.
 pub fn agreeing(words: &[u32; 32], count: usize, out: &[u32], at: usize, end: usize) -> usize
     ensures { result ≡ agreed words.now out.now count at end }
 {
-    if out.len() < end {
+    if out.len() < end || end < at {
         return 0;
     }
-    if end < at {
-        return 0;
-    }
-    let left = end - at;
-    let mut i = 0;
-    while i < count {
-        if 32 <= i {
-            return i;
-        }
-        if left <= i {
-            return i;
-        }
+    let n = count.min(32).min(end - at);
+    for i in 0..n {
         if out[at + i] != words[i] {
             return i;
         }
-        i += 1;
     }
-    i
+    n
 }

@@ -12,6 +12,7 @@ fn size(x: usize) -> u32
     (x % 4294967296) as u32
 }
 
+#[tactic(auto, unfolding(crate::specs::Nested::grid_of))]
 fn grid(l: Loops) -> Grid
     ensures { result ≡ grid_of l }
 {
@@ -31,19 +32,19 @@ fn grid(l: Loops) -> Grid
     }
 }
 
+#[tactic(auto, unfolding(crate::specs::Nested::entry_of))]
 fn entry(c: u8) -> i16
     ensures { result ≡ entry_of c }
 {
-    if c == b'+' {
-        return 1;
+    match c {
+        b'+' => 1,
+        b'-' => -1,
+        _ => 0,
     }
-    if c == b'-' {
-        return -1;
-    }
-    0
 }
 
 // The entries of reference k.
+#[tactic(auto, unfolding(crate::specs::Nested::placed))]
 fn place(dims: u8, k: usize, z: u8, y: u8, x: u8, entries: &mut [i16; 128])
     ensures { entries.new ≡ placed dims k z y x entries.old }
 {
@@ -65,24 +66,22 @@ fn listed(dims: u8, window: &[u8]) -> Window
     ensures { result ≡ listed_in dims window.now }
 {
     let mut entries = [0i16; 128];
-    let mut k = crate::windows::references(window);
-    let mut at = 0;
-    while 0 < k {
-        k -= 1;
+    let count = crate::windows::references(window);
+    for k in 0..count {
+        let at = 4 * k;
         if at + 2 < window.len() {
             place(
                 dims,
-                at / 4,
+                k,
                 window[at],
                 window[at + 1],
                 window[at + 2],
                 &mut entries,
             );
         }
-        at += 4;
     }
     Window {
-        count: (crate::windows::references(window) % 256) as u8,
+        count: (count % 256) as u8,
         offsets: entries,
     }
 }
@@ -94,6 +93,7 @@ fn index(x: usize) -> i32
 }
 
 // The last index before the end of a loop.
+#[tactic(auto, unfolding(crate::specs::Nested::last_before))]
 fn last_before(end: usize) -> i32
     ensures { result ≡ last_before end }
 {
@@ -104,6 +104,7 @@ fn last_before(end: usize) -> i32
 }
 
 // An index for each dimension of the grid.
+#[tactic(auto, unfolding(crate::specs::Nested::along_dims))]
 fn along_dims(dims: u8, z: i32, y: i32, x: i32) -> [i32; 4]
     ensures { result ≡ along_dims dims z y x }
 {
@@ -113,12 +114,14 @@ fn along_dims(dims: u8, z: i32, y: i32, x: i32) -> [i32; 4]
     [z, y, x, 0]
 }
 
+#[tactic(auto, unfolding(crate::specs::Nested::lowest_of))]
 fn lowest(l: Loops) -> [i32; 4]
     ensures { result ≡ lowest_of l }
 {
     along_dims(l.dims, index(l.z_first), index(l.y_first), index(l.x_first))
 }
 
+#[tactic(auto, unfolding(crate::specs::Nested::highest_of))]
 fn highest(l: Loops) -> [i32; 4]
     ensures { result ≡ highest_of l }
 {
@@ -131,6 +134,7 @@ fn highest(l: Loops) -> [i32; 4]
 }
 
 // The box that the loops go over; none where they go over all iterations.
+#[tactic(auto, unfolding(crate::specs::Nested::bounds_of, crate::specs::Nested::lowest_of, crate::specs::Nested::highest_of))]
 fn bounds(l: Loops) -> Bounds
     ensures { result ≡ bounds_of l }
 {
@@ -148,6 +152,7 @@ fn bounds(l: Loops) -> Bounds
     }
 }
 
+#[tactic(auto, unfolding(crate::specs::Nested::request_of))]
 pub fn request(l: Loops, window: &[u8], kernel: Kernel) -> Request
     ensures { result ≡ request_of l window.now kernel }
 {
@@ -169,13 +174,5 @@ pub fn on_rows(r: Request, rows: u32) -> Request
         dims: 2,
         sizes: [0u32; 4],
     };
-    let window = r.window;
-    let bounds = r.bounds;
-    let kernel = r.kernel;
-    Request {
-        grid,
-        window,
-        bounds,
-        kernel,
-    }
+    Request { grid, ..r }
 }

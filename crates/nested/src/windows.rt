@@ -114,10 +114,6 @@ pub fn over_box(
     ensures { result ≡ box_loops l z_first z_end y_first y_end x_first x_end }
 {
     Loops {
-        dims: l.dims,
-        planes: l.planes,
-        rows: l.rows,
-        columns: l.columns,
         z_first,
         z_end,
         y_first,
@@ -125,7 +121,7 @@ pub fn over_box(
         x_first,
         x_end,
         boxed: true,
-        centre: l.centre,
+        ..l
     }
 }
 

@@ -6,13 +6,11 @@
 ghost use Rattle.std.specs.Prelude.{◌≡◌, length};
 
 use case_runs::{fresh, words_of};
-use model::{Answer, Chain, Factors, Kernel, Outcome, Ran, Side, State, Verdict};
+use model::{Chain, Factors, Kernel, Outcome, Ran, Refusal, Side, State};
 use nested::requests::request;
 use nested::windows::{Loops, references};
 use nested::{agreeing, apply, gather, width};
-use numbers::{lesser, wide_usize};
 use std::io;
-use std::num::wrapping_add_usize;
 use values::counts_of;
 
 // The grid, and the iterations of the union, which leave its rim out; `centre` is the reference of a window that is the centre.
@@ -45,18 +43,18 @@ fn cell(p: u32) -> u32 {
 fn fill(cells: &mut [u32; 3072])
     ensures { length cells.new ≡ length cells.old }
 {
-    let mut p: u32 = 0;
-    while p < 3072 {
+    for p in 0..3072u32 {
         cells[p as usize] = cell(p);
-        p += 1;
     }
 }
 
 // One of the pair: its window, as its author wrote it.
 fn side(author: &[u8], kernel: Kernel) -> Side {
     let r = request(loops(0), author, kernel);
-    let window = r.window;
-    Side { window, kernel }
+    Side {
+        window: r.window,
+        kernel,
+    }
 }
 
 // A call with at most `count` cells from number `from` on, and at most `places` places of each output from its place on.
@@ -75,12 +73,12 @@ fn lend(
     out: &mut [u32],
     other: &mut [u32],
 ) -> Ran {
-    let a = lesser(from, cells.len());
-    let b = lesser(count, cells.len() - a);
-    let c = lesser(at, out.len());
-    let d = lesser(places, out.len() - c);
-    let e = lesser(other_at, other.len());
-    let f = lesser(places, other.len() - e);
+    let a = from.min(cells.len());
+    let b = count.min(cells.len() - a);
+    let c = at.min(out.len());
+    let d = places.min(out.len() - c);
+    let e = other_at.min(other.len());
+    let f = places.min(other.len() - e);
     pair_run::run_pair(
         chain,
         &[],
@@ -95,13 +93,8 @@ fn lend(
     )
 }
 
-fn is_done(a: Answer) -> bool {
-    if let Answer::Ended(o) = a {
-        if let Outcome::Done(_) = o {
-            return true;
-        }
-    }
-    false
+fn is_done(a: Result<Outcome, Refusal>) -> bool {
+    matches!(a, Ok(Outcome::Done(_)))
 }
 
 // How a run went.
@@ -131,23 +124,19 @@ fn trip(
     let mut clocks: usize = 0;
     let mut at: usize = 0;
     let mut other_at: usize = 0;
-    let mut calls: u32 = 0;
-    while calls < 10000 {
+    for _ in 0..10000 {
         let ran = lend(
             chain, fuel, timing, state, taken, piece, at, other_at, piece, cells, &mut store, out,
             other,
         );
-        calls += 1;
-        let answer = ran.answer;
-        let after = ran.state;
-        state = after;
-        let c = counts_of(answer);
-        taken = wrapping_add_usize(taken, wide_usize(c.cells));
-        clocks = wrapping_add_usize(clocks, wide_usize(c.clocks));
-        firings = wrapping_add_usize(firings, wide_usize(c.firings));
-        at = wrapping_add_usize(at, words_of(c.firings, words));
-        other_at = wrapping_add_usize(other_at, words_of(c.firings, other_words));
-        if is_done(answer) {
+        state = ran.state;
+        let c = counts_of(ran.answer);
+        taken = taken.wrapping_add(c.cells as usize);
+        clocks = clocks.wrapping_add(c.clocks as usize);
+        firings = firings.wrapping_add(c.firings as usize);
+        at = at.wrapping_add(words_of(c.firings, words));
+        other_at = other_at.wrapping_add(words_of(c.firings, other_words));
+        if is_done(ran.answer) {
             return Summary {
                 done: true,
                 firings,
@@ -170,14 +159,13 @@ fn same(l: Loops, kernel: Kernel, window: &[u8], cells: &[u32], out: &[u32]) -> 
     let mut seen: usize = 0;
     for y in 1..47 {
         for x in 1..63 {
-            let mut words = [0u32; 32];
-            gather(l, window, cells, 0, y, x, &mut words);
-            apply(kernel, n, l.centre, &mut words);
+            let read = gather(l, window, cells, 0, y, x);
+            let words = apply(kernel, n, l.centre, read);
             if agreeing(&words, size, out, at, out.len()) != size {
                 return seen;
             }
-            at = wrapping_add_usize(at, size);
-            seen = wrapping_add_usize(seen, 1);
+            at = at.wrapping_add(size);
+            seen = seen.saturating_add(1);
         }
     }
     seen
@@ -211,10 +199,8 @@ fn run(
     piece: usize,
     cells: &[u32],
 ) -> io::Result<()> {
-    let k = fuel.kernel;
-    let m = timing.kernel;
-    let words = width(k, references(window));
-    let other_words = width(m, references(other_window));
+    let words = width(fuel.kernel, references(window));
+    let other_words = width(timing.kernel, references(other_window));
     let mut out = [0u32; 9000];
     let mut other = [0u32; 9000];
     let t = trip(
@@ -228,8 +214,8 @@ fn run(
         &mut out,
         &mut other,
     );
-    let one = same(loops(0), k, window, cells, &out);
-    let two = same(loops(2), m, other_window, cells, &other);
+    let one = same(loops(0), fuel.kernel, window, cells, &out);
+    let two = same(loops(2), timing.kernel, other_window, cells, &other);
     written(rt, t, piece == 9000, one, two)
 }
 
@@ -246,14 +232,14 @@ fn pair(
     let fuel = side(b"000 00- 00+", k);
     let timing = side(b"0-0 0+0", m);
     let r = request(loops(0), window, Kernel::Raw);
-    let p = pair_plan::plan_pair(r.grid, &[], r.bounds, fuel, timing);
-    let verdict = p.verdict;
-    let chain = p.chain;
     println!(rt; "{name}")?;
-    if let Verdict::Refused(x) = verdict {
-        let number = values::number_of(x);
-        return println!(rt; "  refusal {number}");
-    }
+    let chain = match pair_plan::plan_pair(r.grid, &[], r.bounds, fuel, timing) {
+        Ok(chain) => chain,
+        Err(x) => {
+            let number = u8::from(x);
+            return println!(rt; "  refusal {number}");
+        }
+    };
     run(rt, chain, fuel, timing, window, other_window, 9000, cells)?;
     run(rt, chain, fuel, timing, window, other_window, 37, cells)
 }

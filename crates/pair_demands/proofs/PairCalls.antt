@@ -14,14 +14,14 @@ use Rattle.model.specs.Lists.{tabulate, any}
 use Rattle.model.specs.Vectors.{equal, plus}
 use Rattle.model.specs.Values.{Trimmed, trimmed, dims_of}
 use Rattle.model.specs.Iterations.{reads_of, position_of, iteration_of}
-use Rattle.model.specs.Answers.{first_of, answer_counts}
+use Rattle.model.specs.Answers.{Verdict, first_of, answer_counts}
 use Rattle.model.specs.Steps.{which_of}
 use Rattle.model_run.specs.Kernels.{words_at}
 use Rattle.model_run.specs.Clock.{Layout, fires}
 use Rattle.model_run.specs.Running.{layout, with_counters, Standing, Ending, Full, ends, outcome_of, begun, written_by, width_of, short_store, judge_run, ended, run_trimmed}
 use Rattle.model.specs.declared.State.{State}
 use Rattle.model.specs.declared.Counts.{Counts}
-use Rattle.model.specs.declared.Verdict.{Verdict}
+use Rattle.std.specs.Prelude.{Ok, Err}
 use Rattle.grid_laws.proofs.ListLaws.{get_d_tabulate, tabulate_back}
 use Rattle.grid_laws.proofs.CheckLaws.{some_references}
 use Rattle.grid_laws.proofs.ChainLaws.{offsets_count}
@@ -30,8 +30,6 @@ use Rattle.grid_laws.proofs.TermLaws.{which_below, which_stands, number_at_lem}
 use Rattle.grid_laws.proofs.Tests.{neither}
 use Rattle.run_laws.proofs.Looks.{Looked, is_full_lem}
 use Rattle.run_laws.proofs.Ends.{ends_so}
-use Rattle.model.specs.declared.Answer.TheVariants as answer
-use Rattle.model.specs.declared.Verdict.TheVariants as verdict
 use Rattle.grid_laws.proofs.PairPasses.{PairPasses, pair_passes, any_both}
 use Rattle.model.specs.Pairs.{Own, own_of, member, not_union, raw_of, pair_checks}
 use Rattle.model_run.specs.PairLists.{own_loop}
@@ -119,18 +117,18 @@ module _ (t : Trimmed) (some : 0 < t.count) (s : State) (store lent : List ℕ) 
 
 -- ---- a pair's call is the raw chain's
 
-module _ (t : Trimmed) (a b : Own) (e : first_of (pair_checks t a b) ≡ verdict.Accepted) (s : State) (store lent first second : List ℕ) (allowance : ℕ) where
+module _ (t : Trimmed) (a b : Own) (e : first_of (pair_checks t a b) ≡ Ok tt) (s : State) (store lent first second : List ℕ) (allowance : ℕ) where
   pub as_raw : AsRaw t a b s store lent first second allowance
   unfolding run_pair run_trimmed pair_ended
   as_raw = go (judge_pair t a b s store) refl (judged_alike t a b s store e)
     where
       go : (v : Verdict) → judge_pair t a b s store ≡ v → judge_pair t a b s store ≡ judge_run (raw_of t) s store → AsRaw t a b s store lent first second allowance
-      go verdict.Accepted x y = record { answer = rw (← y, x) refl; state = rw (← y, x) refl; words = rw (← y, x) refl }
-      go (verdict.Refused r) x y = record { answer = rw (← y, x) refl; state = rw (← y, x) refl; words = rw (← y, x) refl }
+      go (Ok _) x y = record { answer = rw (← y, x) refl; state = rw (← y, x) refl; words = rw (← y, x) refl }
+      go (Err r) x y = record { answer = rw (← y, x) refl; state = rw (← y, x) refl; words = rw (← y, x) refl }
 
 -- ---- neither kernel alters the other's words
 
-module _ (t : Trimmed) (a b a' b' : Own) (e : first_of (pair_checks t a b) ≡ verdict.Accepted) (e' : first_of (pair_checks t a' b') ≡ verdict.Accepted)
+module _ (t : Trimmed) (a b a' b' : Own) (e : first_of (pair_checks t a b) ≡ Ok tt) (e' : first_of (pair_checks t a' b') ≡ Ok tt)
     (s : State) (store lent first second first' second' : List ℕ) (allowance : ℕ) where
   pub independent : Unfull (pair_run t a b s store lent first second allowance) → Unfull (pair_run t a' b' s store lent first' second' allowance)
       → Independent t a b a' b' s store lent first second first' second' allowance
@@ -139,15 +137,15 @@ module _ (t : Trimmed) (a b a' b' : Own) (e : first_of (pair_checks t a b) ≡ v
     where
       go : (v : Verdict) → judge_run (raw_of t) s store ≡ v → judge_pair t a b s store ≡ judge_run (raw_of t) s store → judge_pair t a' b' s store ≡ judge_run (raw_of t) s store
           → Independent t a b a' b' s store lent first second first' second' allowance
-      go (verdict.Refused r) x y z = record { answers = rw (y, z, x) refl; states = rw (y, z, x) refl; stores = rw (y, z, x) refl; same_first = λ _ o. rw (y, z, x) o; same_second = λ _ o. rw (y, z, x) o }
-      go verdict.Accepted x y z =
+      go (Err r) x y z = record { answers = rw (y, z, x) refl; states = rw (y, z, x) refl; stores = rw (y, z, x) refl; same_first = λ _ o. rw (y, z, x) o; same_second = λ _ o. rw (y, z, x) o }
+      go (Ok _) x y z =
           let some = some_references t.count (pair_passes t a b e).count in
           let k = both_raw t some s store lent allowance (min (room_for a first) (room_for b second)) (min (room_for a' first') (room_for b' second'))
           (λ f. u (pair_ended t a b s store lent first second allowance).standing.done (rw (y, x, f) refl)) (λ f. u' (pair_ended t a' b' s store lent first' second' allowance).standing.done (rw (z, x, f) refl)) in
           let rows : (c c' : Own) (o o' : List ℕ) → c ≡ c' → o ≡ o' → pair_output t a b s store lent first second allowance c o ≡ pair_output t a' b' s store lent first' second' allowance c' o' =
           λ c c' o o' d h. rw (k.done, ← d, ← h) (ap (λ (l : List ℕ). sets o 0 l) (k.rows (own_words t c))) in
           record {
-            answers = rw (y, z, x) (ap₂ (λ (w : Ending) (c : Counts). answer.Ended (outcome_of w c)) (sym k.ending) (sym k.done));
+            answers = rw (y, z, x) (ap₂ (λ (w : Ending) (c : Counts). Ok (outcome_of w c)) (sym k.ending) (sym k.done));
             states = rw (y, z, x) (ap (with_counters s) (sym k.counters));
             stores = rw (y, z, x) (sym k.words);
             same_first = λ d o. rw (y, z, x) (rows a a' first first' d o);
@@ -183,8 +181,8 @@ module _ (t : Trimmed) (some : 0 < t.count) (a : Own) (fits : Fits t a) (s : Sta
   twice_so = go (judge_pair t a a s store) refl
     where
       go : (v : Verdict) → judge_pair t a a s store ≡ v → Twice t a s store lent first second allowance
-      go (verdict.Refused r) x = rw (x, zero-mul (own_width a)) refl
-      go verdict.Accepted x = rw (x, outcome_counts_lem (paired t a a s store lent first second allowance).ending (paired t a a s store lent first second allowance).standing.done) (given_to_lem first (omega arith) ∙ sym (given_to_lem second (omega arith)))
+      go (Err r) x = rw (x, zero-mul (own_width a)) refl
+      go (Ok _) x = rw (x, outcome_counts_lem (paired t a a s store lent first second allowance).ending (paired t a a s store lent first second allowance).standing.done) (given_to_lem first (omega arith) ∙ sym (given_to_lem second (omega arith)))
 
 -- ---- the chain's own kernel and order
 
@@ -282,6 +280,6 @@ pair_demands = record {
   no_part = no_part;
   independent = λ p q d s store lent first second first' second' allowance u u'.
       independent (chain_of_pair p) (first_own p) (second_own p) (first_own q) (second_own q) p.accepted
-      (subst (λ (x : Trimmed). first_of (pair_checks x (first_own q) (second_own q)) ≡ verdict.Accepted) d q.accepted) s store lent first second first' second' allowance u
+      (subst (λ (x : Trimmed). first_of (pair_checks x (first_own q) (second_own q)) ≡ Ok tt) d q.accepted) s store lent first second first' second' allowance u
       (subst (λ (x : Trimmed). Unfull (pair_run x (first_own q) (second_own q) s store lent first' second' allowance)) d u');
 }

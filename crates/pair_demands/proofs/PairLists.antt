@@ -10,13 +10,13 @@ use Rattle.model.specs.Lists.{sum, any}
 use Rattle.model.specs.Sized.{Proper}
 use Rattle.model.specs.Values.{Trimmed, trimmed}
 use Rattle.model.specs.Iterations.{iterations_of, reads_of, position_of, iteration_of, course_of}
-use Rattle.model.specs.Answers.{answer_counts}
+use Rattle.model.specs.Answers.{Answer, answer_counts}
 use Rattle.model.specs.Judging.{judged, judge_chain}
 use Rattle.model_run.specs.Clock.{Layout, first}
 use Rattle.model_run.specs.Running.{layout, with_counters, Standing, Ended, outcome_of, short_store, begun, call, events, Run}
 use Rattle.model_run.specs.CallLists.{Lending, Between, Fresh, lent_cells, call_run, call_events, after, after_all, runs, firings_made, firings_among}
 use Rattle.model_run.specs.Reports.{firings_of}
-use Rattle.model.specs.declared.Answer.{Answer}
+use Rattle.std.specs.Prelude.{Ok, Err}
 use Rattle.model.specs.declared.Counts.{Counts}
 use Rattle.model.specs.declared.State.{State}
 use Rattle.grid_laws.proofs.ListLaws.{tabulate_same}
@@ -30,9 +30,7 @@ use Rattle.run_laws.proofs.Between.{Setting, Reached, now, beginning, only_10, s
 use Rattle.run_laws.proofs.CallEnds.{outcome_counts_lem}
 use Rattle.run_laws.proofs.Words.{fired_after}
 use Rattle.demands.specs.Demand3.{ListOfCalls}
-use Rattle.model.specs.declared.Answer.TheVariants as answer
 use Rattle.model.specs.declared.Refusal.TheVariants as refusal
-use Rattle.model.specs.declared.Verdict.TheVariants as verdict
 use Rattle.run_laws.proofs.Calls as calls
 use Rattle.grid_laws.proofs.PairPasses.{PairPasses, pair_passes, raw_checks, raw_trimmed}
 use Rattle.model.specs.Pairs.{Own, member, raw_of, raw_chain}
@@ -60,7 +58,7 @@ module _ (p : Pair) (stream : ℕ → ℕ) where
   pub raw_proper : Proper (raw_of t)
   raw_proper = subst Proper (raw_trimmed p.chain p.rows) (trimmed_proper (raw_chain p.chain) p.rows)
 
-  pub raw_judged : judged (raw_of t) ≡ verdict.Accepted
+  pub raw_judged : judged (raw_of t) ≡ Ok tt
   unfolding judged
   raw_judged = raw_checks t (first_own p) (second_own p) passed
 
@@ -173,11 +171,11 @@ module _ (p : Pair) (stream : ℕ → ℕ) where
           ∙ own_words_lem c output fits r enough end.standing.done.clocks among right
           ∙ ap (λ (y : Standing). own_loops t c stream (now S x).fired y.done.firings) own
 
-      judged_10 : judge_pair t (first_own p) (second_own p) x.state front ≡ cond (short_store (raw_of t) front) (verdict.Refused refusal.ShortStore) verdict.Accepted
+      judged_10 : judge_pair t (first_own p) (second_own p) x.state front ≡ cond (short_store (raw_of t) front) (Err refusal.ShortStore) (Ok tt)
       judged_10 = judged_alike t (first_own p) (second_own p) x.state front p.accepted ∙ only_10 S r front
 
       one_is : short_store (raw_of t) front ≡ false → one ≡ record {
-        answer = answer.Ended (outcome_of end.ending end.standing.done);
+        answer = Ok (outcome_of end.ending end.standing.done);
         state = with_counters x.state end.standing.counters;
         store = end.standing.store;
         first = output_of (first_own p) l.first;
@@ -192,14 +190,14 @@ module _ (p : Pair) (stream : ℕ → ℕ) where
 
       made_none : short_store (raw_of t) front ≡ true → made ≡ 0
       unfolding answer_counts pair_call run_pair
-      made_none y = ap (λ (q : Answer). (answer_counts q).firings) (let z : one.answer ≡ answer.Refused refusal.ShortStore = rw (judged_10, y) refl in z)
+      made_none y = ap (λ (q : Answer). (answer_counts q).firings) (let z : one.answer ≡ Err refusal.ShortStore = rw (judged_10, y) refl in z)
 
       -- and where it does.
       pub to_first : take (made * own_width (first_own p)) one.first ≡ own_loops t (first_own p) stream (now S x).fired made
       unfolding own_loops
       to_first = go (short_store (raw_of t) front) refl judged_10
         where
-          go : (y : Bool) → short_store (raw_of t) front ≡ y → judge_pair t (first_own p) (second_own p) x.state front ≡ cond (short_store (raw_of t) front) (verdict.Refused refusal.ShortStore) verdict.Accepted
+          go : (y : Bool) → short_store (raw_of t) front ≡ y → judge_pair t (first_own p) (second_own p) x.state front ≡ cond (short_store (raw_of t) front) (Err refusal.ShortStore) (Ok tt)
               → take (made * own_width (first_own p)) one.first ≡ own_loops t (first_own p) stream (now S x).fired made
           go true y j = ap (λ (k : ℕ). take (k * own_width (first_own p)) one.first) (made_none y) ∙ ap (λ (k : ℕ). take k one.first) (zero-mul (own_width (first_own p))) ∙ ap (own_loops t (first_own p) stream (now S x).fired) (sym (made_none y))
           go false y j =
@@ -215,7 +213,7 @@ module _ (p : Pair) (stream : ℕ → ℕ) where
       unfolding own_loops
       to_second = go (short_store (raw_of t) front) refl judged_10
         where
-          go : (y : Bool) → short_store (raw_of t) front ≡ y → judge_pair t (first_own p) (second_own p) x.state front ≡ cond (short_store (raw_of t) front) (verdict.Refused refusal.ShortStore) verdict.Accepted
+          go : (y : Bool) → short_store (raw_of t) front ≡ y → judge_pair t (first_own p) (second_own p) x.state front ≡ cond (short_store (raw_of t) front) (Err refusal.ShortStore) (Ok tt)
               → take (made * own_width (second_own p)) one.second ≡ own_loops t (second_own p) stream (now S x).fired made
           go true y j = ap (λ (k : ℕ). take (k * own_width (second_own p)) one.second) (made_none y) ∙ ap (λ (k : ℕ). take k one.second) (zero-mul (own_width (second_own p))) ∙ ap (own_loops t (second_own p) stream (now S x).fired) (sym (made_none y))
           go false y j =
@@ -278,7 +276,7 @@ pair_lists q =
     let r : ListOfCalls = record {
       chain = raw_chain p.chain;
       rows = p.rows;
-      accepted = subst (λ (z : Trimmed). judged z ≡ verdict.Accepted) (sym same) (raw_judged p q.stream);
+      accepted = subst (λ (z : Trimmed). judged z ≡ Ok tt) (sym same) (raw_judged p q.stream);
       stream = q.stream;
       start = q.start;
       fresh = subst (λ (z : Trimmed). Fresh z q.start) (sym same) st;

@@ -3,14 +3,14 @@ use Prim.Native.Nat.{ℕ, ◌-◌}
 use native.Mathlib.Omega.{arith}
 use mathlib.Core.Bool.{Bool, false, not, ◌||◌}
 use mathlib.Core.List.{List, ◌++◌}
-use mathlib.Core.Path.{◌≡◌, refl, ap, ap₂, fun_ext}
+use mathlib.Core.Path.{sym, ◌≡◌, refl, ap, ap₂, fun_ext}
 use lib.IntN.{ℤ}
 use lib.ListN.{length}
 use Rattle.model.specs.Lists.{any, up_to}
 use Rattle.model.specs.Vectors.{equal}
 use Rattle.model.specs.Grounds.{dims}
 use Rattle.model.specs.Values.{Trimmed, trimmed, dims_of, ground_of, offsets_of, chain_of}
-use Rattle.model.specs.Answers.{first_of}
+use Rattle.model.specs.Answers.{Verdict, first_of}
 use Rattle.model.specs.Judging.{bad_count, judged}
 use Rattle.model.specs.Iterations.{distance_of, distance_in, reads_of, position_of, iteration_of, course_of}
 use Rattle.model.specs.Steps.{falling, sorted, distances}
@@ -19,26 +19,25 @@ use Rattle.grid_laws.specs.Right.{Planned}
 use Rattle.model.specs.declared.Bounds.{Bounds}
 use Rattle.model.specs.declared.Grid.{Grid}
 use Rattle.model.specs.declared.Request.{Request}
-use Rattle.model.specs.declared.Verdict.{Verdict}
+use Rattle.std.specs.Prelude.{Ok, Err}
 use Rattle.grid_laws.proofs.ListLaws.{length_tabulate, get_d_tabulate}
 use Rattle.grid_laws.proofs.ChainLaws.{trimmed_chain, ground_again, ground_dims}
 use Rattle.grid_laws.proofs.CheckLaws.{WindowPasses, value_passes, few_dims}
 use Rattle.grid_laws.proofs.SortLaws.{any_falling, length_falling, falling_falls}
 use Rattle.run_laws.proofs.Accepts.{accepted}
 use Rattle.run_laws.proofs.Plans.{sorted_proper, no_repeats, request_proper, planned_judged}
-use Rattle.model.specs.declared.Verdict.TheVariants as verdict
 use Rattle.grid_laws.proofs.PairPasses.{pair_passes, raw_checks}
 use Rattle.model.specs.Pairs.{Own, own_of, member, union, not_union, raw_of, pair_checks, union_request, planned_union, plan_pair_of}
 use Rattle.pair_demands.specs.PairPlans.{PlannedPair, PairPlans}
 
-module _ (g : Grid) (rows : List ℕ) (bounds : Bounds) (a b : Own) (e : first_of (pair_checks (trimmed_request (union_request g bounds a b) rows) a b) ≡ verdict.Accepted) where
+module _ (g : Grid) (rows : List ℕ) (bounds : Bounds) (a b : Own) (e : first_of (pair_checks (trimmed_request (union_request g bounds a b) rows) a b) ≡ Ok tt) where
   abbrev r : Request
   r = union_request g bounds a b
 
   abbrev u : Trimmed
   u = trimmed_request r rows
 
-  request_judged : judge_request r rows ≡ verdict.Accepted
+  request_judged : judge_request r rows ≡ Ok tt
   unfolding judge_request judged trimmed_request union_request raw_of
   request_judged = raw_checks u a b (pair_passes u a b e)
 
@@ -75,7 +74,7 @@ module _ (g : Grid) (rows : List ℕ) (bounds : Bounds) (a b : Own) (e : first_o
   counted = (pair_passes u a b e).count
 
   -- No number turns the planned chain back.
-  planned_accepted : first_of (pair_checks (planned_union r rows) a b) ≡ verdict.Accepted
+  planned_accepted : first_of (pair_checks (planned_union r rows) a b) ≡ Ok tt
   unfolding pair_checks planned_union sorted any first_of
   planned_accepted =
       let p = pair_passes u a b e in
@@ -84,7 +83,7 @@ module _ (g : Grid) (rows : List ℕ) (bounds : Bounds) (a b : Own) (e : first_o
 
 pub pair_plans : PairPlans
 unfolding plan_pair_of
-pair_plans g rows bounds x y e = go (first_of (pair_checks (trimmed_request (union_request g bounds a b) rows) a b)) refl e
+pair_plans g rows bounds x y c e = go (first_of (pair_checks (trimmed_request (union_request g bounds a b) rows) a b)) refl e
   where
     a : Own
     a = own_of (dims_of g) x
@@ -92,8 +91,9 @@ pair_plans g rows bounds x y e = go (first_of (pair_checks (trimmed_request (uni
     b : Own
     b = own_of (dims_of g) y
 
-    go : (v : Verdict) → first_of (pair_checks (trimmed_request (union_request g bounds a b) rows) a b) ≡ v → (plan_pair_of g rows bounds x y).verdict ≡ verdict.Accepted → PlannedPair g rows bounds x y
-    go verdict.Accepted h k =
-        let is = planned_is g rows bounds a b h in
-        record { lists = rw h is; planned = rw (h, is) (planned_too g rows bounds a b h); accepted = rw (h, is) (planned_accepted g rows bounds a b h) }
-    go (verdict.Refused z) h k = absurd (let d = rw h at k in let q : ◌≡◌ {A = ℕ} 0 1 = cc in omega arith)
+    go : (v : Verdict) → first_of (pair_checks (trimmed_request (union_request g bounds a b) rows) a b) ≡ v → plan_pair_of g rows bounds x y ≡ Ok c → PlannedPair g rows bounds x y c
+    go (Ok _) h k =
+        let made : c ≡ chain_of (planned_union (union_request g bounds a b) rows) = cc (rw h at k) in
+        let is = rw (sym made) at (planned_is g rows bounds a b h) in
+        record { lists = is; planned = rw is (planned_too g rows bounds a b h); accepted = rw is (planned_accepted g rows bounds a b h) }
+    go (Err z) h k = absurd (let d = rw h at k in let q : ◌≡◌ {A = ℕ} 0 1 = cc in omega arith)

@@ -1,5 +1,5 @@
 -- What is promised of a run call of two kernels on one chain (document 02, request 6).
-use Rattle.std.specs.Prelude.{ℕ, ◌+◌, ◌*◌, ◌≤◌, ◌<◌, min, true, List, ◌⊎◌, ◌≡◌, length, take, replicate}
+use Rattle.std.specs.Prelude.{ℕ, ◌+◌, ◌*◌, ◌≤◌, ◌<◌, min, true, List, ◌⊎◌, ◌≡◌, length, take, replicate, Ok}
 use Rattle.model.specs.Lists.{tabulate}
 use Rattle.model.specs.Values.{Trimmed, trimmed, dims_of}
 use Rattle.model.specs.Iterations.{reads_of}
@@ -13,9 +13,7 @@ use Rattle.model.specs.declared.State.{State}
 use Rattle.model.specs.declared.Side.{Side}
 use Rattle.model.specs.declared.Outcome.TheVariants as outcome
 use Rattle.model.specs.declared.Counts.{Counts}
-use Rattle.model.specs.declared.Answer.TheVariants as answer
 use Rattle.model.specs.declared.Chain.{Chain}
-use Rattle.model.specs.declared.Verdict.TheVariants as verdict
 
 -- A chain, its rows, and two windows that 3 to 9 and 14 to 16 let pass.
 pub record Pair : Type 0 where
@@ -25,7 +23,7 @@ pub record Pair : Type 0 where
   pub second : Side
   pub accepted :
       first_of (pair_checks (trimmed chain rows) (own_of (dims_of chain.grid) first) (own_of (dims_of chain.grid) second))
-      ≡ verdict.Accepted
+      ≡ Ok tt
 
 -- What of them plays a part.
 module _ (p : Pair) where
@@ -89,7 +87,7 @@ module _ (t : Trimmed) (a b : Own) (s : State) (store lent first second : List �
 
 -- A call that does not end Full.
 abbrev pub Unfull : PairRun → Type 0
-Unfull r = (c : Counts) → r.answer ≡ answer.Ended (outcome.Full c) → ⊥
+Unfull r = (c : Counts) → r.answer ≡ Ok (outcome.Full c) → ⊥
 
 -- "While both outputs have places and both kernels are accepted, neither kernel's kind or factors alters a word of the other's
 -- output, nor the clocks, cells or outcome": of two pairs on one chain, whatever their kernels and outputs are, the answers,

@@ -13,7 +13,7 @@ use Rattle.model.specs.Grounds.{Ground}
 use Rattle.model.specs.Grounds.Ground.{rectangle, skewed}
 use Rattle.model.specs.Boxes.{bad_box}
 use Rattle.model.specs.Values.{Trimmed, trimmed, trimmed_of, dims_of, offsets_of, capacities_of, order_of}
-use Rattle.model.specs.Answers.{Check, check, first_of}
+use Rattle.model.specs.Answers.{Verdict, Check, check, first_of}
 use Rattle.model.specs.Judging.{bad_ground, ground_refusal, bad_count, repeats, no_iteration, centred, lacks_centre, needs_centre, bad_factor, too_large, twice, bad_order, window_checks, kernel_checks, chain_checks, value_checks, judged, judge_chain}
 use Rattle.model.specs.Pairs.{Own, own_of, union, not_union, pair_checks, raw_chain}
 use Rattle.model.specs.declared.Bounds.{Bounds}
@@ -23,8 +23,7 @@ use Rattle.model.specs.declared.Kernel.TheVariants as kernel
 use Rattle.model.specs.declared.Refusal.{Refusal}
 use Rattle.model.specs.declared.Refusal.TheVariants as refusal
 use Rattle.model.specs.declared.Side.{Side}
-use Rattle.model.specs.declared.Verdict.{Verdict}
-use Rattle.model.specs.declared.Verdict.TheVariants as verdict
+use Rattle.std.specs.Prelude.{Ok, Err}
 use Rattle.model.specs.declared.Window.{Window}
 use Rattle.grid_laws.proofs.Tests.{neither}
 use Rattle.grid_laws.proofs.CheckLaws.{few_dims, few_references}
@@ -35,56 +34,26 @@ use Rattle.pair_windows.specs.Unions.{union_in}
 use Rattle.pair_windows.proofs.UnionLaws.{union_is, not_union_is}
 use Rattle.pair_judging.specs.Verdicts.{place_in, place_of, earlier_of, side_checks}
 
--- ---- tests one behind the other
-
-pub or_first : (a b : Bool) → a ≡ true → true ≡ a || b
-or_first a b e = rw e
-
-pub or_second : (a b r : Bool) → a ≡ false → r ≡ b → r ≡ a || b
-or_second a b r e d = rw e d
-
--- ---- checks one behind the other
-
-module _ (b : Bool) (x : Refusal) (cs : List Check) where
-  pub stops : b ≡ true → verdict.Refused x ≡ first_of (check b x ∷ cs)
-  unfolding first_of
-  stops e = rw e
-
-  pub goes_on_lem : (v : Verdict) → b ≡ false → v ≡ first_of cs → v ≡ first_of (check b x ∷ cs)
-  unfolding first_of
-  goes_on_lem v e d = rw e d
-
-pub no_more : verdict.Accepted ≡ first_of []
-unfolding first_of
-no_more = refl
-
 -- ---- two lists of checks in one order
-
-module _ (v w : Verdict) (p q : ℕ) (e : p ≡ place_of v) (d : q ≡ place_of w) where
-  pub second_earlier : q < p → w ≡ earlier_of v w
-  second_earlier h = rw (lt-ltb (place_of w) (place_of v) (omega arith))
-
-  pub first_earlier : p ≤ q → v ≡ earlier_of v w
-  first_earlier h = rw (le-ltb (place_of w) (place_of v) (omega arith))
 
 -- A check of the first list, of the second, and of both, where neither list answers an earlier one behind it.
 module _ (x : Refusal) where
-  first_only : (b : Bool) (v w : Verdict) → place_in x ≤ place_of w → earlier_of (cond b (verdict.Refused x) v) w ≡ cond b (verdict.Refused x) (earlier_of v w)
+  first_only : (b : Bool) (v w : Verdict) → place_in x ≤ place_of w → earlier_of (cond b (Err x) v) w ≡ cond b (Err x) (earlier_of v w)
   first_only true v w h = rw (le-ltb (place_of w) (place_in x) h)
   first_only false v w h = refl
 
-  second_only : (b : Bool) (v w : Verdict) → place_in x < place_of v → earlier_of v (cond b (verdict.Refused x) w) ≡ cond b (verdict.Refused x) (earlier_of v w)
+  second_only : (b : Bool) (v w : Verdict) → place_in x < place_of v → earlier_of v (cond b (Err x) w) ≡ cond b (Err x) (earlier_of v w)
   second_only true v w h = rw (lt-ltb (place_in x) (place_of v) h)
   second_only false v w h = refl
 
   in_both : (b d : Bool) (v w : Verdict) → place_in x < place_of v → place_in x < place_of w
-      → earlier_of (cond b (verdict.Refused x) v) (cond d (verdict.Refused x) w) ≡ cond (b || d) (verdict.Refused x) (earlier_of v w)
+      → earlier_of (cond b (Err x) v) (cond d (Err x) w) ≡ cond (b || d) (Err x) (earlier_of v w)
   in_both true true v w h k = rw (le-ltb (place_in x) (place_in x) (omega arith))
   in_both true false v w h k = first_only true v w (omega arith)
   in_both false d v w h k = second_only d v w h
 
   -- What is answered is answered no earlier.
-  behind : (p : ℕ) (b : Bool) (v : Verdict) → p < place_in x → p < place_of v → p < place_of (cond b (verdict.Refused x) v)
+  behind : (p : ℕ) (b : Bool) (v : Verdict) → p < place_in x → p < place_of v → p < place_of (cond b (Err x) v)
   behind p true v h k = h
   behind p false v h k = k
 
@@ -99,10 +68,10 @@ added n e c f o =
 
 module _ (n e i b l n' e' c f o : Bool) where
   abbrev refusing : Bool → Refusal → Verdict → Verdict
-  refusing t x v = cond t (verdict.Refused x) v
+  refusing t x v = cond t (Err x) v
 
   abbrev v9 : Verdict
-  v9 = refusing l refusal.TooLarge verdict.Accepted
+  v9 = refusing l refusal.TooLarge (Ok tt)
 
   abbrev v15 : Verdict
   v15 = refusing b refusal.BadBox v9
@@ -114,7 +83,7 @@ module _ (n e i b l n' e' c f o : Bool) where
   v5 = refusing e refusal.EqualOffsets v6
 
   abbrev w14 : Verdict
-  w14 = refusing o refusal.BadOrder verdict.Accepted
+  w14 = refusing o refusal.BadOrder (Ok tt)
 
   abbrev w8 : Verdict
   w8 = refusing f refusal.BadFactor w14
@@ -126,13 +95,13 @@ module _ (n e i b l n' e' c f o : Bool) where
   w5 = refusing e' refusal.EqualOffsets w7
 
   from_9 : (p : ℕ) → p < 7 → p < place_of v9
-  from_9 p h = behind refusal.TooLarge p l verdict.Accepted h (omega arith)
+  from_9 p h = behind refusal.TooLarge p l (Ok tt) h (omega arith)
 
   from_6 : (p : ℕ) → p < 3 → p < place_of v6
   from_6 p h = behind refusal.NoIteration p i v15 h (behind refusal.BadBox p b v9 (omega arith) (from_9 p (omega arith)))
 
   from_14 : (p : ℕ) → p < 8 → p < place_of w14
-  from_14 p h = behind refusal.BadOrder p o verdict.Accepted h (omega arith)
+  from_14 p h = behind refusal.BadOrder p o (Ok tt) h (omega arith)
 
   from_7 : (p : ℕ) → p < 5 → p < place_of w7
   from_7 p h = behind refusal.NoCentre p c w8 h (behind refusal.BadFactor p f w14 (omega arith) (from_14 p (omega arith)))
@@ -160,8 +129,8 @@ module _ (n e i b l n' e' c f o : Bool) where
       ∙ ap (refusing c refusal.NoCentre)
       (second_only refusal.BadFactor f v9 w14 (from_9 6 (omega arith))
       ∙ ap (refusing f refusal.BadFactor)
-      (first_only refusal.TooLarge l verdict.Accepted w14 (omega (arith, from_14 7 (omega arith)))
-      ∙ ap (refusing l refusal.TooLarge) (second_only refusal.BadOrder o verdict.Accepted verdict.Accepted (omega arith))))))))
+      (first_only refusal.TooLarge l (Ok tt) w14 (omega (arith, from_14 7 (omega arith)))
+      ∙ ap (refusing l refusal.TooLarge) (second_only refusal.BadOrder o (Ok tt) (Ok tt) (omega arith))))))))
 
 -- ---- what the code looks at
 
@@ -221,7 +190,7 @@ ground_first (rectangle sizes) = refl
 ground_first (skewed rs) = refl
 
 -- What is turned back by 3, or by 16 in its place, is turned back first.
-turned : (x : Refusal) (w : Verdict) → place_in x ≡ 0 → earlier_of (verdict.Refused x) w ≡ verdict.Refused x
+turned : (x : Refusal) (w : Verdict) → place_in x ≡ 0 → earlier_of (Err x) w ≡ Err x
 turned x w e = rw (e, leb-suc-zero)
 
 module _ (g : Grid) (rows : List ℕ) (c : Window) (bounds : Bounds) (capacities : List ℕ) (x y : Side) where
@@ -233,7 +202,7 @@ module _ (g : Grid) (rows : List ℕ) (c : Window) (bounds : Bounds) (capacities
   bad = bad_ground raw.dims raw.the_ground
 
   abbrev refused : Verdict
-  refused = verdict.Refused (ground_refusal raw.the_ground)
+  refused = Err (ground_refusal raw.the_ground)
 
   -- What is looked at behind its grid.
   abbrev rest : Verdict

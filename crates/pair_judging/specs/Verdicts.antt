@@ -1,13 +1,11 @@
 -- The verdict on a raw chain, the verdict on two windows and their kernels, and which of the two comes first.
-use Rattle.std.specs.Prelude.{ℕ, cond, ◌||◌, List, [], ◌∷◌, ltb, length}
+use Rattle.std.specs.Prelude.{ℕ, cond, ◌||◌, List, [], ◌∷◌, ltb, length, Ok, Err}
 use Rattle.model.specs.Lists.{any}
-use Rattle.model.specs.Answers.{Check, check}
+use Rattle.model.specs.Answers.{Verdict, Check, check}
 use Rattle.model.specs.Judging.{bad_count, lacks_centre, bad_factor}
 use Rattle.model.specs.declared.Refusal.{Refusal}
 use Rattle.model.specs.declared.Refusal.TheVariants as refusal
 use Rattle.model.specs.declared.Side.{Side}
-use Rattle.model.specs.declared.Verdict.{Verdict}
-use Rattle.model.specs.declared.Verdict.TheVariants as verdict
 use Rattle.model.specs.declared.Window.{Window}
 use Rattle.windows.specs.Windows.{repeats_in, has_centre}
 use Rattle.pair_windows.specs.Unions.{union_in, not_union_in}
@@ -32,8 +30,8 @@ place_in refusal.BadBox = 4
 place_in refusal.BadRows = 0
 
 abbrev pub place_of : Verdict → ℕ
-place_of verdict.Accepted = 9
-place_of (verdict.Refused x) = place_in x
+place_of (Ok _) = 9
+place_of (Err x) = place_in x
 
 -- The verdict that comes first; of two at one place the first of them.
 abbrev pub earlier_of : (v w : Verdict) → Verdict

@@ -14,7 +14,7 @@ ghost use Rattle.pair_windows.specs.Unions.{union_in};
 ghost use Rattle.pair_judging.specs.Verdicts.{place_in, place_of, earlier_of, side_checks};
 
 use limits::bad_count;
-use model::{Chain, Kernel, Order, Refusal, Side, Verdict, Window};
+use model::{Chain, Kernel, Order, Refusal, Side, Window};
 
 // Where a number stands in the order of a value's checks; behind all where it is none of these.
 fn place(x: Refusal) -> u8
@@ -41,62 +41,48 @@ fn place(x: Refusal) -> u8
 }
 
 // Where judging stopped; behind all where it let pass.
-fn place_of(v: Verdict) -> u8
+fn place_of(v: Result<(), Refusal>) -> u8
     ensures { result ≡ place_of v }
 {
     match v {
-        Verdict::Accepted => 9,
-        Verdict::Refused(x) => place(x),
+        Ok(()) => 9,
+        Err(x) => place(x),
     }
 }
 
 // The verdict that comes first in the order of the checks.
-pub fn earlier(v: Verdict, w: Verdict) -> Verdict
+pub fn earlier(v: Result<(), Refusal>, w: Result<(), Refusal>) -> Result<(), Refusal>
     ensures { result ≡ earlier_of v w }
 {
-    if place_of(w) < place_of(v) {
-        return w;
-    }
-    v
+    if place_of(w) < place_of(v) { w } else { v }
 }
 
 // 4 of a chain's count, of each window and of the union.
+#[tactic(auto, unfolding(model::specs::Lists::any))]
 fn bad_counts(dims: u8, count: u8, first: Window, second: Window) -> bool
     ensures { result
         ≡ any bad_count (count ∷ first.count ∷ second.count ∷ length (union_in dims first second) ∷ []) }
 {
-    if bad_count(count) {
-        return true;
-    }
-    if bad_count(first.count) {
-        return true;
-    }
-    if bad_count(second.count) {
-        return true;
-    }
-    bad_count(pair_windows::union_count(dims, first, second))
+    bad_count(count)
+        || bad_count(first.count)
+        || bad_count(second.count)
+        || bad_count(pair_windows::union_count(dims, first, second))
 }
 
 // 5 of each window.
+#[tactic(auto, unfolding(model::specs::Lists::any))]
 fn repeat(dims: u8, first: Window, second: Window) -> bool
     ensures { result ≡ any (repeats_in dims) (first ∷ second ∷ []) }
 {
-    if windows::repeats(dims, first) {
-        return true;
-    }
-    windows::repeats(dims, second)
+    windows::repeats(dims, first) || windows::repeats(dims, second)
 }
 
 // 7 of a window.
+#[tactic(auto, unfolding(model::specs::Judging::lacks_centre))]
 fn lacks_centre(dims: u8, side: Side) -> bool
     ensures { result ≡ lacks_centre side.kernel (has_centre dims side.window) }
 {
-    let kernel = side.kernel;
-    let window = side.window;
-    if kernel_checks::needs_centre(kernel) {
-        return !windows::has_centre(dims, window);
-    }
-    false
+    kernel_checks::needs_centre(side.kernel) && !windows::has_centre(dims, side.window)
 }
 
 // 7 of each window.
@@ -105,46 +91,39 @@ fn lack_centre(dims: u8, first: Side, second: Side) -> bool
         ≡ lacks_centre first.kernel (has_centre dims first.window)
         || lacks_centre second.kernel (has_centre dims second.window) }
 {
-    if lacks_centre(dims, first) {
-        return true;
-    }
-    lacks_centre(dims, second)
+    lacks_centre(dims, first) || lacks_centre(dims, second)
 }
 
 // 8 of each kernel.
 fn bad_factors(first: Kernel, second: Kernel) -> bool
     ensures { result ≡ bad_factor first || bad_factor second }
 {
-    if kernel_checks::bad_factor(first) {
-        return true;
-    }
-    kernel_checks::bad_factor(second)
+    kernel_checks::bad_factor(first) || kernel_checks::bad_factor(second)
 }
 
 // The first of 4, 5, 7, 8 and 14 that turns two windows and their kernels back, on a chain with this window.
-pub fn judge_sides(dims: u8, chain: Window, first: Side, second: Side) -> Verdict
+#[tactic(auto, unfolding(crate::specs::Verdicts::side_checks, model::specs::Answers::first_of))]
+pub fn judge_sides(dims: u8, chain: Window, first: Side, second: Side) -> Result<(), Refusal>
     ensures { result ≡ first_of (side_checks dims chain first second) }
 {
     let one = first.window;
     let two = second.window;
     if bad_counts(dims, chain.count, one, two) {
-        return Verdict::Refused(Refusal::BadCount);
+        return Err(Refusal::BadCount);
     }
     if repeat(dims, one, two) {
-        return Verdict::Refused(Refusal::EqualOffsets);
+        return Err(Refusal::EqualOffsets);
     }
     if lack_centre(dims, first, second) {
-        return Verdict::Refused(Refusal::NoCentre);
+        return Err(Refusal::NoCentre);
     }
-    let kernel = first.kernel;
-    let other = second.kernel;
-    if bad_factors(kernel, other) {
-        return Verdict::Refused(Refusal::BadFactor);
+    if bad_factors(first.kernel, second.kernel) {
+        return Err(Refusal::BadFactor);
     }
     if pair_windows::not_union(dims, chain, one, two) {
-        return Verdict::Refused(Refusal::BadOrder);
+        return Err(Refusal::BadOrder);
     }
-    Verdict::Accepted
+    Ok(())
 }
 
 // The chain without its own kernel and order: raw.
@@ -155,21 +134,17 @@ pub fn raw_of(chain: Chain) -> Chain
         stood: false,
         filters: [0u8; 32],
     };
-    let plain = values::set_order(chain, order);
-    values::set_kernel(plain, Kernel::Raw)
+    values::set_kernel(values::set_order(chain, order), Kernel::Raw)
 }
 
 // The first number that turns a chain with two windows and their kernels back.
-pub fn judge_pair(chain: Chain, rows: &[u32], first: Side, second: Side) -> Verdict
+pub fn judge_pair(chain: Chain, rows: &[u32], first: Side, second: Side) -> Result<(), Refusal>
     ensures { result
         ≡ first_of
         (pair_checks (trimmed chain rows.now) (own_of (dims_of chain.grid) first)
         (own_of (dims_of chain.grid) second)) }
 {
-    let grid = chain.grid;
-    let window = chain.window;
-    let raw = raw_of(chain);
-    let found = judging::judge_chain(raw, rows);
-    let added = judge_sides(values::dims_of(grid), window, first, second);
+    let found = judging::judge_chain(raw_of(chain), rows);
+    let added = judge_sides(values::dims_of(chain.grid), chain.window, first, second);
     earlier(found, added)
 }

@@ -14,7 +14,7 @@ use Rattle.model_run.specs.Kernels.{width}
 use Rattle.model.specs.Judging.{value_checks, bad_count, repeats}
 use Rattle.model_run.specs.Running.{short_store, judge_run}
 use Rattle.model.specs.declared.State.{State}
-use Rattle.model.specs.declared.Verdict.TheVariants as verdict
+use Rattle.std.specs.Prelude.{Ok}
 use Rattle.grid_laws.proofs.CheckLaws.{some_references, both_pass}
 use Rattle.grid_laws.proofs.OrderLaws.{equal_is, equal_itself}
 use Rattle.grid_laws.proofs.Tests.{neither}
@@ -27,7 +27,7 @@ use Rattle.model.specs.Pairs.{Own, member, not_union, pair_checks, raw_of}
 use Rattle.model_run.specs.PairRuns.{in_chain_order, judge_pair, kept, own_gives, own_width, own_words}
 use Rattle.pair_laws.proofs.RawLaws.{Fits, raw_layout}
 
-pub raw_judged : (t : Trimmed) (a b : Own) (s : State) (store : List ℕ) → judge_pair t a b s store ≡ verdict.Accepted → judge_run (raw_of t) s store ≡ verdict.Accepted
+pub raw_judged : (t : Trimmed) (a b : Own) (s : State) (store : List ℕ) → judge_pair t a b s store ≡ Ok tt → judge_run (raw_of t) s store ≡ Ok tt
 unfolding judge_pair judge_run short_store raw_of
 raw_judged t a b s store e =
     let both = both_pass (pair_checks t a b) _ e in
@@ -117,7 +117,7 @@ module _ (t : Trimmed) (a b : Own) (ea : length a.offsets ≡ a.count) (eb : len
   second_fits = side_fits t b eb p.second_count p.second_distinct p.distinct (any_both _ a.offsets b.offsets (neither _ _ p.is_union).0).1
 
 -- A pair is judged with a state and a store as the raw chain is.
-pub judged_alike : (t : Trimmed) (a b : Own) (s : State) (store : List ℕ) → first_of (pair_checks t a b) ≡ verdict.Accepted → judge_pair t a b s store ≡ judge_run (raw_of t) s store
+pub judged_alike : (t : Trimmed) (a b : Own) (s : State) (store : List ℕ) → first_of (pair_checks t a b) ≡ Ok tt → judge_pair t a b s store ≡ judge_run (raw_of t) s store
 unfolding judge_pair judge_run short_store raw_of
 judged_alike t a b s store e =
     first_append (pair_checks t a b) _ e ∙ sym (first_append (value_checks (raw_of t)) _ (raw_checks t a b (pair_passes t a b e)) ∙ rw (raw_layout t) refl)

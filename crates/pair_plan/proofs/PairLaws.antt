@@ -1,6 +1,6 @@
 -- Planning for two kernels: where a count is turned back, whatever window is planned; elsewhere the window is the union.
 use Prim.Native.Nat.{ℕ, ◌≤◌, ◌<◌, min}
-use mathlib.Core.Bool.{Bool, true, false, or-true}
+use mathlib.Core.Bool.{Bool, true, false, or-true, true≢false}
 use mathlib.Core.List.{List, [], ◌∷◌}
 use mathlib.Core.Path.{◌≡◌, refl, sym, ◌∙◌, ap, ap₂}
 use native.Mathlib.Decide.{dec_lt}
@@ -11,7 +11,7 @@ use lib.Seq.{ext_get_or}
 use borrow.Author.Tests.{le-leb}
 use Rattle.model.specs.Lists.{tabulate, up_to, any}
 use Rattle.model.specs.Values.{Trimmed, dims_of, ground_of, window_of, filter_array, chain_of, set_order}
-use Rattle.model.specs.Answers.{first_of, by_verdict}
+use Rattle.model.specs.Answers.{Verdict, first_of, verdict_of}
 use Rattle.model.specs.Judging.{bad_ground, bad_count, judged}
 use Rattle.model.specs.Steps.{sorted}
 use Rattle.model.specs.Planning.{trimmed_request, judge_request, planned_chain, plan_of}
@@ -21,20 +21,18 @@ use Rattle.model.specs.declared.Chain.{Chain}
 use Rattle.model.specs.declared.Grid.{Grid}
 use Rattle.model.specs.declared.Kernel.TheVariants as kernel
 use Rattle.model.specs.declared.Order.{Order}
-use Rattle.model.specs.declared.Planned.{Planned}
 use Rattle.model.specs.declared.Refusal.{Refusal}
 use Rattle.model.specs.declared.Request.{Request}
 use Rattle.model.specs.declared.Side.{Side}
-use Rattle.model.specs.declared.Verdict.{Verdict}
-use Rattle.model.specs.declared.Verdict.TheVariants as verdict
+use Rattle.std.specs.Prelude.{Result, Ok, Err, is_ok, MatchResult}
 use Rattle.model.specs.declared.Window.{Window}
 use Rattle.grid_laws.proofs.Tests.{neither, both_false}
 use Rattle.grid_laws.proofs.ListLaws.{length_tabulate, get_d_tabulate}
 use Rattle.grid_laws.proofs.ChainLaws.{ground_dims}
 use Rattle.grid_laws.proofs.CheckLaws.{few_dims, few_references}
+use Rattle.grid_laws.proofs.StepLaws.{plan_verdict_lem, plan_taken}
 use Rattle.grid_laws.proofs.PairPasses.{PairPasses, pair_passes, raw_checks}
 use Rattle.geometry.specs.Parts.{Filled}
-use Rattle.planner.specs.Plans.{refused_plan}
 use Rattle.pair_windows.specs.Unions.{union_in, union_window}
 use Rattle.pair_windows.proofs.UnionLaws.{union_is}
 use Rattle.pair_judging.specs.Verdicts.{earlier_of, side_checks}
@@ -59,14 +57,11 @@ rising_so n m filters e f = ap (λ (xs : List ℕ). let o : Order = record { sto
 
 -- ---- the plan
 
--- A plan answers what judging its request does.
-plan_verdict_lem : (r : Request) (rows : List ℕ) → (plan_of r rows).verdict ≡ judge_request r rows
-unfolding plan_of
-plan_verdict_lem r rows = go (judge_request r rows)
-  where
-    go : (v : Verdict) → (let p : Planned = by_verdict v (record { verdict = verdict.Accepted; chain = planned_chain r rows }) refused_plan in p.verdict) ≡ v
-    go verdict.Accepted = refl
-    go (verdict.Refused x) = refl
+-- What is left of a plan without its chain: its verdict.
+pub verdict_is : (p : Result Chain Refusal) (v : Verdict) (P : Chain → Type 0) → is_ok v ≡ is_ok p → MatchResult p P (λ x. v ≡ Err x) → v ≡ verdict_of p
+verdict_is (Ok c) (Ok _) P same m = refl
+verdict_is (Ok c) (Err x) P same m = absurd (true≢false (sym same))
+verdict_is (Err x) v P same m = m
 
 module _ (g : Grid) (rows : List ℕ) (bounds : Bounds) (x y : Side) where
   abbrev d : ℕ
@@ -124,15 +119,15 @@ module _ (g : Grid) (rows : List ℕ) (bounds : Bounds) (x y : Side) where
       go false false e f = ap (λ (w : Window). first_of (pair_checks (value w) a b)) (window_is e f)
 
   -- What is found of the request, and what the windows and kernels add.
-  found : earlier_of (plan_of (request window) rows).verdict (first_of (side_checks d window x y)) ≡ first_of (pair_checks (value whole) a b)
+  found : earlier_of (verdict_of (plan_of (request window) rows)) (first_of (side_checks d window x y)) ≡ first_of (pair_checks (value whole) a b)
   unfolding judge_request trimmed_request
   found =
       ap (λ (v : Verdict). earlier_of v (first_of (side_checks d window x y))) (plan_verdict_lem (request window) rows)
       ∙ pair_verdict g rows window bounds (value window).capacities x y ∙ same_verdict
 
   -- By what the code finds.
-  module _ (n : ℕ) (en : n ≡ d) (w : Window) (ew : w ≡ union_window (union_in n x.window y.window)) (p : Planned) (ep : p ≡ plan_of (request w) rows)
-      (s : Verdict) (es : s ≡ first_of (side_checks n w x y)) (v : Verdict) (ev : v ≡ earlier_of p.verdict s) where
+  module _ (n : ℕ) (en : n ≡ d) (w : Window) (ew : w ≡ union_window (union_in n x.window y.window)) (p : Result Chain Refusal) (ep : p ≡ plan_of (request w) rows)
+      (s : Verdict) (es : s ≡ first_of (side_checks n w x y)) (v : Verdict) (ev : v ≡ earlier_of (verdict_of p) s) where
     w_is : w ≡ window
     w_is = ew ∙ ap (λ (k : ℕ). union_window (union_in k x.window y.window)) en
 
@@ -140,14 +135,14 @@ module _ (g : Grid) (rows : List ℕ) (bounds : Bounds) (x y : Side) where
     p_is = ep ∙ ap (λ (o : Window). plan_of (request o) rows) w_is
 
     v_is : v ≡ first_of (pair_checks (value whole) a b)
-    v_is = ev ∙ ap₂ earlier_of (ap (λ (q : Planned). q.verdict) p_is) (es ∙ ap₂ (λ (k : ℕ) (o : Window). first_of (side_checks k o x y)) en w_is) ∙ found
+    v_is = ev ∙ ap₂ earlier_of (ap verdict_of p_is) (es ∙ ap₂ (λ (k : ℕ) (o : Window). first_of (side_checks k o x y)) en w_is) ∙ found
 
-    pub refused_so : (z : Refusal) → v ≡ verdict.Refused z → refused_plan z ≡ plan_pair_of g rows bounds x y
+    pub refused_so : (z : Refusal) → v ≡ Err z → Err z ≡ plan_pair_of g rows bounds x y
     unfolding plan_pair_of union_request
     refused_so z f = rw (sym v_is ∙ f)
 
-    module _ (f : v ≡ verdict.Accepted) where
-      accepted : first_of (pair_checks (value whole) a b) ≡ verdict.Accepted
+    module _ (f : v ≡ Ok tt) where
+      accepted : first_of (pair_checks (value whole) a b) ≡ Ok tt
       accepted = sym v_is ∙ f
 
       passed : PairPasses (value whole) a b
@@ -157,20 +152,20 @@ module _ (g : Grid) (rows : List ℕ) (bounds : Bounds) (x y : Side) where
       unfolding trimmed_request any
       is_whole = window_is passed.grid (both_false passed.first_count (both_false passed.second_count (both_false passed.count refl)))
 
-      judged_so : judged (value whole) ≡ verdict.Accepted
-      unfolding judged trimmed_request raw_of
+      judged_so : judge_request (request whole) rows ≡ Ok tt
+      unfolding judge_request judged trimmed_request raw_of
       judged_so = raw_checks (value whole) a b passed
 
-      planned : p.chain ≡ planned_chain (request whole) rows
-      unfolding plan_of judge_request
-      planned = ap (λ (q : Planned). q.chain) p_is ∙ rw (is_whole, judged_so)
+      planned : p ≡ Ok (planned_chain (request whole) rows)
+      planned = p_is ∙ ap (λ (o : Window). plan_of (request o) rows) is_whole ∙ plan_taken (request whole) rows judged_so
 
       ordered : set_order (rising_order (length u)) (planned_chain (request whole) rows) ≡ chain_of (planned_union (request whole) rows)
       unfolding planned_union planned_chain chain_of sorted trimmed_request
       ordered = refl
 
-      pub accepted_so : (o : Order) → o ≡ rising_order w.count → (c : Chain) → c ≡ set_order o p.chain → ◌≡◌ {A = Planned} (record { verdict = verdict.Accepted; chain = c }) (plan_pair_of g rows bounds x y)
+      pub accepted_so : (q : Chain) → p ≡ Ok q → (o : Order) → o ≡ rising_order w.count → (c : Chain) → c ≡ set_order o q → Ok c ≡ plan_pair_of g rows bounds x y
       unfolding plan_pair_of union_request
-      accepted_so o k c j =
-          let same : c ≡ chain_of (planned_union (request whole) rows) = j ∙ ap₂ set_order (k ∙ ap (λ (q : Window). rising_order q.count) (w_is ∙ is_whole)) planned ∙ ordered in
-          ap (λ (q : Chain). let r : Planned = record { verdict = verdict.Accepted; chain = q } in r) same ∙ rw accepted
+      accepted_so q e o k c j =
+          let there : q ≡ planned_chain (request whole) rows = cc planned in
+          let same : c ≡ chain_of (planned_union (request whole) rows) = j ∙ ap₂ set_order (k ∙ ap (λ (r : Window). rising_order r.count) (w_is ∙ is_whole)) there ∙ ordered in
+          ap Ok same ∙ rw accepted

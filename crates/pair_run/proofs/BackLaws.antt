@@ -6,17 +6,15 @@ use native.Mathlib.Nat.{zero-mul}
 use native.Mathlib.Omega.{arith}
 use lib.ListN.{length, take, drop, length-append, length-drop}
 use lib.Seq.{sets}
-use Rattle.model.specs.Answers.{no_counts, answer_counts}
+use Rattle.model.specs.Answers.{Answer, no_counts, answer_counts}
 use Rattle.model.specs.Values.{trimmed}
 use Rattle.model_run.specs.Running.{judge_run, Run, run_trimmed, run_of}
-use Rattle.model.specs.declared.Answer.{Answer}
-use Rattle.model.specs.declared.Answer.TheVariants as answer
+use Rattle.std.specs.Prelude.{Err}
 use Rattle.model.specs.declared.Chain.{Chain}
 use Rattle.model.specs.declared.Counts.{Counts}
 use Rattle.model.specs.declared.Ran.{Ran}
 use Rattle.model.specs.declared.Refusal.{Refusal}
 use Rattle.model.specs.declared.State.{State}
-use Rattle.model.specs.declared.Verdict.TheVariants as verdict
 use Rattle.runner.specs.Runs.{ran_of}
 use Rattle.model_run.specs.PairRuns.{by_rows}
 use Rattle.pair_run.specs.declared.ports.Port.{Port}
@@ -28,7 +26,7 @@ pub record Back (raw : Chain) (rows : List ℕ) (n most block : ℕ) (g h : Port
     (store out other batch : List ℕ) (s : State) (taken clocks fired : ℕ) : Type 0 where
   pub begin : Begin raw rows n most block g h (length out₀) (length other₀) (length batch₀) allowance
   pub why : Refusal
-  pub turned : judge_run (trimmed raw rows) s₀ store₀ ≡ verdict.Refused why
+  pub turned : judge_run (trimmed raw rows) s₀ store₀ ≡ Err why
   pub state_is : s ≡ s₀
   pub store_is : store ≡ store₀
   pub out_is : out ≡ out₀
@@ -41,11 +39,11 @@ pub record Back (raw : Chain) (rows : List ℕ) (n most block : ℕ) (g h : Port
 module _ {raw : Chain} {rows : List ℕ} {n most block : ℕ} {g h : Port} {store₀ cells out₀ other₀ : List ℕ} {allowance : ℕ} {batch₀ : List ℕ} {s₀ : State}
     {store out other batch : List ℕ} {s : State} {taken clocks fired : ℕ} (B : Back raw rows n most block g h store₀ cells out₀ other₀ allowance batch₀ s₀ store out other batch s taken clocks fired)
     (few : ℕ) (there : few * n ≤ length batch) {r : Ran} {store' batch' : List ℕ} (P : Prefix r store' batch' (few * n) raw rows s store cells taken batch (allowance - clocks)) where
-  left_as : ran_of r store' P.part ≡ record { answer = answer.Refused B.why; state = s₀; store = store₀; output = take (few * n) batch }
+  left_as : ran_of r store' P.part ≡ record { answer = Err B.why; state = s₀; store = store₀; output = take (few * n) batch }
   unfolding run_of run_trimmed
   left_as = P.is ∙ rw (B.state_is, B.store_is, B.turned) refl
 
-  pub back_answer : r.answer ≡ answer.Refused B.why
+  pub back_answer : r.answer ≡ Err B.why
   back_answer = ap (λ (x : Run). x.answer) left_as
 
   back_state : r.state ≡ s₀

@@ -1,7 +1,7 @@
 -- A run call of a pair: its tables give what the pair's definitions say, and its parts leave what they say.
 use Prim.Native.Nat.{ℕ, zero, suc, ◌*◌, ◌/◌, ◌≤◌, ◌<◌, min}
-use mathlib.Core.Bool.{Bool, true, false, cond, not, false≢true}
-use mathlib.Core.List.{List, [], ◌∷◌, ◌++◌, map}
+use mathlib.Core.Bool.{Bool, true, false, not, false≢true}
+use mathlib.Core.List.{List, ◌++◌, map}
 use mathlib.Core.Path.{◌≡◌, refl, sym, ◌∙◌, ap, ap₂}
 use native.Mathlib.Nat.{mul-le-mul_right, le-div_iff_mul-le}
 use native.Mathlib.Omega.{arith}
@@ -11,22 +11,19 @@ use lib.Seq.{sets, length-take-le, get_or-take}
 use Rattle.model.specs.Lists.{up_to, any}
 use Rattle.model.specs.Steps.{which_of}
 use Rattle.model.specs.Values.{Trimmed, trimmed, dims_of, offsets_of, no_order}
-use Rattle.model.specs.Answers.{Check, first_of}
+use Rattle.model.specs.Answers.{Verdict, Answer, first_of}
 use Rattle.model.specs.Judging.{repeats, needs_centre, lacks_centre, centred}
 use Rattle.model.specs.Windows.{centre_of}
 use Rattle.model_run.specs.Kernels.{terms, width}
 use Rattle.model_run.specs.Running.{Ended, ended, outcome_of, with_counters, judge_run}
-use Rattle.model.specs.declared.Answer.{Answer}
-use Rattle.model.specs.declared.Answer.TheVariants as answer
+use Rattle.std.specs.Prelude.{Ok, Err}
 use Rattle.model.specs.declared.Chain.{Chain}
 use Rattle.model.specs.declared.Ran.{Ran}
 use Rattle.model.specs.declared.Refusal.{Refusal}
 use Rattle.model.specs.declared.State.{State}
-use Rattle.model.specs.declared.Verdict.{Verdict}
-use Rattle.model.specs.declared.Verdict.TheVariants as verdict
 use Rattle.model.specs.declared.Window.{Window}
 use Rattle.grid_laws.proofs.ListLaws.{length_tabulate}
-use Rattle.grid_laws.proofs.CheckLaws.{few_references, some_references, few_dims}
+use Rattle.grid_laws.proofs.CheckLaws.{then_checks, few_references, some_references, few_dims}
 use Rattle.run_laws.proofs.Accepts.{trimmed_proper}
 use Rattle.windows.specs.Windows.{centre_in}
 use Rattle.windows.proofs.OffsetLaws.{is_held}
@@ -216,23 +213,6 @@ batch_of b other some short = record {
 
 -- ---- the pair's call
 
-first_refused : (cs ds : List Check) (x : Refusal) → first_of cs ≡ verdict.Refused x → first_of (cs ++ ds) ≡ verdict.Refused x
-unfolding first_of
-first_refused [] ds x e = absurd (no e)
-  where
-    accepts : Verdict → Bool
-    accepts verdict.Accepted = true
-    accepts (verdict.Refused r) = false
-
-    no : verdict.Accepted ≡ verdict.Refused x → ⊥
-    no q = false≢true (sym (ap accepts q))
-first_refused (c ∷ cs) ds x e = go c.holds (first_refused cs ds x) e
-  where
-    go : (b : Bool) → (first_of cs ≡ verdict.Refused x → first_of (cs ++ ds) ≡ verdict.Refused x) → cond b (verdict.Refused c.refusal) (first_of cs) ≡ verdict.Refused x
-        → cond b (verdict.Refused c.refusal) (first_of (cs ++ ds)) ≡ verdict.Refused x
-    go true ih q = q
-    go false ih q = ih q
-
 raw_twice : (t : Trimmed) → raw_of (raw_of t) ≡ raw_of t
 unfolding raw_of
 raw_twice t = refl
@@ -245,14 +225,14 @@ same_run : {x x' : Answer} {s s' : State} {p p' q q' r r' : List ℕ} → x ≡ 
     → (let u : PairRun = record { answer = x; state = s; store = p; first = q; second = r } in u) ≡ record { answer = x'; state = s'; store = p'; first = q'; second = r' }
 same_run e1 e2 e3 e4 e5 = rw (e1, e2, e3, e4, e5) refl
 
-refused_pair_lem : (t : Trimmed) (a b : Own) (s : State) (store lent first second : List ℕ) (allowance : ℕ) (x : Refusal) → judge_pair t a b s store ≡ verdict.Refused x
-    → (let u : PairRun = record { answer = answer.Refused x; state = s; store = store; first = first; second = second } in u) ≡ run_pair t a b s store lent first second allowance
+refused_pair_lem : (t : Trimmed) (a b : Own) (s : State) (store lent first second : List ℕ) (allowance : ℕ) (x : Refusal) → judge_pair t a b s store ≡ Err x
+    → (let u : PairRun = record { answer = Err x; state = s; store = store; first = first; second = second } in u) ≡ run_pair t a b s store lent first second allowance
 unfolding run_pair
 refused_pair_lem t a b s store lent first second allowance x e = rw e refl
 
-accepted_pair : (t : Trimmed) (a b : Own) (s : State) (store lent first second : List ℕ) (allowance : ℕ) → judge_pair t a b s store ≡ verdict.Accepted
+accepted_pair : (t : Trimmed) (a b : Own) (s : State) (store lent first second : List ℕ) (allowance : ℕ) → judge_pair t a b s store ≡ Ok tt
     → (let e = pair_ended t a b s store lent first second allowance in let u : PairRun = record {
-      answer = answer.Ended (outcome_of e.ending e.standing.done);
+      answer = Ok (outcome_of e.ending e.standing.done);
       state = with_counters s e.standing.counters;
       store = e.standing.store;
       first = pair_output t a b s store lent first second allowance a first;
@@ -275,10 +255,10 @@ module _ (c : Chain) (rows : List ℕ) (x y : Side) (s : State) (store lent out 
   abbrev b : Own
   b = own_of D y
 
-  pub refused_first : (z : Refusal) → first_of (pair_checks t a b) ≡ verdict.Refused z
-      → pair_ran (record { answer = answer.Refused z; state = s }) store out other ≡ run_pair_of c rows x y s store lent out other allowance
+  pub refused_first : (z : Refusal) → first_of (pair_checks t a b) ≡ Err z
+      → pair_ran (record { answer = Err z; state = s }) store out other ≡ run_pair_of c rows x y s store lent out other allowance
   unfolding run_pair_of judge_pair
-  refused_first z e = refused_pair_lem t a b s store lent out other allowance z (first_refused (pair_checks t a b) _ z e)
+  refused_first z e = refused_pair_lem t a b s store lent out other allowance z (then_checks (pair_checks t a b) _ ∙ rw e)
 
   module _ (raw : Chain) (raw-is : raw ≡ raw_chain c) (judged : Judged c rows x y) (dims n : ℕ) (ed : dims ≡ D) (en : n ≡ c.window.count) (g h : Port) (G : g ≡ port_of dims c.window x) (H : h ≡ port_of dims c.window y) where
     p : PairPasses t a b
@@ -374,15 +354,15 @@ module _ (c : Chain) (rows : List ℕ) (x y : Side) (s : State) (store lent out 
     pair_leaves {r = r} {store' = store'} {out' = out'} {other' = other'} l = go (judge_run (trimmed raw rows) s store) refl
       where
         go : (v : Verdict) → judge_run (trimmed raw rows) s store ≡ v → pair_ran r store' out' other' ≡ run_pair t a b s store lent out other allowance
-        go verdict.Accepted e =
+        go (Ok _) e =
             let k = l.ended e in
             same_run
-            (k.answer_is ∙ ap (λ (u : Ended). answer.Ended (outcome_of u.ending u.standing.done)) same_end)
+            (k.answer_is ∙ ap (λ (u : Ended). Ok (outcome_of u.ending u.standing.done)) same_end)
             (k.state_is ∙ ap (λ (u : Ended). with_counters s u.standing.counters) same_end)
             (k.store_is ∙ ap (λ (u : Ended). u.standing.store) same_end)
             (output_so g a (λ ws. ap (λ (q : Port). gives q ws) G' ∙ port_gives t D c.window x os few sc sx p.first_distinct p.distinct there.0 p.first_centre ws) out out' k.first_is)
             (output_so h b (λ ws. ap (λ (q : Port). gives q ws) H' ∙ port_gives t D c.window y os few sc sy p.second_distinct p.distinct there.1 p.second_centre ws) other other' k.second_is)
             ∙ accepted_pair t a b s store lent out other allowance (judged_as ∙ e)
-        go (verdict.Refused z) e =
+        go (Err z) e =
             let k = l.refused z e in
             same_run k.0 k.1 k.2 k.3 k.4 ∙ refused_pair_lem t a b s store lent out other allowance z (judged_as ∙ e)

@@ -7,16 +7,14 @@ use mathlib.Core.Path.{◌≡◌, refl, sym, ◌∙◌, ap}
 use native.Mathlib.Nat.{mul-le-mul_right}
 use native.Mathlib.Omega.{arith}
 use lib.ListN.{length}
-use Rattle.model.specs.Answers.{answer_counts}
+use Rattle.model.specs.Answers.{Verdict, Answer, answer_counts}
 use Rattle.model.specs.Values.{trimmed}
 use Rattle.model_run.specs.Running.{judge_run}
-use Rattle.model.specs.declared.Answer.{Answer}
+use Rattle.std.specs.Prelude.{Ok, Err}
 use Rattle.model.specs.declared.Chain.{Chain}
 use Rattle.model.specs.declared.Counts.{Counts}
 use Rattle.model.specs.declared.Ran.{Ran}
 use Rattle.model.specs.declared.State.{State}
-use Rattle.model.specs.declared.Verdict.{Verdict}
-use Rattle.model.specs.declared.Verdict.TheVariants as verdict
 use Rattle.pair_run.specs.declared.ports.Port.{Port}
 use Rattle.pair_run.specs.Ports.{RoomBoth, GivesBoth}
 use Rattle.pair_run.specs.Rounds.{is_full, with_counts, Prefix, Begin, Leaves}
@@ -36,8 +34,8 @@ rounds_start {raw = raw} {rows = rows} {n = n} {most = most} {block = block} {g 
     go (judge_run (trimmed raw rows) s store) refl
   where
     go : (v : Verdict) → judge_run (trimmed raw rows) s store ≡ v → Rounds raw rows n most block g h store cells out other allowance batch s store out other batch s 0 0 0
-    go verdict.Accepted e = inl (turning_start b e)
-    go (verdict.Refused x) e = inr (record {
+    go (Ok _) e = inl (turning_start b e)
+    go (Err x) e = inr (record {
       begin = b;
       why = x;
       turned = e;

@@ -34,10 +34,6 @@ pub entry_there : (table : List ℕ) (k : ℕ) → k < 32 → get_or table k 0 �
 unfolding entry_of
 entry_there table k h = rw (lt-ltb k 32 h) refl
 
-pub entry_past : (table : List ℕ) (k : ℕ) → 32 ≤ k → 0 ≡ entry_of table k
-unfolding entry_of
-entry_past table k h = rw (le-ltb k 32 h) refl
-
 module _ (held references : List ℕ) (m : ℕ) where
   abbrev entry : ℕ → ℕ
   entry i = entry_of held (get_or references i 0)

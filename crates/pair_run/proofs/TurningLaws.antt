@@ -1,6 +1,6 @@
 -- The rounds of a run call of a pair that no number turns back: what the loop keeps.
 use Prim.Native.Nat.{ℕ, zero, suc, ◌+◌, ◌-◌, ◌*◌, ◌≤◌, ◌<◌, min}
-use mathlib.Core.Bool.{Bool, true, false, false≢true}
+use mathlib.Core.Bool.{true, false, false≢true}
 use mathlib.Core.List.{List, [], ◌∷◌, ◌++◌}
 use mathlib.Core.Logic.{◌⊎◌, inl, inr}
 use mathlib.Core.Path.{◌≡◌, refl, sym, ◌∙◌, ap, ap₂}
@@ -8,21 +8,18 @@ use native.Mathlib.Nat.{add-mul, mul-le-mul_right}
 use native.Mathlib.Omega.{arith}
 use lib.ListN.{length, take, drop, length-append, length-drop, take-append-drop}
 use lib.Seq.{sets, length-sets, length-take-le}
-use Rattle.model.specs.Answers.{answer_counts}
+use Rattle.model.specs.Answers.{Verdict, Answer, answer_counts}
 use Rattle.model_run.specs.Clock.{Counters}
 use Rattle.model.specs.Sized.{Proper}
 use Rattle.model.specs.Values.{Trimmed, trimmed}
 use Rattle.model_run.specs.Running.{judge_run, Ending, Done, Spent, Starved, Stalled, Full, Ended, ended, outcome_of, with_counters, Run, run_trimmed, run_of}
-use Rattle.model.specs.declared.Answer.{Answer}
-use Rattle.model.specs.declared.Answer.TheVariants as answer
+use Rattle.std.specs.Prelude.{Ok, Err}
 use Rattle.model.specs.declared.Chain.{Chain}
 use Rattle.model.specs.declared.Counts.{Counts}
 use Rattle.model.specs.declared.Ran.{Ran}
 use Rattle.model.specs.declared.Refusal.{Refusal}
 use Rattle.model.specs.declared.Refusal.TheVariants as refusal
 use Rattle.model.specs.declared.State.{State}
-use Rattle.model.specs.declared.Verdict.{Verdict}
-use Rattle.model.specs.declared.Verdict.TheVariants as verdict
 use Rattle.run_laws.proofs.Between.{counters_twice}
 use Rattle.run_laws.proofs.CallEnds.{outcome_counts_lem}
 use Rattle.run_laws.proofs.Lengths.{length_ended}
@@ -55,7 +52,7 @@ prefix_of r store' part batch batch' places c rows s store cells taken left kept
 
 -- ---- answers
 
-is_full_so : (e : Ending) (c : Counts) → is_full (answer.Ended (outcome_of e c)) ≡ true → e ≡ Full
+is_full_so : (e : Ending) (c : Counts) → is_full (Ok (outcome_of e c)) ≡ true → e ≡ Full
 unfolding outcome_of
 is_full_so Done c h = absurd (false≢true h)
 is_full_so Spent c h = absurd (false≢true h)
@@ -63,11 +60,11 @@ is_full_so Starved c h = absurd (false≢true h)
 is_full_so Stalled c h = absurd (false≢true h)
 is_full_so Full c h = refl
 
-full_is_so : (e : Ending) (c : Counts) → e ≡ Full → is_full (answer.Ended (outcome_of e c)) ≡ true
+full_is_so : (e : Ending) (c : Counts) → e ≡ Full → is_full (Ok (outcome_of e c)) ≡ true
 unfolding outcome_of
-full_is_so e c h = ap (λ (x : Ending). is_full (answer.Ended (outcome_of x c))) h
+full_is_so e c h = ap (λ (x : Ending). is_full (Ok (outcome_of x c))) h
 
-recounted_so : (e : Ending) (c d : Counts) → with_counts (answer.Ended (outcome_of e c)) d ≡ answer.Ended (outcome_of e d)
+recounted_so : (e : Ending) (c d : Counts) → with_counts (Ok (outcome_of e c)) d ≡ Ok (outcome_of e d)
 unfolding outcome_of
 recounted_so Done c d = refl
 recounted_so Spent c d = refl
@@ -85,28 +82,23 @@ counts_are d a b c e f g =
 
 left_by : State → Ended → Run
 left_by s e = record {
-  answer = answer.Ended (outcome_of e.ending e.standing.done);
+  answer = Ok (outcome_of e.ending e.standing.done);
   state = with_counters s e.standing.counters;
   store = e.standing.store;
   output = e.standing.output;
 }
 
-run_left : (t : Trimmed) (s : State) (store lent output : List ℕ) (allowance : ℕ) → judge_run t s store ≡ verdict.Accepted → run_trimmed t s store lent output allowance ≡ left_by s (ended t s store lent output allowance)
+run_left : (t : Trimmed) (s : State) (store lent output : List ℕ) (allowance : ℕ) → judge_run t s store ≡ Ok tt → run_trimmed t s store lent output allowance ≡ left_by s (ended t s store lent output allowance)
 unfolding run_trimmed left_by
 run_left t s store lent output allowance e = rw e refl
 
 -- A verdict that accepts is none that refuses; the answer of one that refuses.
-accepts : Verdict → Bool
-accepts verdict.Accepted = true
-accepts (verdict.Refused r) = false
-
-pub not_both : {v : Verdict} {x : Refusal} → v ≡ verdict.Accepted → v ≡ verdict.Refused x → ⊥
-unfolding accepts
-not_both e d = false≢true (sym (ap accepts d) ∙ ap accepts e)
+pub not_both : {v : Verdict} {x : Refusal} → v ≡ Ok tt → v ≡ Err x → ⊥
+not_both e d = cc
 
 unfoldable pub answer_by : Verdict → Answer
-answer_by verdict.Accepted = answer.Refused refusal.Malformed
-answer_by (verdict.Refused r) = answer.Refused r
+answer_by (Ok _) = Err refusal.Malformed
+answer_by (Err r) = Err r
 
 -- ---- what the loop keeps
 
@@ -116,8 +108,8 @@ pub record Turning (raw : Chain) (rows : List ℕ) (n most block : ℕ) (g h : P
   pub some : 0 < (trimmed raw rows).count
   pub front : List ℕ
   pub gone : Gone (trimmed raw rows) some s₀ store₀ cells allowance most fired taken clocks s store front
-  pub begun : judge_run (trimmed raw rows) s₀ store₀ ≡ verdict.Accepted
-  pub accepted : judge_run (trimmed raw rows) s store ≡ verdict.Accepted
+  pub begun : judge_run (trimmed raw rows) s₀ store₀ ≡ Ok tt
+  pub accepted : judge_run (trimmed raw rows) s store ≡ Ok tt
   pub alike : (c : Counters) → length c.passed ≡ (trimmed raw rows).count → with_counters s c ≡ with_counters s₀ c
   pub taken_there : taken ≤ length cells
   pub taken_few : taken ≤ clocks
@@ -129,7 +121,7 @@ pub record Turning (raw : Chain) (rows : List ℕ) (n most block : ℕ) (g h : P
   pub store_long : length store ≡ length store₀
 
 pub turning_start : {raw : Chain} {rows : List ℕ} {n most block : ℕ} {g h : Port} {store cells out other : List ℕ} {allowance : ℕ} {batch : List ℕ} {s : State}
-    → Begin raw rows n most block g h (length out) (length other) (length batch) allowance → judge_run (trimmed raw rows) s store ≡ verdict.Accepted
+    → Begin raw rows n most block g h (length out) (length other) (length batch) allowance → judge_run (trimmed raw rows) s store ≡ Ok tt
     → Turning raw rows n most block g h store cells out other allowance batch s store out other batch s 0 0 0
 unfolding by_rows
 turning_start {raw = raw} {rows = rows} {most = most} {store = store} {cells = cells} {allowance = allowance} {s = s} b e =
@@ -205,7 +197,7 @@ module _ {raw : Chain} {rows : List ℕ} {n most block : ℕ} {g h : Port} {stor
       unfolding run_of
       is = P.is ∙ run_left T s store (drop taken cells) buffer (allowance - clocks) I.accepted ∙ ap (λ (x : Trimmed). left_by s (ended x s store (drop taken cells) buffer (allowance - clocks))) (sym B.plain)
 
-      answer_so : r.answer ≡ answer.Ended (outcome_of E.ending E.standing.done)
+      answer_so : r.answer ≡ Ok (outcome_of E.ending E.standing.done)
       unfolding left_by
       answer_so = ap (λ (x : Run). x.answer) is
 
@@ -349,7 +341,7 @@ module _ {raw : Chain} {rows : List ℕ} {n most block : ℕ} {g h : Port} {stor
             record {
               answer_is = ap (λ (x : Answer). with_counts x (record { cells = taken + a; firings = fired + firings; clocks = clocks + b })) answer_so
                   ∙ recounted_so E.ending E.standing.done (record { cells = taken + a; firings = fired + firings; clocks = clocks + b })
-                  ∙ ap₂ (λ (x : Ending) (y : Counts). answer.Ended (outcome_of x y)) (sym e.ending)
+                  ∙ ap₂ (λ (x : Ending) (y : Counts). Ok (outcome_of x y)) (sym e.ending)
                   (counts_are d (taken + a) (fired + firings) (clocks + b) (omega (arith, e.cells, ae, a_so)) (omega (arith, e.firings, fe, k_so)) (omega (arith, e.clocks, be, b_so)));
               state_is = state_so ∙ I.alike E.standing.counters (length_ended (raw_of T) s store (drop taken cells) buffer (allowance - clocks)) ∙ ap (with_counters s₀) (sym e.counters);
               store_is = store_so ∙ sym e.words;

@@ -5,8 +5,8 @@ use Rattle.model.specs.Values.{trimmed}
 use Rattle.model.specs.Pairs.{raw_of}
 use Rattle.model_run.specs.Running.{judge_run, Ended, ended, outcome_of, with_counters, run_of}
 use Rattle.model_run.specs.PairRuns.{by_rows}
-use Rattle.model.specs.declared.Answer.{Answer}
-use Rattle.model.specs.declared.Answer.TheVariants as answer
+use Rattle.std.specs.Prelude.{Ok, Err}
+use Rattle.model.specs.Answers.{Answer}
 use Rattle.model.specs.declared.Chain.{Chain}
 use Rattle.model.specs.declared.Counts.{Counts}
 use Rattle.model.specs.declared.Outcome.{Outcome}
@@ -14,7 +14,6 @@ use Rattle.model.specs.declared.Outcome.TheVariants as outcome
 use Rattle.model.specs.declared.Ran.{Ran}
 use Rattle.model.specs.declared.Refusal.{Refusal}
 use Rattle.model.specs.declared.State.{State}
-use Rattle.model.specs.declared.Verdict.TheVariants as verdict
 use Rattle.runner.specs.Runs.{ran_of}
 use Rattle.pair_run.specs.Ports.{gives, Sound}
 use Rattle.pair_run.specs.declared.ports.Port.{Port}
@@ -22,12 +21,12 @@ use Rattle.pair_run.specs.declared.ports.Port.{Port}
 -- ---- answers
 
 abbrev pub is_full : Answer → Bool
-is_full (answer.Ended (outcome.Done c)) = false
-is_full (answer.Ended (outcome.Spent c)) = false
-is_full (answer.Ended (outcome.Starved c)) = false
-is_full (answer.Ended (outcome.Stalled c)) = false
-is_full (answer.Ended (outcome.Full c)) = true
-is_full (answer.Refused r) = false
+is_full (Ok (outcome.Done c)) = false
+is_full (Ok (outcome.Spent c)) = false
+is_full (Ok (outcome.Starved c)) = false
+is_full (Ok (outcome.Stalled c)) = false
+is_full (Ok (outcome.Full c)) = true
+is_full (Err r) = false
 
 abbrev pub recounted_by : Outcome → Counts → Outcome
 recounted_by (outcome.Done c) d = outcome.Done d
@@ -37,8 +36,8 @@ recounted_by (outcome.Stalled c) d = outcome.Stalled d
 recounted_by (outcome.Full c) d = outcome.Full d
 
 abbrev pub with_counts : Answer → Counts → Answer
-with_counts (answer.Ended o) d = answer.Ended (recounted_by o d)
-with_counts (answer.Refused r) d = answer.Refused r
+with_counts (Ok o) d = Ok (recounted_by o d)
+with_counts (Err r) d = Err r
 
 -- ---- a round
 
@@ -77,7 +76,7 @@ all_of raw rows most s store cells allowance =
 -- What a call that ends so leaves, where both kernels got its rows.
 pub record LeavesAll (r : Ran) (e : Ended) (n : ℕ) (g h : Port) (s : State) (store' out out' other other' : List ℕ)
     : Type 0 where
-  pub answer_is : r.answer ≡ answer.Ended (outcome_of e.ending e.standing.done)
+  pub answer_is : r.answer ≡ Ok (outcome_of e.ending e.standing.done)
   pub state_is : r.state ≡ with_counters s e.standing.counters
   pub store_is : store' ≡ e.standing.store
   pub first_is : out' ≡ sets out 0 (by_rows n (gives g) e.standing.done.firings e.standing.output)
@@ -86,10 +85,10 @@ pub record LeavesAll (r : Ran) (e : Ended) (n : ℕ) (g h : Port) (s : State) (s
 -- What the rounds leave: the call's, where no number turns it back; else everything as it was.
 pub record Leaves (r : Ran) (raw : Chain) (rows : List ℕ) (most : ℕ) (g h : Port) (s : State)
     (store store' cells out out' other other' : List ℕ) (allowance : ℕ) : Type 0 where
-  pub ended : judge_run (trimmed raw rows) s store ≡ verdict.Accepted
+  pub ended : judge_run (trimmed raw rows) s store ≡ Ok tt
       → LeavesAll r (all_of raw rows most s store cells allowance) (trimmed raw rows).count g h s store' out out' other other'
-  pub refused : (x : Refusal) → judge_run (trimmed raw rows) s store ≡ verdict.Refused x
-      → (r.answer ≡ answer.Refused x) × (r.state ≡ s) × (store' ≡ store) × (out' ≡ out) × (other' ≡ other)
+  pub refused : (x : Refusal) → judge_run (trimmed raw rows) s store ≡ Err x
+      → (r.answer ≡ Err x) × (r.state ≡ s) × (store' ≡ store) × (out' ≡ out) × (other' ≡ other)
 
 -- ---- the batch
 

@@ -10,7 +10,7 @@ ghost use Rattle.std.specs.Prelude.{◌≡◌};
 ghost use Rattle.model_run.specs.PairRuns.{run_pair_of};
 ghost use Rattle.pair_run.specs.Calls.{Judged, pair_ran};
 
-use model::{Answer, Chain, Ran, Side, State, Verdict};
+use model::{Chain, Outcome, Ran, Refusal, Side, State};
 
 // The call of an accepted pair.
 fn run_judged(
@@ -31,10 +31,9 @@ fn run_judged(
         other.old allowance }
 {
     let raw = pair_judging::raw_of(chain);
-    let grid = chain.grid;
     let window = chain.window;
-    let dims = values::dims_of(grid);
-    let n = ports::number(window.count);
+    let dims = values::dims_of(chain.grid);
+    let n = window.count as usize;
     let g = ports::port_of(dims, window, first);
     let h = ports::port_of(dims, window, second);
     rounds::in_buffer(
@@ -60,11 +59,11 @@ pub fn run_pair(
         other.old allowance }
 {
     match pair_judging::judge_pair(chain, rows, first, second) {
-        Verdict::Refused(x) => Ran {
-            answer: Answer::Refused(x),
+        Err(x) => Ran {
+            answer: Err(x),
             state,
         },
-        Verdict::Accepted => run_judged(
+        Ok(()) => run_judged(
             chain, rows, first, second, state, store, cells, out, other, allowance,
         ),
     }

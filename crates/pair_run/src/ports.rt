@@ -4,7 +4,6 @@ ghost use Rattle.std.proofs.lemmas.List.Edits.{sets};
 ghost use Rattle.pair_run.specs.Ports.{entry_of, through_of, port_of, RoomBy, given_by, RoomBoth, GivesBoth};
 
 use model::{Kernel, Order, Side, Window};
-use numbers::lesser;
 
 // How a window's words come from a row of the chain's: the filters that its kernel adds, in its author's order, the filter that
 // holds its centre, and the filters that raw writes, in chain order. A firing writes `width` words.
@@ -19,35 +18,20 @@ pub(crate) struct Port {
     pub(crate) writes: [u8; 32],
 }
 
-// A byte as a number.
-pub(crate) fn number(k: u8) -> usize
-    ensures { result ≡ k }
-{
-    k as usize
-}
-
 // Entry k of a table; 0 past its end.
 fn entry(table: &[u8; 32], k: u8) -> u8
     ensures { result ≡ entry_of table.now k }
 {
-    let at = k as usize;
-    if at < 32 {
-        return table[at];
-    }
-    0
+    table.get(k as usize).copied().unwrap_or(0)
 }
 
 // The filters that hold the first m references of a table.
 fn through(held: &[u8; 32], references: &[u8; 32], m: usize) -> [u8; 32]
     ensures { result ≡ through_of held.now references.now m }
 {
-    let last = lesser(m, 32);
     let mut filters = [0u8; 32];
-    let mut i: usize = 0;
-    while i < last {
-        let k = entry(held, references[i]);
-        filters[i] = k;
-        i += 1;
+    for i in 0..m.min(32) {
+        filters[i] = entry(held, references[i]);
     }
     filters
 }
@@ -57,7 +41,7 @@ pub(crate) fn port_of(dims: u8, chain: Window, side: Side) -> Port
 {
     let window = side.window;
     let kernel = side.kernel;
-    let n = number(window.count);
+    let n = window.count as usize;
     let centre = windows::centre(dims, window);
     let order = Order {
         stood: false,
@@ -66,19 +50,14 @@ pub(crate) fn port_of(dims: u8, chain: Window, side: Side) -> Port
     let added = kernel_terms::terms_of(kernel, centre, n, order);
     let shown = pair_tables::chain_order(dims, chain, window);
     let held = pair_tables::held(dims, chain, window);
-    let width = kernel_terms::width(kernel, n);
-    let own_terms = added.filters;
-    let own_writes = shown.filters;
-    let terms = through(&held, &own_terms, added.count);
-    let writes = through(&held, &own_writes, n);
     Port {
         kernel,
         centre: entry(&held, centre),
         adds: added.count,
         count: n,
-        width,
-        terms,
-        writes,
+        width: kernel_terms::width(kernel, n),
+        terms: through(&held, &added.filters, added.count),
+        writes: through(&held, &shown.filters, n),
     }
 }
 
@@ -87,16 +66,11 @@ fn give_by(g: Port, n: usize, batch: &[u32], count: usize, out: &mut [u32], at: 
     requires { RoomBy g n count at (length batch.now) (length out.old) }
     ensures { out.new ≡ sets out.old at (given_by g n count batch.now) }
 {
-    let kernel = g.kernel;
-    let adds = g.adds;
-    let m = g.count;
-    let terms = g.terms;
-    let writes = g.writes;
     kernel_rows::give(
-        kernel,
+        g.kernel,
         g.centre,
-        &terms[..adds],
-        &writes[..m],
+        &g.terms[..g.adds],
+        &g.writes[..g.count],
         n,
         batch,
         count,
@@ -120,8 +94,6 @@ pub(crate) fn give_both(
     ensures { GivesBoth first second n count fired batch.now out.old out.new
         other.old other.new }
 {
-    let one = first.width;
-    let two = second.width;
-    give_by(first, n, batch, count, out, fired * one);
-    give_by(second, n, batch, count, other, fired * two);
+    give_by(first, n, batch, count, out, fired * first.width);
+    give_by(second, n, batch, count, other, fired * second.width);
 }

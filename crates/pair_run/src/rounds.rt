@@ -3,24 +3,14 @@ ghost use Rattle.std.specs.Prelude.{◌≡◌, ◌≤◌, ◌<◌, length};
 ghost use Rattle.pair_run.specs.Rounds.{is_full, recounted_by, with_counts, Prefix, Begin, Leaves, room_of, Buffered};
 
 use crate::ports::{Port, give_both};
-use model::{Answer, Chain, Counts, Outcome, Ran, State};
-use numbers::{lesser, wide_usize};
+use model::{Chain, Counts, Outcome, Ran, Refusal, State};
 use values::counts_of;
 
 // The next clock would fire, and there are too few places.
-fn is_full(a: Answer) -> bool
+fn is_full(a: Result<Outcome, Refusal>) -> bool
     ensures { result ≡ is_full a }
 {
-    match a {
-        Answer::Refused(_) => false,
-        Answer::Ended(o) => match o {
-            Outcome::Done(_) => false,
-            Outcome::Spent(_) => false,
-            Outcome::Starved(_) => false,
-            Outcome::Stalled(_) => false,
-            Outcome::Full(_) => true,
-        },
-    }
+    matches!(a, Ok(Outcome::Full(_)))
 }
 
 // The same outcome with other counts.
@@ -36,13 +26,10 @@ fn recounted(o: Outcome, c: Counts) -> Outcome
     }
 }
 
-fn with_counts(a: Answer, c: Counts) -> Answer
+fn with_counts(a: Result<Outcome, Refusal>, c: Counts) -> Result<Outcome, Refusal>
     ensures { result ≡ with_counts a c }
 {
-    match a {
-        Answer::Refused(x) => Answer::Refused(x),
-        Answer::Ended(o) => Answer::Ended(recounted(o, c)),
-    }
+    Ok(recounted(a?, c))
 }
 
 // A run call over the cells from `taken` on, with the first `places` words of `batch` as its output.
@@ -99,34 +86,31 @@ fn in_rounds(
     let mut taken = 0;
     let mut clocks = 0u32;
     let mut fired = 0;
+    // Which round is the last one shows in its own answer.
     loop {
-        let few = lesser(block, most - fired);
+        let few = block.min(most - fired);
         let places = few * n;
         let left = allowance - clocks;
         let ran = piece(raw, rows, state, store, cells, taken, batch, places, left);
         let answer = ran.answer;
-        let after = ran.state;
         let c = counts_of(answer);
-        let firings = wide_usize(c.firings);
+        let firings = c.firings as usize;
         give_both(first, second, n, batch, firings, fired, out, other);
-        state = after;
-        taken += wide_usize(c.cells);
+        state = ran.state;
+        taken += c.cells as usize;
         clocks += c.clocks;
         fired += firings;
-        if is_full(answer) {
-            if fired < most {
-                continue;
-            }
+        if !is_full(answer) || most <= fired {
+            let all = Counts {
+                cells: taken as u32,
+                firings: fired as u32,
+                clocks,
+            };
+            return Ran {
+                answer: with_counts(answer, all),
+                state,
+            };
         }
-        let all = Counts {
-            cells: taken as u32,
-            firings: fired as u32,
-            clocks,
-        };
-        return Ran {
-            answer: with_counts(answer, all),
-            state,
-        };
     }
 }
 
@@ -135,7 +119,7 @@ fn room(out: usize, other: usize, one: usize, two: usize) -> usize
     requires { (0 < one) × (0 < two) }
     ensures { result ≡ room_of out other one two }
 {
-    lesser(out / one, other / two)
+    (out / one).min(other / two)
 }
 
 // All rounds, each of as many firings as have their rows in the batch.
@@ -159,9 +143,7 @@ fn in_batch(
         store.old store.new cells.now out.old out.new other.old
         other.new allowance }
 {
-    let one = first.width;
-    let two = second.width;
-    let most = room(out.len(), other.len(), one, two);
+    let most = room(out.len(), other.len(), first.width, second.width);
     let block = batch.len() / n;
     in_rounds(
         raw, rows, n, most, block, first, second, state, store, cells, out, other, allowance, batch,

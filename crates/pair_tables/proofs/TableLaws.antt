@@ -8,6 +8,7 @@ use lib.Dec.{ltb, leb-suc-suc}
 use lib.IntN.{ℤ}
 use lib.ListN.{length, take, get_or, set, replicate, length-append, length-map, get_or-eq_default}
 use borrow.Author.Tests.{lt-ltb, le-ltb}
+use Rattle.std.specs.Prelude.{Some, None, unwrap_or}
 use Rattle.model.specs.Lists.{tabulate, any}
 use Rattle.model.specs.Vectors.{equal}
 use Rattle.model.specs.Steps.{which_of}
@@ -25,7 +26,7 @@ use Rattle.geometry.proofs.PartLaws.{part_none, part_more, part_all}
 use Rattle.geometry.proofs.FillLaws.{filled_all}
 use Rattle.pair_windows.specs.Unions.{both_held}
 use Rattle.pair_windows.proofs.UnionLaws.{held_so}
-use Rattle.pair_tables.specs.Tables.{filters_of, terms_in, held_in, chain_order_in}
+use Rattle.pair_tables.specs.Tables.{place_in, filters_of, terms_in, held_in, chain_order_in}
 
 -- Which of the offsets from reference k on.
 module _ (f : ℕ → List ℤ) (o : List ℤ) (k n : ℕ) where
@@ -52,11 +53,57 @@ which_below (p ∷ ps) o = go (equal o p) (which_below ps o)
     go false e = leb-suc-suc (suc (which_of ps o)) (length ps) ∙ e
 
 module _ (f : ℕ → List ℤ) (n : ℕ) (o : List ℤ) (j : ℕ) (e : j ≡ which_of (tabulate n f) o) where
-  pub which_one : j < n → member (tabulate n f) o ≡ true
+  which_one : j < n → member (tabulate n f) o ≡ true
   which_one h = sym (which_below (tabulate n f) o) ∙ lt-ltb (which_of (tabulate n f) o) (length (tabulate n f)) (omega (arith, length_tabulate n f))
 
-  pub which_none : n ≤ j → member (tabulate n f) o ≡ false
+  which_none : n ≤ j → member (tabulate n f) o ≡ false
   which_none h = sym (which_below (tabulate n f) o) ∙ le-ltb (which_of (tabulate n f) o) (length (tabulate n f)) (omega (arith, length_tabulate n f))
+
+  pub place_here : j < n → Some j ≡ place_in (tabulate n f) o
+  place_here h = rw (which_one h) (ap Some e)
+
+  pub place_none : n ≤ j → None ≡ place_in (tabulate n f) o
+  place_none h = rw (which_none h)
+
+-- What a place says of the offset.
+module _ (os : List (List ℤ)) (o : List ℤ) where
+  pub place_member : (j : ℕ) → Some j ≡ place_in os o → member os o ≡ true
+  place_member j e = go (member os o) e
+    where
+      go : (b : Bool) → Some j ≡ cond b (Some (which_of os o)) None → b ≡ true
+      go true e = refl
+      go false e = absurd (cc)
+
+  pub place_is : (j : ℕ) → Some j ≡ place_in os o → j ≡ which_of os o
+  place_is j e = go (member os o) e
+    where
+      go : (b : Bool) → Some j ≡ cond b (Some (which_of os o)) None → j ≡ which_of os o
+      go true e = cc
+      go false e = absurd (cc)
+
+  pub no_place : None ≡ place_in os o → member os o ≡ false
+  no_place e = go (member os o) e
+    where
+      go : (b : Bool) → None ≡ cond b (Some (which_of os o)) None → b ≡ false
+      go true e = absurd (cc)
+      go false e = refl
+
+-- Where it is none of them, its number is theirs.
+which_all : (os : List (List ℤ)) (o : List ℤ) → member os o ≡ false → length os ≡ which_of os o
+unfolding which_of member any
+which_all [] o e = refl
+which_all (p ∷ ps) o e = go (equal o p) (which_all ps o) e
+  where
+    go : (t : Bool) → (any (λ p. equal o p) ps ≡ false → length ps ≡ which_of ps o) → t || any (λ p. equal o p) ps ≡ false → suc (length ps) ≡ cond t 0 (suc (which_of ps o))
+    go true r e = absurd (cc)
+    go false r e = ap (λ (k : ℕ). suc k) (r e)
+
+pub place_or : (n : ℕ) (f : ℕ → List ℤ) (o : List ℤ) → unwrap_or (place_in (tabulate n f) o) n ≡ which_of (tabulate n f) o
+place_or n f o = go (member (tabulate n f) o) refl
+  where
+    go : (b : Bool) → member (tabulate n f) o ≡ b → unwrap_or (cond b (Some (which_of (tabulate n f) o)) None) n ≡ which_of (tabulate n f) o
+    go true e = refl
+    go false e = sym (length_tabulate n f) ∙ which_all (tabulate n f) o e
 
 -- The filters that hold n references.
 pub held_all : (os : List (List ℤ)) (f : ℕ → List ℤ) (n : ℕ) (fs : List ℕ) → Filled 32 0 (λ k. which_of os (f k)) n fs → fs ≡ filter_array (filters_of os (tabulate n f))
@@ -136,6 +183,9 @@ module _ (dims : ℕ) (c w : Window) where
   pub order_is : both_held dims c.count w.count ≡ true → table_of (terms_in chain own) ≡ chain_order_in dims c w
   unfolding chain_order_in offsets_of offset_of
   order_is e = rw e
+
+-- What is answered of a chain and a window, by what the arrays hold.
+pub ruleset answers = (held_so, held_not, held_is, order_not, order_is)
 
 -- The lists, back from their tables.
 kept_few : (p : List ℤ → Bool) (os : List (List ℤ)) → length (kept p os) ≤ length os

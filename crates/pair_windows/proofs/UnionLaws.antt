@@ -4,12 +4,14 @@ use mathlib.Core.Bool.{Bool, true, false, cond, not, ◌&&◌, ◌||◌, and-eq-
 use mathlib.Core.List.{List, [], ◌∷◌, ◌++◌, append-nil, append_assoc}
 use mathlib.Core.Path.{◌≡◌, refl, sym, ◌∙◌, ap, ap₂}
 use native.Mathlib.Decide.{dec_lt}
-use native.Mathlib.Nat.{add-zero, add_assoc}
 use native.Mathlib.Omega.{arith}
 use lib.Dec.{leb}
 use lib.IntN.{ℤ, pos}
-use lib.ListN.{length, get_or, set, replicate, length-append, get_or-append, get_or-eq_default}
-use lib.Seq.{get_or-append_seam}
+use lib.ListN.{length, get_or, take, drop, replicate, length-append, length-take, length-drop, get_or-append, get_or-eq_default}
+use lib.Seq.{paste, get_or-append_seam, get_or-take, get_or-drop}
+use borrow.Rule.Slice.PartMut.{put_mid}
+use Rattle.std.proofs.lemmas.List.{get_or-append_right}
+use Rattle.std.proofs.lemmas.Slice.{put_mid-paste}
 use borrow.Author.Tests.{leb-true, lt-ltb, le-ltb, le-leb, lt-leb}
 use Rattle.model.specs.Lists.{tabulate, any}
 use Rattle.model.specs.Vectors.{equal}
@@ -20,11 +22,10 @@ use Rattle.model.specs.declared.Window.{Window}
 use Rattle.grid_laws.proofs.ListLaws.{length_tabulate, get_d_tabulate, tabulate_same}
 use Rattle.geometry.specs.Parts.{part, offset_at, Filled}
 use Rattle.geometry.proofs.PartLaws.{part_none, part_more, part_all, part_same, part_split}
-use Rattle.geometry.proofs.FillLaws.{filled_more, filled_all}
+use Rattle.geometry.proofs.FillLaws.{filled_all}
 use Rattle.windows.specs.Offsets.{offset_in, front}
 use Rattle.windows.proofs.OffsetLaws.{front_offset}
-use Rattle.pair_windows.specs.declared.Gathered.{Gathered}
-use Rattle.pair_windows.specs.Unions.{both_held, union_in, union_window, not_union_in, joined, offsets_in, entry_of, entries_of, Appended, gathered_of}
+use Rattle.pair_windows.specs.Unions.{both_held, union_in, not_union_in, joined, offsets_in, entry_of, entries_of, Appended, gathered_of}
 
 -- ---- what the arrays hold
 
@@ -44,18 +45,6 @@ module _ (dims n m : ℕ) where
       let p = (and-eq-true_iff (leb dims 4) (leb n 32 && leb m 32)).0 e in
       let q = (and-eq-true_iff (leb n 32) (leb m 32)).0 p.1 in
       record { dimensions = leb-true dims 4 p.0; first = leb-true n 32 q.0; second = leb-true m 32 q.1 }
-
-  pub many_dimensions : 4 < dims → false ≡ both_held dims n m
-  unfolding both_held
-  many_dimensions h = rw (lt-leb dims 4 h)
-
-  pub many_first : dims ≤ 4 → 32 < n → false ≡ both_held dims n m
-  unfolding both_held
-  many_first d h = rw (le-leb dims 4 d, lt-leb n 32 h)
-
-  pub by_second : dims ≤ 4 → n ≤ 32 → leb m 32 ≡ both_held dims n m
-  unfolding both_held
-  by_second d h = rw (le-leb dims 4 d, le-leb n 32 h)
 
 -- ---- one behind the other
 
@@ -108,16 +97,9 @@ any_append p (x ∷ xs) ys = go (p x) (any_append p xs ys)
 
 -- A member of two windows is one of the first or of the second.
 module _ (dims n m from : ℕ) (first second : List ℤ) (o : List ℤ) where
-  either : member (part (offsets_in dims n first second) from (n + m)) o ≡ member (part (offset_at dims first) from n) o || member (part (offset_at dims second) (from - n) m) o
+  pub either : member (part (offsets_in dims n first second) from (n + m)) o ≡ member (part (offset_at dims first) from n) o || member (part (offset_at dims second) (from - n) m) o
   unfolding member
   either = ap (any (equal o)) (joined_part n (offset_at dims first) (offset_at dims second) m from) ∙ any_append (equal o) (part (offset_at dims first) from n) (part (offset_at dims second) (from - n) m)
-
-  pub in_first : member (part (offset_at dims first) from n) o ≡ true → true ≡ member (part (offsets_in dims n first second) from (n + m)) o
-  in_first e = sym (either ∙ rw e)
-
-  pub not_in_first : (b : Bool) → member (part (offset_at dims first) from n) o ≡ false → b ≡ member (part (offset_at dims second) (from - n) m) o
-      → b ≡ member (part (offsets_in dims n first second) from (n + m)) o
-  not_in_first b e d = d ∙ sym (either ∙ rw e)
 
 -- ---- an offset more
 
@@ -163,25 +145,50 @@ module _ (os : List (List ℤ)) (o : List ℤ) where
   entered_all : (r : List ℤ) → Filled 128 (pos 0) (entry_of more) (4 * k + length o) r → r ≡ entries_of more
   entered_all r f = filled_all 128 (pos 0) (entry_of more) (entry_of more) (4 * k + length o) r (λ i l. refl) past_more f
 
--- The first d entries of an offset are entered behind k others.
-abbrev pub Entering : (to : List ℤ) (k : ℕ) (o : List ℤ) (d : ℕ) (r : List ℤ) → Type 0
-Entering to k o d r = (os : List (List ℤ)) → k ≡ length os → to ≡ entries_of os → Filled 128 (pos 0) (entry_of (os ++ (o ∷ []))) (4 * k + d) r
+-- A part written behind what is filled, which has f's entries there.
+filled_part : {A : Type 0} (size : ℕ) (rest : A) (f : ℕ → A) (n m : ℕ) (xs ys : List A) → n + m ≤ size → length ys ≡ m → ((d : ℕ) → d < m → get_or ys d rest ≡ f (n + d))
+    → Filled size rest f n xs → Filled size rest f (n + m) (paste xs n ys m)
+filled_part size rest f n m xs ys h e g r = record {
+  long = simp (length-append, length-take, length-drop) (omega (arith, r.long));
+  done = λ i l. front_is i l ∙ go i l (dec_lt i n);
+  left = λ i l.
+      get_or-append_right (take n xs ++ take m ys) (drop (n + m) xs) (n + m) i rest long l ∙ get_or-drop (n + m) xs (i - (n + m)) rest
+      ∙ r.left (n + m + (i - (n + m))) (omega arith);
+}
+  where
+    long : length (take n xs ++ take m ys) ≡ n + m
+    long = simp (length-append, length-take) (omega (arith, r.long))
 
-module _ (to : List ℤ) (k : ℕ) (o : List ℤ) where
-  pub appended_none : 32 ≤ k → Appended to to k o
-  appended_none h os n e = e ∙ no_room os o (omega arith)
+    first_long : length (take n xs) ≡ n
+    first_long = simp length-take (omega (arith, r.long))
 
-  module _ (h : k < 32) where
-    pub entering_none : Entering to k o 0 to
-    entering_none os n e = rw (e, n, add-zero (4 * length os)) (entered_none os o (omega arith))
+    front_is : (i : ℕ) → i < n + m → get_or (paste xs n ys m) i rest ≡ get_or (take n xs ++ take m ys) i rest
+    front_is i l = get_or-append (take n xs ++ take m ys) (drop (n + m) xs) rest i (omega (arith, long))
 
-    pub entering_more : (d : ℕ) (r : List ℤ) (x : ℤ) → d < 4 → x ≡ get_or o d (pos 0) → Entering to k o d r → Entering to k o (d + 1) (set r (4 * k + d) x)
-    entering_more d r x l q f os n e =
-        rw (← add_assoc (4 * k) d 1)
-        (filled_more 128 (pos 0) (entry_of (os ++ (o ∷ []))) (4 * k + d) r x (omega arith) (q ∙ at os o d l ∙ ap (λ (j : ℕ). entry_of (os ++ (o ∷ [])) (4 * j + d)) (sym n)) (f os n e))
+    go : (i : ℕ) → i < n + m → Dec (i < n) → get_or (take n xs ++ take m ys) i rest ≡ f i
+    go i l (yes b) = get_or-append (take n xs) (take m ys) rest i (omega (arith, first_long)) ∙ get_or-take n xs i rest b ∙ r.done i b
+    go i l (no b) =
+        get_or-append_right (take n xs) (take m ys) n i rest first_long (omega arith) ∙ get_or-take m ys (i - n) rest (omega arith) ∙ g (i - n) (omega arith)
+        ∙ ap f (omega arith)
 
-    pub entering_all : (r : List ℤ) → Entering to k o (length o) r → Appended r to k o
-    entering_all r f os n e = entered_all os o r (rw n at (f os n e))
+module _ (to : List ℤ) (k : ℕ) where
+  pub appended_none : (o : List ℤ) → 32 ≤ k → Appended to to k o
+  appended_none o h os n e = e ∙ no_room os o (omega arith)
+
+  -- The first entries of an offset p are written behind k others.
+  pub appended_one : (dims n : ℕ) (p ys : List ℤ) → k < 32 → dims ≤ 4 → n ≡ dims → length ys ≡ dims → ys ≡ take dims p → Appended (put_mid (4 * k) n to ys) to k (front dims p)
+  appended_one dims n p ys h few d long is os e q =
+      entered_all os o (put_mid (4 * k) n to ys)
+      (rw (length_tabulate dims (λ i. get_or p i (pos 0)), put_mid-paste (4 * k) n to ys ys dims refl (sym d) (sym long), e, q)
+      (filled_part 128 (pos 0) (entry_of (os ++ (o ∷ []))) (4 * length os) dims (entries_of os) ys (omega arith) long there (entered_none os o (omega arith))))
+    where
+      o : List ℤ
+      o = front dims p
+
+      there : (i : ℕ) → i < dims → get_or ys i (pos 0) ≡ entry_of (os ++ (o ∷ [])) (4 * length os + i)
+      there i l =
+          ap (λ (zs : List ℤ). get_or zs i (pos 0)) is ∙ get_or-take dims p i (pos 0) l ∙ sym (get_d_tabulate dims (λ i. get_or p i (pos 0)) i (pos 0) l)
+          ∙ at os o i (omega arith)
 
 -- ---- the offsets gathered
 
@@ -222,7 +229,7 @@ module _ {all : List (List ℤ)} (f : ℕ → List ℤ) (i n count : ℕ) (offse
   unfolding distinct
   gather_all h =
       let is : g.taken ≡ all = sym (append-nil g.taken) ∙ ap (λ (xs : List (List ℤ)). g.taken ++ distinct xs) (sym (part_none f i n h)) ∙ g.is in
-      ap₂ (λ (m : ℕ) (xs : List ℤ). let r : Gathered = record { count = m; offsets = xs } in r) g.counted g.entered ∙ ap gathered_of is
+      ap₂ (λ (m : ℕ) (xs : List ℤ). let r : Window = record { count = m; offsets = xs } in r) g.counted g.entered ∙ ap gathered_of is
 
 -- ---- the answers
 
@@ -271,17 +278,6 @@ module _ (dims : ℕ) (a b : Window) where
       pub exceeds_so : (x : Bool) → lacking ≡ false → x ≡ exceeding → x ≡ not_union_in dims c a b
       exceeds_so x l r = r ∙ ap (λ (y : Bool). y || exceeding) (sym l) ∙ is
 
--- The window of the union.
-pub window_many : (os : List (List ℤ)) (g : Gathered) → g ≡ gathered_of os → 32 < g.count → record { count = 0; offsets = replicate 128 (pos 0) } ≡ union_window os
-unfolding union_window
-window_many os g e h = rw (lt-leb (length os) 32 (omega (arith, ap (λ (x : Gathered). x.count) e)))
-
-pub window_few : (os : List (List ℤ)) (g : Gathered) → g ≡ gathered_of os → g.count ≤ 32 → record { count = g.count; offsets = g.offsets } ≡ union_window os
-unfolding union_window
-window_few os g e h =
-    ap (λ (x : Gathered). let w : Window = record { count = x.count; offsets = x.offsets } in w) e
-    ∙ rw (le-leb (length os) 32 (omega (arith, ap (λ (x : Gathered). x.count) e)))
-
 -- The answers where the arrays hold the windows of two sides.
 module _ (dims : ℕ) (x y : Side) (few : dims ≤ 4) (h : x.window.count ≤ 32) (k : y.window.count ≤ 32) where
   pub union_is : union_in dims x.window y.window ≡ union (own_of dims x) (own_of dims y)
@@ -291,3 +287,6 @@ module _ (dims : ℕ) (x y : Side) (few : dims ≤ 4) (h : x.window.count ≤ 32
   pub not_union_is : (c : Window) → c.count ≤ 32 → not_union_in dims c x.window y.window ≡ not_union (offsets_of dims c) (own_of dims x) (own_of dims y)
   unfolding not_union_in not_union own_of
   not_union_is c l = rw (le-leb c.count 32 l, is_held dims x.window.count y.window.count few h k)
+
+-- What is answered of two windows, by what the arrays hold.
+pub ruleset answers = (held_so, union_not_held, union_held, not_union_count, not_union_not_held, lacks_so, exceeds_so)

@@ -1,13 +1,12 @@
 -- What this crate's functions answer of two windows, on any value: the model's definitions where the arrays hold them, and a
 -- fixed answer elsewhere.
-use Rattle.std.specs.Prelude.{ℕ, ◌-◌, ◌/◌, ◌%◌, Bool, cond, ◌&&◌, List, [], ◌∷◌, ◌++◌, ◌≡◌, leb, ltb, ℤ, pos, length, get_or}
+use Rattle.std.specs.Prelude.{ℕ, ◌+◌, ◌-◌, ◌/◌, ◌%◌, Bool, cond, ◌&&◌, List, [], ◌∷◌, ◌++◌, ◌≡◌, leb, ltb, ℤ, pos, length, get_or}
 use Rattle.model.specs.Lists.{tabulate}
 use Rattle.model.specs.Values.{offsets_of, window_of, blank_window}
 use Rattle.model.specs.Pairs.{Own, own_of, union, not_union}
 use Rattle.model.specs.declared.Kernel.TheVariants as kernel
 use Rattle.model.specs.declared.Window.{Window}
-use Rattle.geometry.specs.Parts.{offset_at}
-use Rattle.pair_windows.specs.declared.Gathered.{Gathered}
+use Rattle.geometry.specs.Parts.{part, offset_at}
 
 -- The arrays have as many entries as the dimensions and the counts of two windows say.
 unfoldable pub both_held : (dims n m : ℕ) → Bool
@@ -40,6 +39,13 @@ joined n f g i = cond (ltb i n) (f i) (g (i - n))
 abbrev pub offsets_in : (dims n : ℕ) → (first second : List ℤ) → ℕ → List ℤ
 offsets_in dims n first second = joined n (offset_at dims first) (offset_at dims second)
 
+-- A window's offsets from reference `from` on, and those of two.
+abbrev pub from_on : (dims : ℕ) → Window → (from : ℕ) → List (List ℤ)
+from_on dims w from = part (offset_at dims w.offsets) from w.count
+
+abbrev pub both_from_on : (dims : ℕ) → (a b : Window) → (from : ℕ) → List (List ℤ)
+both_from_on dims a b from = part (offsets_in dims a.count a.offsets b.offsets) from (a.count + b.count)
+
 -- Entry i of an array of offsets, 0 past the last; and the array.
 abbrev pub entry_of : List (List ℤ) → ℕ → ℤ
 entry_of os i = get_or (get_or os (i / 4) []) (i % 4) (pos 0)
@@ -51,5 +57,6 @@ entries_of os = tabulate 128 (entry_of os)
 abbrev pub Appended : (r to : List ℤ) (k : ℕ) (o : List ℤ) → Type 0
 Appended r to k o = (os : List (List ℤ)) → k ≡ length os → to ≡ entries_of os → r ≡ entries_of (os ++ (o ∷ []))
 
-abbrev pub gathered_of : List (List ℤ) → Gathered
+-- The window of so many offsets, of which the array has the first 32.
+abbrev pub gathered_of : List (List ℤ) → Window
 gathered_of os = record { count = length os; offsets = entries_of os }

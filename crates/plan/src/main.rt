@@ -4,47 +4,33 @@
 
 ghost use Rattle.std.specs.Prelude.{◌≡◌, replicate};
 ghost use Rattle.model_sheet.specs.Frames.{row_numbers};
-ghost use Rattle.program_laws.specs.Loops.{TakenUnless, PlanDue};
+ghost use Rattle.program_laws.specs.Loops.{TakenIn, PlanDue};
 
-use model::{Arriving, BLOCK_PLACES, PLAN_TEXT_PLACES, ROW_NUMBERS, Verdict};
+use model::{Arriving, BLOCK_PLACES, PLAN_TEXT_PLACES, ROW_NUMBERS, Refusal};
 use std::io::{Read, Stdin};
 
-// The sheet as far as it was read; `failed` where a read failed.
-#[derive(Drop)]
-struct Received {
-    failed: bool,
-    arriving: Arriving,
-}
-
 // Reads block after block, to the end of the input or to the first line that is turned back; the numbers on the sheet's first
-// line go to `rows`.
-fn receive(input: &mut Stdin, block: &mut [u8], rows: &mut [u32]) -> Received
+// line go to `rows`. None where a read failed.
+fn receive(input: &mut Stdin, block: &mut [u8], rows: &mut [u32]) -> Option<Arriving>
     requires { rows.old ≡ replicate row_numbers 0 }
-    ensures { TakenUnless result.failed result.arriving rows.new }
+    ensures { TakenIn result rows.new }
 {
     let mut arriving = program_intake::open();
     // A loop has to end, and nothing says that the input does: no input has so many blocks.
     for _ in 0..u64::MAX {
         let Ok(len) = input.read(block) else {
-            return Received {
-                failed: true,
-                arriving,
-            };
+            return None;
         };
         if len == 0 {
             break;
         }
         arriving = program_intake::take_block(false, arriving, rows, &block[..len]);
-        let v = arriving.verdict;
-        match v {
-            Verdict::Accepted => {}
-            Verdict::Refused(_) => break,
+        match arriving.verdict {
+            Ok(()) => {}
+            Err(_) => break,
         }
     }
-    Received {
-        failed: false,
-        arriving,
-    }
+    Some(arriving)
 }
 
 // Writes the text that is due of this sheet and its rows.
@@ -59,11 +45,9 @@ fn main(rt: HostRuntime) {
     let mut block = [0u8; BLOCK_PLACES];
     let mut rows = [0u32; ROW_NUMBERS];
     let mut text = [0u8; PLAN_TEXT_PLACES];
-    let s = receive(&mut rt.stdin(), &mut block, &mut rows);
-    if s.failed {
+    let Some(arriving) = receive(&mut rt.stdin(), &mut block, &mut rows) else {
         return;
-    }
-    let arriving = s.arriving;
+    };
     let bytes = program_answer::plan_answer(arriving, &rows, &mut text);
     write_due(&rt, arriving, &rows, &text[..bytes]);
 }

@@ -16,9 +16,10 @@ use Rattle.model.specs.Steps.{sorted, distances}
 use Rattle.model.specs.declared.Bounds.{Bounds}
 use Rattle.model.specs.declared.Grid.{Grid}
 use Rattle.model.specs.declared.Window.{Window}
-use Rattle.model.specs.declared.Verdict.TheVariants as verdict
+use Rattle.std.specs.Prelude.{Ok}
 use Rattle.grid_laws.proofs.ListLaws.{length_tabulate, get_d_tabulate}
 use Rattle.grid_laws.proofs.ChainLaws.{ground_flat, on_flat}
+use Rattle.grid_laws.proofs.CheckLaws.{answer_back}
 use Rattle.grid_laws.proofs.SortLaws.{falling_each, falling_no_other}
 use Rattle.grid_laws.proofs.Iterations.{falls, same_distance}
 use Rattle.grid_laws.proofs.SameWindows.{same_iteration}
@@ -30,7 +31,7 @@ use Rattle.shape.specs.declared.Survey.{Survey}
 use Rattle.plan_steps.specs.Order.{Ordered, FirstPositions}
 use Rattle.plan_steps.proofs.HeldLaws.{holds_at}
 
-module _ (g : Grid) (flat : g.skewed ≡ false) (w : Window) (x : Bounds) (e : judge_window g [] w x ≡ verdict.Accepted) (at : List ℕ) (first : FirstPositions g w x at)
+module _ (g : Grid) (flat : g.skewed ≡ false) (w : Window) (x : Bounds) (e : judge_window g [] w x ≡ Ok tt) (at : List ℕ) (first : FirstPositions g w x at)
     (order : List ℕ) (r : Ordered (dims_of g) w.count w.offsets 0 order) where
   abbrev arranged : Trimmed
   arranged = sorted (on_grid g [] w x)
@@ -78,8 +79,7 @@ module _ (g : Grid) (flat : g.skewed ≡ false) (w : Window) (x : Bounds) (e : j
       past k h = get_or-eq_default (distances (sorted (on_grid g [] w x))) 0 (rw length_tabulate h)
 
 -- The positions of the first iteration, as the survey of a window finds them.
-pub first_positions : (g : Grid) → g.skewed ≡ false → (w : Window) (x : Bounds) → judge_rectangle g w x ≡ verdict.Accepted → w.count ≤ 32 → (s : Survey) → s ≡ survey_of g w x
-    → FirstPositions g w x s.shape.at
+pub first_positions : (g : Grid) → g.skewed ≡ false → (w : Window) (x : Bounds) → w.count ≤ 32 → (s : Survey) → survey_of g w x ≡ Ok s → FirstPositions g w x s.shape.at
 unfolding survey_of shape_for reads_of position_of iteration_of
-first_positions g flat w x e few s d k h =
-    ap (λ (t : Survey). number_at t.shape.at k) (rw e at d) ∙ get_d_tabulate 32 _ k 0 (omega arith) ∙ ap (λ (t : Trimmed). reads_of t 0 k) (sym (on_flat g flat [] w x))
+first_positions g flat w x few s d k h =
+    ap (λ (t : Survey). number_at t.shape.at k) (answer_back (judge_rectangle g w x) _ s d) ∙ get_d_tabulate 32 _ k 0 (omega arith) ∙ ap (λ (t : Trimmed). reads_of t 0 k) (sym (on_flat g flat [] w x))

@@ -12,14 +12,14 @@ use Rattle.model.specs.Steps.{falling, sorted, distances}
 use Rattle.model.specs.declared.Bounds.{Bounds}
 use Rattle.model.specs.declared.Grid.{Grid}
 use Rattle.model.specs.declared.Window.{Window}
-use Rattle.model.specs.declared.Verdict.TheVariants as verdict
+use Rattle.std.specs.Prelude.{Ok}
 use Rattle.grid_laws.proofs.ListLaws.{length_tabulate, get_d_tabulate}
 use Rattle.grid_laws.proofs.ChainLaws.{dims_skewed}
 use Rattle.grid_laws.proofs.StepLaws.{arranged_judged, arranged_back, arranged_falls}
 use Rattle.geometry.specs.Parts.{Filled}
 use Rattle.geometry.proofs.FillLaws.{filled_all}
 
-module _ (g : Grid) (skewed : g.skewed ≡ true) (rows : List ℕ) (w : Window) (x : Bounds) (e : judge_window g rows w x ≡ verdict.Accepted) where
+module _ (g : Grid) (skewed : g.skewed ≡ true) (rows : List ℕ) (w : Window) (x : Bounds) (e : judge_window g rows w x ≡ Ok tt) where
   abbrev arranged : Trimmed
   arranged = sorted (on_grid g rows w x)
 
@@ -31,7 +31,7 @@ module _ (g : Grid) (skewed : g.skewed ≡ true) (rows : List ℕ) (w : Window) 
   offsets_are =
       subst (λ (n : ℕ). offsets_of n (window_of w.count (falling (offsets_of n w))) ≡ falling (offsets_of n w)) (dims_skewed g skewed) (arranged_back g rows w x e)
 
-  pub sorted_judged : judge_rows g.rows rows sorted_window x ≡ verdict.Accepted
+  pub sorted_judged : judge_rows g.rows rows sorted_window x ≡ Ok tt
   unfolding window_checks sorted ground_of dims_of
   sorted_judged = rw offsets_are (rw skewed at (arranged_judged g rows w x e))
 

@@ -11,9 +11,8 @@ use Rattle.model.specs.Judging.{bad_count, judge_window}
 use Rattle.model.specs.Steps.{falling, authors_order, sorted, distances, total, steps_of}
 use Rattle.model.specs.declared.Bounds.{Bounds}
 use Rattle.model.specs.declared.Grid.{Grid}
-use Rattle.model.specs.declared.Steps.{Steps}
 use Rattle.model.specs.declared.Window.{Window}
-use Rattle.model.specs.declared.Verdict.TheVariants as verdict
+use Rattle.std.specs.Prelude.{Ok}
 use Rattle.grid_laws.proofs.ChainLaws.{ground_dims, offsets_count}
 use Rattle.grid_laws.proofs.TermLaws.{length_authors}
 use Rattle.grid_laws.proofs.CheckLaws.{few_dims, few_references}
@@ -29,7 +28,7 @@ pub total_in_lem : (count : ℕ) (sizes : List ℕ) → bad_count count ≡ fals
 unfolding total_in
 total_in_lem count sizes e = rw e
 
-module _ (g : Grid) (rows : List ℕ) (w : Window) (x : Bounds) (e : judge_window g rows w x ≡ verdict.Accepted) where
+module _ (g : Grid) (rows : List ℕ) (w : Window) (x : Bounds) (e : judge_window g rows w x ≡ Ok tt) where
   pub few : w.count ≤ 32
   few = few_references w.count (passed g rows w x e).count
 
@@ -54,12 +53,11 @@ module _ (g : Grid) (rows : List ℕ) (w : Window) (x : Bounds) (e : judge_windo
           ∙ (ap (λ (ys : List ℕ). sum (tabulate (w.count - 1) (number_at ys))) distances_are ∙ ap sum (distances_back g rows w x e))
 
       pub taken_from : (ws : Window) (fs : List ℕ) (t : ℕ) → ws ≡ window_of w.count (falling (offsets_of (dims_of g) w)) → HeldBy w.count order fs → t ≡ total_in w.count xs
-          → ◌≡◌ {A = Steps} (record { verdict = verdict.Accepted; window = ws; filters = fs; distances = xs; total = t }) (steps_of g rows w x)
+          → Ok (record { window = ws; filters = fs; distances = xs; total = t }) ≡ steps_of g rows w x
       taken_from ws fs t a held d =
-          (λ i. record {
-            verdict = verdict.Accepted;
+          (λ i. Ok (record {
             window = a i;
             filters = filters_are fs held i;
             distances = distances_are i;
             total = (d ∙ total_is) i;
-          }) ∙ sym (steps_taken g rows w x e)
+          })) ∙ sym (steps_taken g rows w x e)

@@ -9,11 +9,9 @@ fn in_order(at: &[u32; 32], order: &[usize; 32], n: usize) -> [u32; 32]
     ensures { Filled 32 0 (λ k. number_at at.now (number_at order.now k)) n result }
 {
     let mut r = [0u32; 32];
-    let mut k: usize = 0;
-    while k < n {
+    for k in 0..n {
         let t = order[k];
         r[k] = at[t];
-        k += 1;
     }
     r
 }
@@ -23,12 +21,9 @@ fn differences(at: &[u32; 32], n: usize) -> [u32; 31]
     requires { (0 < n) × (n ≤ 32) × ((k : ℕ) → k + 1 < n → number_at at.now (k + 1) ≤ number_at at.now k) }
     ensures { Filled 31 0 (λ k. number_at at.now k - number_at at.now (k + 1)) (n - 1) result }
 {
-    let last = n - 1;
     let mut r = [0u32; 31];
-    let mut k: usize = 0;
-    while k < last {
+    for k in 0..n - 1 {
         r[k] = at[k] - at[k + 1];
-        k += 1;
     }
     r
 }

@@ -2,33 +2,29 @@
 use Prim.Native.Nat.{ℕ, ◌≤◌}
 use mathlib.Core.Bool.{Bool, true, false, cond}
 use mathlib.Core.List.{List, []}
-use mathlib.Core.Path.{◌≡◌, refl, sym, ◌∙◌, ap}
+use mathlib.Core.Path.{◌≡◌, sym, ◌∙◌, ap}
 use lib.IntN.{ℤ, pos}
 use lib.ListN.{get_or, replicate, get_or-eq_default}
 use Rattle.model.specs.Lists.{tabulate}
-use Rattle.model.specs.Values.{sizes_of, ground_of, dims_of, offsets_of, part_of, on_grid, index_array, no_bounds, bounds_of, size_array, normal_grid}
-use Rattle.model.specs.Answers.{by_verdict}
-use Rattle.model.specs.Judging.{centred, judge_window, judge_behind}
+use Rattle.model.specs.Values.{sizes_of, ground_of, dims_of, part_of, on_grid, index_array, no_bounds, bounds_of, size_array, normal_grid}
+use Rattle.model.specs.Judging.{judge_window, judge_behind}
 use Rattle.model.specs.Steps.{steps_of}
-use Rattle.model.specs.Planning.{judge_request, planned_chain, plan_of, chain_by}
+use Rattle.model.specs.Planning.{judge_request, plan_of, chain_by}
 use Rattle.model.specs.declared.Bounds.{Bounds}
 use Rattle.model.specs.declared.Chain.{Chain}
 use Rattle.model.specs.declared.Grid.{Grid}
-use Rattle.model.specs.declared.Planned.{Planned}
 use Rattle.model.specs.declared.Refusal.{Refusal}
 use Rattle.model.specs.declared.Request.{Request}
 use Rattle.model.specs.declared.Steps.{Steps}
-use Rattle.model.specs.declared.Verdict.{Verdict}
-use Rattle.model.specs.declared.Verdict.TheVariants as verdict
+use Rattle.std.specs.Prelude.{Ok, Err}
 use Rattle.grid_laws.proofs.ListLaws.{length_tabulate, get_d_tabulate}
 use Rattle.grid_laws.proofs.ChainLaws.{ground_dims}
 use Rattle.grid_laws.proofs.CheckLaws.{WindowPasses, few_dims, few_references}
-use Rattle.grid_laws.proofs.StepLaws.{steps_verdict, passed, judged_by_steps, request_passes, chain_by_steps}
+use Rattle.grid_laws.proofs.StepLaws.{steps_passed, steps_given, passed, judged_by_steps, plan_taken, chain_by_steps}
 use Rattle.geometry.specs.Parts.{number_at, Filled}
 use Rattle.windows.specs.Windows.{has_centre}
 use Rattle.geometry.proofs.FillLaws.{filled_all}
 use Rattle.windows.proofs.OffsetLaws.{has_centre_is}
-use Rattle.planner.specs.Plans.{refused_plan}
 
 -- The sizes with 0 past the last.
 sizes_are : (g : Grid) (ys : List ℕ) → Filled 4 0 (number_at g.sizes) g.dims ys → ys ≡ size_array (sizes_of g)
@@ -62,39 +58,38 @@ pub skewed_grid_lem : (g : Grid) → g.skewed ≡ true → record { skewed = tru
 unfolding dims_of tabulate
 skewed_grid_lem g skewed = rw skewed
 
-module _ (r : Request) (rows : List ℕ) (s : Steps) (d : s ≡ steps_of r.grid rows r.window r.bounds) where
-  -- What is found before the steps, then 7 and 8, then 9 by their total.
-  abbrev judged : Verdict
-  judged = by_verdict s.verdict (judge_behind r.kernel (has_centre (dims_of r.grid) r.window) s.total) verdict.Refused
+-- Of the steps' refusal, of judging's, and of neither.
+module _ (r : Request) (rows : List ℕ) where
+  steps-refused : (x : Refusal) → steps_of r.grid rows r.window r.bounds ≡ Err x → judge_request r rows ≡ Err x
+  steps-refused x e = judged_by_steps r rows ∙ rw e
 
-  found : s.verdict ≡ judge_window r.grid rows r.window r.bounds
-  found = ap (λ (t : Steps). t.verdict) d ∙ steps_verdict r.grid rows r.window r.bounds
+  pub request_refused : (x : Refusal) → steps_of r.grid rows r.window r.bounds ≡ Err x → Err x ≡ judge_request r rows
+  request_refused x e = sym (steps-refused x e)
 
-  low : WindowPasses (on_grid r.grid rows r.window r.bounds) → dims_of r.grid ≤ 4
-  low p = few_dims (dims_of r.grid) (ground_of r.grid rows) (ground_dims r.grid rows) p.grid
-
-  pub verdict_is : judged ≡ judge_request r rows
-  verdict_is = go s.verdict refl ∙ ap (λ (t : Steps). by_verdict t.verdict (judge_behind r.kernel (centred (offsets_of (dims_of r.grid) r.window)) t.total) verdict.Refused) d ∙ sym (judged_by_steps r rows)
-    where
-      go : (v : Verdict) → s.verdict ≡ v → judged ≡ by_verdict s.verdict (judge_behind r.kernel (centred (offsets_of (dims_of r.grid) r.window)) s.total) verdict.Refused
-      go verdict.Accepted e =
-          let p = passed r.grid rows r.window r.bounds (sym found ∙ e) in
-          ap (λ (b : Bool). by_verdict s.verdict (judge_behind r.kernel b s.total) verdict.Refused) (has_centre_is (dims_of r.grid) r.window (low p) (few_references r.window.count p.count))
-      go (verdict.Refused x) e = rw e
-
-  pub refused_plan_lem : (x : Refusal) → judged ≡ verdict.Refused x → refused_plan x ≡ plan_of r rows
+  pub plan_refused : (x : Refusal) → judge_request r rows ≡ Err x → Err x ≡ plan_of r rows
   unfolding plan_of
-  refused_plan_lem x e = sym (rw (sym verdict_is ∙ e))
+  plan_refused x e = sym (rw e)
 
-  module _ (e : judged ≡ verdict.Accepted) where
-    let_pass : judge_window r.grid rows r.window r.bounds ≡ verdict.Accepted
-    let_pass = request_passes r rows (sym verdict_is ∙ e)
+  pub plan_unstepped : (x : Refusal) → steps_of r.grid rows r.window r.bounds ≡ Err x → Err x ≡ plan_of r rows
+  plan_unstepped x e = plan_refused x (steps-refused x e)
+
+  module _ (s : Steps) (d : steps_of r.grid rows r.window r.bounds ≡ Ok s) where
+    let_pass : judge_window r.grid rows r.window r.bounds ≡ Ok tt
+    let_pass = steps_passed r.grid rows r.window r.bounds s d
+
+    passes : WindowPasses (on_grid r.grid rows r.window r.bounds)
+    passes = passed r.grid rows r.window r.bounds let_pass
 
     pub few_dimensions : dims_of r.grid ≤ 4
-    few_dimensions = low (passed r.grid rows r.window r.bounds let_pass)
+    few_dimensions = few_dims (dims_of r.grid) (ground_of r.grid rows) (ground_dims r.grid rows) passes.grid
 
-    pub planned_by : (c : Chain) → c ≡ chain_by r.grid r.bounds r.kernel s → ◌≡◌ {A = Planned} (record { verdict = verdict.Accepted; chain = c }) (plan_of r rows)
-    unfolding plan_of
-    planned_by c f =
-        ap (λ (c : Chain). record { verdict = verdict.Accepted; chain = c }) (f ∙ ap (chain_by r.grid r.bounds r.kernel) d ∙ sym (chain_by_steps r rows let_pass))
-        ∙ ap (λ (v : Verdict). by_verdict v (record { verdict = verdict.Accepted; chain = planned_chain r rows }) (λ x. refused_plan x)) (sym e ∙ verdict_is)
+    -- What judging answers behind the steps.
+    pub verdict_is : judge_behind r.kernel (has_centre (dims_of r.grid) r.window) s.total ≡ judge_request r rows
+    verdict_is =
+        ap (λ (b : Bool). judge_behind r.kernel b s.total) (has_centre_is (dims_of r.grid) r.window few_dimensions (few_references r.window.count passes.count))
+        ∙ sym (judged_by_steps r rows ∙ rw d)
+
+    pub planned_by : judge_request r rows ≡ Ok tt → (c : Chain) → c ≡ chain_by r.grid r.bounds r.kernel s → Ok c ≡ plan_of r rows
+    planned_by e c f =
+        ap Ok (f ∙ ap (chain_by r.grid r.bounds r.kernel) (steps_given r.grid rows r.window r.bounds let_pass s d) ∙ sym (chain_by_steps r rows let_pass))
+        ∙ sym (plan_taken r rows e)

@@ -1,21 +1,20 @@
 -- What `plan` writes at the end of its input, by the verdict there.
 use Prim.Native.Nat.{ℕ}
-use mathlib.Core.Bool.{Bool, true, false}
+use mathlib.Core.Bool.{Bool, true, false, cond}
 use mathlib.Core.List.{List}
 use mathlib.Core.Path.{◌≡◌, refl, sym, ap, ◌∙◌}
+use native.Mathlib.Omega.{arith}
 use lib.Dec.{ltb}
 use lib.ListN.{length}
+use Rattle.std.specs.Prelude.{Result, Ok, Err}
+use Rattle.std.specs.Result.{result_unwrap_or}
 use Rattle.model.specs.declared.Arriving.{Arriving}
 use Rattle.model.specs.declared.Chain.{Chain}
 use Rattle.model.specs.declared.LineStep.{LineStep}
-use Rattle.model.specs.declared.Planned.{Planned}
 use Rattle.model.specs.declared.Refusal.{Refusal}
 use Rattle.model.specs.declared.Refusal.TheVariants as refusal
 use Rattle.model.specs.declared.Request.{Request}
-use Rattle.model.specs.declared.Verdict.{Verdict}
-use Rattle.model.specs.declared.Verdict.TheVariants as verdict
-use Rattle.model.specs.declared.Wrote.{Wrote}
-use Rattle.model.specs.Answers.{first_of}
+use Rattle.model.specs.Answers.{Verdict, by_verdict, by_answer, first_of}
 use Rattle.model_sheet.specs.Arriving.{finished}
 use Rattle.model.specs.Judging.{judge_chain}
 use Rattle.model.specs.Planning.{judge_request, planned_chain, plan_of}
@@ -26,63 +25,70 @@ use Rattle.model_sheet.specs.Writing.{Written, sheet_of, write_verdict, write_of
 use Rattle.sheet_writer.specs.Laying.{written}
 use Rattle.program_writer.specs.Texts.{laid, laid_over, laid_if_fits}
 use Rattle.run_laws.proofs.Plans.{plan_accepted}
-use Rattle.program_answer.specs.Answer.{plan_answer}
+use Rattle.program_answer.specs.Answer.{planned_of, plan_answer}
 
--- What planning answers is the request's verdict.
-module _ (r : Request) (rows : List ℕ) where
-  plan_verdict_lem : (plan_of r rows).verdict ≡ judge_request r rows
-  unfolding plan_of
-  plan_verdict_lem = go (judge_request r rows) refl
+module _ (a : Arriving) (rows : List ℕ) where
+  module _ (s : LineStep) (f : s ≡ finished a) where
+    pub lines_refused : (x : Refusal) → s.verdict ≡ Err x → Err x ≡ planned_of a rows
+    unfolding planned_of end_verdict
+    lines_refused x e = rw (sym f, e)
+
+    module _ (e : s.verdict ≡ Ok tt) where
+      pub lines_missing : complete s.reading ≡ false → Err refusal.Misplaced ≡ planned_of a rows
+      unfolding planned_of end_verdict
+      lines_missing n = rw (sym f, e, n)
+
+      pub lines_planned : complete s.reading ≡ true → (r : Request) → r ≡ request_of s.reading.chain → plan_of r rows ≡ planned_of a rows
+      unfolding planned_of plan_of end_verdict
+      lines_planned l r q = rw (sym f, e, l, q)
+
+  -- The text is that of what was planned.
+  text_planned : (p : Result Chain Refusal) → planned_of a rows ≡ p → by_answer p (λ c. sheet_of c rows) refusal_text ≡ plan_answer a rows
+  unfolding planned_of plan_answer
+  text_planned p d = rw (← d) (go (end_verdict (finished a) (judge_request (request_of (finished a).reading.chain) rows)))
     where
-      go : (v : Verdict) → judge_request r rows ≡ v → (plan_of r rows).verdict ≡ v
-      go verdict.Accepted e = rw e
-      go (verdict.Refused x) e = rw e
+      chain : Chain
+      chain = planned_chain (request_of (finished a).reading.chain) rows
 
-  plan_chain : judge_request r rows ≡ verdict.Accepted → (plan_of r rows).chain ≡ planned_chain r rows
-  unfolding plan_of
-  plan_chain e = rw e
+      go : (v : Verdict) → by_answer (by_verdict {A = Result Chain Refusal} v (Ok chain) Err) (λ c. sheet_of c rows) refusal_text ≡ by_verdict v (sheet_of chain rows) refusal_text
+      go (Ok _) = refl
+      go (Err x) = refl
 
--- An accepted chain written.
-fits_or_not : (c : Chain) (rows text : List ℕ) → judge_chain c rows ≡ verdict.Accepted
-    → laid (write_of c rows text).answer.bytes (write_of c rows text).output ≡ laid_if_fits (sheet_of c rows) text
+  -- A chain that is planned is accepted.
+  planned_accepted : (c : Chain) → planned_of a rows ≡ Ok c → judge_chain c rows ≡ Ok tt
+  unfolding planned_of end_verdict
+  planned_accepted c h = go (finished a).verdict (complete (finished a).reading) (judge_request asked rows) refl h
+    where
+      asked : Request
+      asked = request_of (finished a).reading.chain
+
+      go : (v : Verdict) (b : Bool) (w : Verdict) → judge_request asked rows ≡ w
+          → by_verdict {A = Result Chain Refusal} (by_verdict v (cond b w (Err refusal.Misplaced)) Err) (Ok (planned_chain asked rows)) Err ≡ Ok c → judge_chain c rows ≡ Ok tt
+      go (Err x) b w e q = absurd (let z : ◌≡◌ {A = ℕ} 0 1 = cc in omega arith)
+      go (Ok _) false w e q = absurd (let z : ◌≡◌ {A = ℕ} 0 1 = cc in omega arith)
+      go (Ok _) true (Err x) e q = absurd (let z : ◌≡◌ {A = ℕ} 0 1 = cc in omega arith)
+      go (Ok _) true (Ok _) e q = let same : c ≡ planned_chain asked rows = cc in rw same (plan_accepted asked rows e)
+
+-- An accepted chain written, where there is room.
+fits_or_not : (c : Chain) (rows text after : List ℕ) (w : Result ℕ Refusal) → judge_chain c rows ≡ Ok tt → written w after ≡ write_of c rows text
+    → laid (result_unwrap_or w 0) after ≡ laid_if_fits (sheet_of c rows) text
 unfolding write_of write_verdict first_of laid_if_fits laid_over
-fits_or_not c rows text e = go (ltb (length text) (length (sheet_of c rows))) refl
+fits_or_not c rows text after w e d =
+    ap (λ (x : Written). laid (result_unwrap_or x.answer 0) x.output) d ∙ go (ltb (length text) (length (sheet_of c rows))) refl
   where
     go : (b : Bool) → ltb (length text) (length (sheet_of c rows)) ≡ b
-        → laid (write_of c rows text).answer.bytes (write_of c rows text).output ≡ laid_if_fits (sheet_of c rows) text
+        → laid (result_unwrap_or (write_of c rows text).answer 0) (write_of c rows text).output ≡ laid_if_fits (sheet_of c rows) text
     go true d = rw (e, d)
     go false d = rw (e, d)
 
-module _ (a : Arriving) (rows text after : List ℕ) (bytes : ℕ) (s : LineStep) (f : s ≡ finished a) where
+module _ (a : Arriving) (rows text after : List ℕ) (bytes : ℕ) where
   -- What was laid is the answer.
-  abbrev Answers : ℕ → Type 0
-  Answers n = laid n after ≡ laid_if_fits (plan_answer a rows) text
+  abbrev Answers : Type 0
+  Answers = laid bytes after ≡ laid_if_fits (plan_answer a rows) text
 
-  pub lines_refused : (x : Refusal) → s.verdict ≡ verdict.Refused x → laid bytes after ≡ laid_if_fits (refusal_text x) text → Answers bytes
-  unfolding plan_answer end_verdict
-  lines_refused x e w = rw (sym f, e) w
+  pub plan_refused : (x : Refusal) → planned_of a rows ≡ Err x → laid bytes after ≡ laid_if_fits (refusal_text x) text → Answers
+  plan_refused x d e = e ∙ ap (λ (t : List ℕ). laid_if_fits t text) (text_planned a rows (Err x) d)
 
-  module _ (e : s.verdict ≡ verdict.Accepted) where
-    pub lines_missing : complete s.reading ≡ false → laid bytes after ≡ laid_if_fits (refusal_text refusal.Misplaced) text → Answers bytes
-    unfolding plan_answer end_verdict
-    lines_missing n w = rw (sym f, e, n) w
-
-    module _ (l : complete s.reading ≡ true) (r : Request) (q : r ≡ request_of s.reading.chain) (p : Planned) (d : p ≡ plan_of r rows) where
-      judged : (v : Verdict) → p.verdict ≡ v → judge_request (request_of s.reading.chain) rows ≡ v
-      judged v h =
-          ap (λ (x : Request). judge_request x rows) (sym q) ∙ sym (plan_verdict_lem r rows) ∙ ap (λ (x : Planned). x.verdict) (sym d) ∙ h
-
-      pub plan_refused : (x : Refusal) → p.verdict ≡ verdict.Refused x → laid bytes after ≡ laid_if_fits (refusal_text x) text → Answers bytes
-      unfolding plan_answer end_verdict
-      plan_refused x h w = let j = judged (verdict.Refused x) h in rw (sym f, e, l, j) w
-
-      pub plan_written : (w : Wrote) → p.verdict ≡ verdict.Accepted → written w after ≡ write_of p.chain rows text → Answers w.bytes
-      unfolding plan_answer end_verdict
-      plan_written w h o =
-          let j = judged verdict.Accepted h in
-          let i : judge_request r rows ≡ verdict.Accepted = ap (λ (x : Request). judge_request x rows) q ∙ j in
-          let c : p.chain ≡ planned_chain r rows = ap (λ (x : Planned). x.chain) d ∙ plan_chain r rows i in
-          let ok : judge_chain p.chain rows ≡ verdict.Accepted = ap (λ (x : Planned). judge_chain x.chain rows) d ∙ plan_accepted r rows i in
-          let t : laid w.bytes after ≡ laid_if_fits (sheet_of p.chain rows) text =
-          ap (λ (x : Written). laid x.answer.bytes x.output) o ∙ fits_or_not p.chain rows text ok in
-          rw (sym f, e, l, j) (t ∙ ap (λ x. laid_if_fits (sheet_of x rows) text) (c ∙ ap (λ (x : Request). planned_chain x rows) q))
+  pub plan_written : (c : Chain) → planned_of a rows ≡ Ok c → (w : Result ℕ Refusal) → written w after ≡ write_of c rows text → bytes ≡ result_unwrap_or w 0 → Answers
+  plan_written c d w e n =
+      rw n (fits_or_not c rows text after w (planned_accepted a rows c d) e ∙ ap (λ (t : List ℕ). laid_if_fits t text) (text_planned a rows (Ok c) d))

@@ -9,7 +9,7 @@ use borrow.Author.Tests.{eq-eqb, ne_eqb}
 use Rattle.model.specs.declared.CellLine.{CellLine}
 use Rattle.model.specs.declared.Frame.{Frame}
 use Rattle.model.specs.declared.Refusal.{Refusal}
-use Rattle.model.specs.declared.Verdict.TheVariants as verdict
+use Rattle.std.specs.Prelude.{Ok, Err}
 use Rattle.model_sheet.specs.Lines.{line_feed, line_of}
 use Rattle.model_sheet.specs.Frames.{empty_frame, fed, feeds, shown}
 use Rattle.model_sheet.specs.Reading.{cell_verdict, cell_in}
@@ -19,10 +19,10 @@ use Rattle.program_intake.specs.Taken.{started}
 use Rattle.program_intake.proofs.PieceLaws.{ends_behind, open_behind, ends_here, started_none, started_some}
 
 abbrev pub mid_line : Frame → Bool → CellLine
-mid_line f begun = record { verdict = verdict.Accepted; frame = f; begun = begun }
+mid_line f begun = record { verdict = Ok tt; frame = f; begun = begun }
 
 abbrev pub turned_line : Refusal → CellLine
-turned_line x = record { verdict = verdict.Refused x; frame = empty_frame; begun = false }
+turned_line x = record { verdict = Err x; frame = empty_frame; begun = false }
 
 abbrev pub no_cell : CellLine → ℕ → CellsRead
 no_cell l looked = record { cells = []; line = l; looked = looked }
@@ -49,7 +49,7 @@ cell_line_open room (c ∷ cs) f begun h =
     ∙ ap (λ b. no_cell (mid_line (feeds (fed f c) (line_of cs)) b) (suc (length (line_of cs)))) (started_some begun (length (line_of cs)))))
 
 pub cell_line_refused : (room : ℕ) (x : Refusal) (s : List ℕ) (f : Frame) (begun : Bool) → length (line_of s) < length s
-    → cell_verdict (shown (feeds f (line_of s))) ≡ verdict.Refused x
+    → cell_verdict (shown (feeds f (line_of s))) ≡ Err x
     → read_cells (suc room) (mid_line f begun) s ≡ no_cell (turned_line x) (suc (length (line_of s)))
 unfolding read_cells line_of feeds
 cell_line_refused room x [] f begun h v = absurd (omega arith)
@@ -60,7 +60,7 @@ cell_line_refused room x (c ∷ cs) f begun h v =
     rw (ne_eqb _ _ n) (ap one_more (cell_line_refused room x cs (fed f c) true (ends_behind c cs n h) t)))
 
 pub cell_line_accepted : (room : ℕ) (s : List ℕ) (f : Frame) (begun : Bool) → length (line_of s) < length s
-    → cell_verdict (shown (feeds f (line_of s))) ≡ verdict.Accepted
+    → cell_verdict (shown (feeds f (line_of s))) ≡ Ok tt
     → read_cells (suc room) (mid_line f begun) s
     ≡ one_cell (cell_in (shown (feeds f (line_of s)))) (length (line_of s)) (read_cells room new_line (drop (suc (length (line_of s))) s))
 unfolding read_cells line_of feeds
@@ -75,7 +75,7 @@ cell_line_accepted room (c ∷ cs) f begun h v =
     (ap one_more (cell_line_accepted room cs (fed f c) true (ends_behind c cs n h) t) ∙ alike _ r _ _ (omega arith)))
 
 -- After a line that was turned back.
-pub none_refused : (room : ℕ) (l : CellLine) (s : List ℕ) (x : Refusal) → l.verdict ≡ verdict.Refused x → read_cells room l s ≡ none l
+pub none_refused : (room : ℕ) (l : CellLine) (s : List ℕ) (x : Refusal) → l.verdict ≡ Err x → read_cells room l s ≡ none l
 unfolding read_cells
 none_refused zero l s x e = refl
 none_refused (suc room) l [] x e = refl

@@ -11,8 +11,8 @@ use lib.Seq.{drop-drop, take-suc-set, drop-set-lt}
 use Rattle.model.specs.declared.CellLine.{CellLine}
 use Rattle.model.specs.declared.Frame.{Frame}
 use Rattle.model.specs.declared.Refusal.{Refusal}
-use Rattle.model.specs.declared.Verdict.{Verdict}
-use Rattle.model.specs.declared.Verdict.TheVariants as verdict
+use Rattle.std.specs.Prelude.{Ok, Err}
+use Rattle.model.specs.Answers.{Verdict}
 use Rattle.model_sheet.specs.Lines.{line_of}
 use Rattle.model_sheet.specs.Numbers.{word_at}
 use Rattle.model_sheet.specs.Frames.{empty_frame, feeds, shown}
@@ -47,7 +47,7 @@ abbrev pub left_of : Frame → Bool → (block : List ℕ) → (p count : ℕ) �
 left_of f begun block p count cells = laid p count cells (read_cells (length cells - count) (mid_line f begun) (drop p block))
 
 -- At the start it is all.
-pub left_all_lem : (l : CellLine) (block : List ℕ) (at : ℕ) (cells : List ℕ) → l.verdict ≡ verdict.Accepted
+pub left_all_lem : (l : CellLine) (block : List ℕ) (at : ℕ) (cells : List ℕ) → l.verdict ≡ Ok tt
     → left_of l.frame l.begun block at 0 cells ≡ cells_taken l block at cells
 unfolding cells_taken
 left_all_lem l block at cells e =
@@ -96,8 +96,8 @@ module _ (f : Frame) (begun : Bool) (block : List ℕ) (p count : ℕ) (cells : 
       ended : length (line_of rest) < length rest
       ended = omega (arith, ap length is, length-drop p block)
 
-      pub room_refused : (v : Verdict) → v ≡ cell_verdict (shown g) → (x : Refusal) → v ≡ verdict.Refused x → (e : Frame) → e ≡ empty_frame
-          → took (record { line = record { verdict = verdict.Refused x; frame = e; begun = false }; at = p + length piece + 1; count = count }) cells
+      pub room_refused : (v : Verdict) → v ≡ cell_verdict (shown g) → (x : Refusal) → v ≡ Err x → (e : Frame) → e ≡ empty_frame
+          → took (record { line = record { verdict = Err x; frame = e; begun = false }; at = p + length piece + 1; count = count }) cells
           ≡ left_of f begun block p count cells
       room_refused v vs x t e q =
           let turned = ap (λ k. cell_verdict (shown k)) (sym grown) ∙ sym vs ∙ t in
@@ -105,7 +105,7 @@ module _ (f : Frame) (begun : Bool) (block : List ℕ) (p count : ℕ) (cells : 
           rw (q, n)
           (laid_none p count cells (turned_line x) _ ∙ read _ (cell_line_refused left x rest f begun ended turned))
 
-      pub room_accepted : (v : Verdict) → v ≡ cell_verdict (shown g) → v ≡ verdict.Accepted → (e : Frame) → e ≡ empty_frame → (w : ℕ) → w ≡ word_at g.first 1
+      pub room_accepted : (v : Verdict) → v ≡ cell_verdict (shown g) → v ≡ Ok tt → (e : Frame) → e ≡ empty_frame → (w : ℕ) → w ≡ word_at g.first 1
           → left_of e false block (p + length piece + 1) (count + 1) (set cells count w) ≡ left_of f begun block p count cells
       unfolding left
       room_accepted v vs t e q w ws =
@@ -122,7 +122,7 @@ module _ (f : Frame) (begun : Bool) (block : List ℕ) (p count : ℕ) (cells : 
           ∙ read _ (cell_line_accepted left rest f begun ended accepted))
 
 -- After a line that was turned back no place is filled.
-pub all_refused : (l : CellLine) (block : List ℕ) (at : ℕ) (cells : List ℕ) (x : Refusal) → l.verdict ≡ verdict.Refused x
+pub all_refused : (l : CellLine) (block : List ℕ) (at : ℕ) (cells : List ℕ) (x : Refusal) → l.verdict ≡ Err x
     → took (record { line = l; at = at; count = 0 }) cells ≡ cells_taken l block at cells
 unfolding cells_taken
 all_refused l block at cells x e =

@@ -2,12 +2,11 @@
 
 #![tactic(auto)]
 
-ghost use Rattle.std.specs.Prelude.{◌≡◌};
-ghost use Rattle.model.specs.declared.Verdict.TheVariants.{Accepted};
+ghost use Rattle.std.specs.Prelude.{◌≡◌, Ok, Err};
 ghost use Rattle.model_sheet.specs.Arriving.{new_line};
 ghost use Rattle.program_cells.specs.Cells.{took, cells_taken};
 
-use model::{CellLine, Verdict};
+use model::{CellLine, Refusal};
 
 // Cells taken from a block, `count` of them; the line behind them, open or turned back; the place behind what was looked at.
 #[derive(Clone, Copy)]
@@ -22,7 +21,7 @@ pub fn new_line() -> CellLine
     ensures { result ≡ new_line }
 {
     CellLine {
-        verdict: Verdict::Accepted,
+        verdict: Ok(()),
         frame: sheet_frames::empty_frame(),
         begun: false,
     }
@@ -33,71 +32,53 @@ pub fn new_line() -> CellLine
 pub fn take_cells(l: CellLine, block: &[u8], at: usize, cells: &mut [u32]) -> CellsTaken
     ensures { took result cells.new ≡ cells_taken l block.now at cells.old }
 {
-    let v = l.verdict;
-    match v {
-        Verdict::Refused(_) => CellsTaken {
+    let Ok(()) = l.verdict else {
+        return CellsTaken {
             line: l,
             at,
             count: 0,
-        },
-        Verdict::Accepted => cells_from(l, block, at, cells),
-    }
-}
-
-// The same behind no line that was turned back.
-fn cells_from(l: CellLine, block: &[u8], at: usize, cells: &mut [u32]) -> CellsTaken
-    requires { l.verdict ≡ Accepted }
-    ensures { took result cells.new ≡ cells_taken l block.now at cells.old }
-{
+        };
+    };
     let mut frame = l.frame;
     let mut begun = l.begun;
     let mut p = at;
-    let mut count: usize = 0;
-    while count < cells.len() {
+    for count in 0..cells.len() {
         let piece = sheet_frames::line(block, p);
-        let chars = piece.len();
-        let end = p + chars;
+        let end = p + piece.len();
         let open = sheet_frames::more(frame, piece);
         if block.len() <= end {
             return CellsTaken {
                 line: CellLine {
-                    verdict: Verdict::Accepted,
+                    verdict: Ok(()),
                     frame: open,
-                    begun: program_intake::has_begun(begun, chars),
+                    begun: program_intake::has_begun(begun, piece.len()),
                 },
                 at: end,
                 count,
             };
         }
         p = end + 1;
-        let w = sheet_verdicts::cell_verdict(open);
-        match w {
-            Verdict::Refused(n) => {
-                return CellsTaken {
-                    line: CellLine {
-                        verdict: Verdict::Refused(n),
-                        frame: sheet_frames::empty_frame(),
-                        begun: false,
-                    },
-                    at: p,
-                    count,
-                };
-            }
-            Verdict::Accepted => {}
+        if let Err(x) = sheet_verdicts::cell_verdict(open) {
+            return CellsTaken {
+                line: CellLine {
+                    verdict: Err(x),
+                    ..new_line()
+                },
+                at: p,
+                count,
+            };
         }
-        let x = open.first;
-        cells[count] = sheet_fields::word_in(x);
-        count += 1;
+        cells[count] = sheet_fields::word_in(open.first);
         frame = sheet_frames::empty_frame();
         begun = false;
     }
     CellsTaken {
         line: CellLine {
-            verdict: Verdict::Accepted,
+            verdict: Ok(()),
             frame,
             begun,
         },
         at: p,
-        count,
+        count: cells.len(),
     }
 }

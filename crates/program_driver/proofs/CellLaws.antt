@@ -2,10 +2,9 @@
 use Rattle.std.proofs.Common.{◌≡◌, ℕ, suc, ◌≤◌, Bool, List, [], ◌∷◌, map, length, refl, arith}
 use Rattle.model.specs.declared.Counts.{Counts}
 use Rattle.model.specs.declared.State.{State}
-use Rattle.model.specs.declared.Verdict.{Verdict}
-use Rattle.model.specs.declared.Verdict.TheVariants as verdict
+use Rattle.std.specs.Prelude.{Ok, Err}
 use Rattle.model.specs.declared.Chain.{Chain}
-use Rattle.model.specs.Answers.{answer_counts, outcome_counts}
+use Rattle.model.specs.Answers.{Verdict, answer_counts, outcome_counts}
 use Rattle.model_run.specs.Clock.{Layout, Counters, first, turns, next}
 use Rattle.model.specs.Values.{trimmed}
 use Rattle.model_run.specs.Running.{Standing, Ended, Ending, Done, Spent, Starved, Stalled, Full, goes, outcome_of, clocked, call, layout, written_by, width_of, begun, ended, judge_run, run_trimmed, run_of}
@@ -49,7 +48,7 @@ unfolding run_of run_trimmed answer_counts ended begun
 lent_at_most c rows s store lent output allowance = go (judge_run (trimmed c rows) s store) refl
   where
     go : (v : Verdict) → judge_run (trimmed c rows) s store ≡ v → (answer_counts (run_of c rows s store lent output allowance).answer).cells ≤ length lent
-    go (verdict.Refused x) e = rw e (omega arith)
-    go verdict.Accepted e =
+    go (Err x) e = rw e (omega arith)
+    go (Ok _) e =
         rw (e, counts_back (ended (trimmed c rows) s store lent output allowance).ending (ended (trimmed c rows) s store lent output allowance).standing.done)
         (no_more (layout (trimmed c rows)) (written_by (trimmed c rows)) (width_of (trimmed c rows)) lent allowance (begun (trimmed c rows) s store output) (omega arith))

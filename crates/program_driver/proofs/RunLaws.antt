@@ -1,12 +1,11 @@
 -- A step that makes a run call.
 use Rattle.std.proofs.Common.{◌≡◌, ℕ, zero, suc, ◌+◌, ◌-◌, ◌≤◌, min, List, [], ◌∷◌, ◌++◌, length, take, drop, sym, ap, ◌∙◌, arith, length-take-le, take_at}
 use lib.Seq.{take-nil, length-slice}
-use Rattle.model.specs.declared.Answer.{Answer}
 use Rattle.model.specs.declared.Chain.{Chain}
 use Rattle.model.specs.declared.Counts.{Counts}
 use Rattle.model.specs.declared.Ran.{Ran}
 use Rattle.model.specs.declared.State.{State}
-use Rattle.model.specs.Answers.{answer_counts}
+use Rattle.model.specs.Answers.{Answer, answer_counts}
 use Rattle.model_run.specs.Kernels.{width}
 use Rattle.model_run.specs.Running.{Run, run_of}
 use Rattle.runner.specs.Runs.{ran_of}

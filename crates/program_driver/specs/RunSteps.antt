@@ -1,10 +1,9 @@
 -- A step of the program `run`.
 use Rattle.std.specs.Prelude.{◌≡◌, ℕ, ◌+◌, ◌%◌, ◌^◌, min, true, List, ◌++◌, length, take, drop}
-use Rattle.model.specs.declared.Answer.{Answer}
 use Rattle.model.specs.declared.Chain.{Chain}
 use Rattle.model.specs.declared.Ran.{Ran}
 use Rattle.model.specs.declared.State.{State}
-use Rattle.model.specs.Answers.{answer_counts}
+use Rattle.model.specs.Answers.{Answer, answer_counts}
 use Rattle.model_sheet.specs.Frames.{framed}
 use Rattle.model_run.specs.Kernels.{width}
 use Rattle.model_run.specs.Running.{Run, run_of}

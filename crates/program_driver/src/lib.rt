@@ -10,7 +10,6 @@ ghost use Rattle.program_driver.specs.RunSteps.{left, LeavesRows, LeavesCells, p
 ghost use Rattle.program_driver.specs.RunSteps.{ran_on, advanced};
 
 use model::{Chain, Ran, State};
-use numbers::lesser;
 use program_jobs::Job;
 use program_stages::Stage;
 use values::counts_of;
@@ -27,20 +26,12 @@ pub struct Step {
 fn read_sheet(j: Job, block: &[u8], at: usize, rows: &mut [u32]) -> Step
     ensures { LeavesRows result j block.now at rows.old rows.new }
 {
-    let old = j.arriving;
-    let t = program_intake::take_line(true, old, rows, block, at);
-    let arriving = t.arriving;
-    let state = j.state;
-    let line = j.line;
+    let t = program_intake::take_line(true, j.arriving, rows, block, at);
     Step {
         job: Job {
-            stage: program_stages::sheet_stage(arriving, rows),
-            arriving,
-            state,
-            clocks: j.clocks,
-            line,
-            from: j.from,
-            count: j.count,
+            stage: program_stages::sheet_stage(t.arriving, rows),
+            arriving: t.arriving,
+            ..j
         },
         at: t.at,
         bytes: 0,
@@ -50,21 +41,14 @@ fn read_sheet(j: Job, block: &[u8], at: usize, rows: &mut [u32]) -> Step
 fn read_cells(j: Job, block: &[u8], at: usize, cells: &mut [u32]) -> Step
     ensures { LeavesCells result j block.now at cells.old cells.new }
 {
-    let old = j.line;
-    let t = program_cells::take_cells(old, block, at, cells);
-    let line = t.line;
-    let v = line.verdict;
-    let arriving = j.arriving;
-    let state = j.state;
+    let t = program_cells::take_cells(j.line, block, at, cells);
     Step {
         job: Job {
-            stage: program_stages::cells_stage(t.count, v),
-            arriving,
-            state,
-            clocks: j.clocks,
-            line,
+            stage: program_stages::cells_stage(t.count, t.line.verdict),
+            line: t.line,
             from: 0,
             count: t.count,
+            ..j
         },
         at: t.at,
         bytes: 0,
@@ -75,9 +59,7 @@ fn read_cells(j: Job, block: &[u8], at: usize, cells: &mut [u32]) -> Step
 fn firing_size(chain: Chain) -> usize
     ensures { result ≡ width chain.kernel chain.window.count }
 {
-    let window = chain.window;
-    let kernel = chain.kernel;
-    kernel_terms::width(kernel, window.count as usize)
+    kernel_terms::width(chain.kernel, chain.window.count as usize)
 }
 
 // A run call over the cells from `from` to before `to`, with the first `places` words as its output.
@@ -114,19 +96,14 @@ fn ran_on(j: Job, ran: Ran, from: usize, to: usize) -> Job
     requires { from + (answer_counts ran.answer).cells ≤ to }
     ensures { result ≡ job_after j ran.answer ran.state from to }
 {
-    let answer = ran.answer;
-    let state = ran.state;
-    let arriving = j.arriving;
-    let line = j.line;
-    let c = counts_of(answer);
+    let c = counts_of(ran.answer);
     Job {
-        stage: program_stages::answer_stage(answer),
-        arriving,
-        state,
+        stage: program_stages::answer_stage(ran.answer),
+        state: ran.state,
         clocks: std::num::wrapping_add_u32(j.clocks, c.clocks),
-        line,
         from: from + (c.cells as usize),
         count: to,
+        ..j
     }
 }
 
@@ -144,19 +121,14 @@ fn run_on(
         text.new
         ≡ ran_on j at rows.now store.old cells.now words.old text.old }
 {
-    let arriving = j.arriving;
-    let reading = arriving.reading;
-    let chain = reading.chain;
-    let state = j.state;
+    let chain = j.arriving.reading.chain;
     let size = firing_size(chain);
-    let places = lesser(words.len(), program_writer::room_for(size, text.len()));
-    let to = lesser(j.count, cells.len());
-    let from = lesser(j.from, to);
-    let ran = run_part(chain, rows, state, store, cells, from, to, words, places);
-    let fired = state.fired;
-    let answer = ran.answer;
-    let c = counts_of(answer);
-    let bytes = program_writer::put_firings(size, fired.0, c.firings, words, text);
+    let places = words.len().min(program_writer::room_for(size, text.len()));
+    let to = j.count.min(cells.len());
+    let from = j.from.min(to);
+    let ran = run_part(chain, rows, j.state, store, cells, from, to, words, places);
+    let c = counts_of(ran.answer);
+    let bytes = program_writer::put_firings(size, j.state.fired.0, c.firings, words, text);
     Step {
         job: ran_on(j, ran, from, to),
         at,
@@ -182,8 +154,7 @@ pub fn advance(
         words.old text.old }
     ensures within { Within result.bytes text.new }
 {
-    let stage = j.stage;
-    match stage {
+    match j.stage {
         Stage::Sheet => read_sheet(j, block, at, rows),
         Stage::Cells => read_cells(j, block, at, cells),
         Stage::Clocks => run_on(j, at, rows, store, cells, words, text),

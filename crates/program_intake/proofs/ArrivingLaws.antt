@@ -10,27 +10,28 @@ use Rattle.model.specs.declared.Arriving.{Arriving}
 use Rattle.model.specs.declared.Frame.{Frame}
 use Rattle.model.specs.declared.Last.{Last}
 use Rattle.model.specs.declared.Reading.{Reading}
-use Rattle.model.specs.declared.Verdict.TheVariants as verdict
+use Rattle.std.specs.Prelude.{Ok}
 use Rattle.model_sheet.specs.Lines.{line_feed, line_of}
-use Rattle.model_sheet.specs.Frames.{is_digit, fed, feeds, shown, numbers_fed, numbers_feeds}
+use Rattle.model_sheet.specs.Frames.{with_character, is_digit, fed, feeds, shown, numbers_fed, numbers_feeds}
 use Rattle.model_sheet.specs.Reading.{step_of}
 use Rattle.model_sheet.specs.Arriving.{closed, stood_first, Arrived, arrives, numbers_arrive, arrive, through_feed}
 use Rattle.sheet_laws.proofs.Cases.{by_eq}
 use Rattle.program_intake.specs.Taken.{started, numbers_taken, beside}
 use Rattle.program_intake.proofs.PieceLaws.{ends_behind, open_behind, ends_here, started_none, started_some}
+use Rattle.std.specs.Prelude.{Option, None, Some}
 
 -- In the middle of a line.
 abbrev pub midway : Reading → Frame → Bool → Arriving
-midway r f begun = record { verdict = verdict.Accepted; reading = r; frame = f; begun = begun }
+midway r f begun = record { verdict = Ok tt; reading = r; frame = f; begun = begun }
 
 -- The numbers: an LF is no digit, and no character leaves them.
 feed_none : (rows : List ℕ) (f : Frame) (c : ℕ) → c ≡ line_feed → numbers_fed rows f c ≡ rows
 unfolding numbers_fed is_digit
-feed_none rows f c e = rw e (go f.half refl)
+feed_none rows f c e = rw e (go f.upper)
   where
-    go : (b : Bool) → f.half ≡ b → numbers_fed rows f line_feed ≡ rows
-    go true h = rw h
-    go false h = rw h
+    go : (upper : Option ℕ) → with_character rows f.len upper line_feed ≡ rows
+    go None = refl
+    go (Some high) = refl
 
 same_either : (b : Bool) (xs ys : List ℕ) → xs ≡ ys → cond b xs ys ≡ ys
 same_either true xs ys e = e

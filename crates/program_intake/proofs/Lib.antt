@@ -1,4 +1,3 @@
 pub mod PieceLaws
 pub mod ArrivingLaws
 pub mod LineLaws
-pub mod FinishLaws

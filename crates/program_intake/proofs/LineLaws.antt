@@ -9,7 +9,7 @@ use lib.Seq.{drop-drop}
 use Rattle.model.specs.declared.Arriving.{Arriving}
 use Rattle.model.specs.declared.Frame.{Frame}
 use Rattle.model.specs.declared.Refusal.{Refusal}
-use Rattle.model.specs.declared.Verdict.TheVariants as verdict
+use Rattle.std.specs.Prelude.{Ok, Err}
 use Rattle.model_sheet.specs.Lines.{line_of}
 use Rattle.model_sheet.specs.Frames.{feeds, shown}
 use Rattle.model_sheet.specs.Reading.{step_of}
@@ -30,7 +30,7 @@ made chained a b rows' block at end p q =
     ∙ ap (λ k. took_line (record { arriving = (arrive chained a (through_feed (drop at block))).sheet; at = k }) (arrive chained a (through_feed (drop at block))).rows) q
 
 -- Where nothing was refused.
-accepted : (a : Arriving) → a.verdict ≡ verdict.Accepted → a ≡ midway a.reading a.frame a.begun
+accepted : (a : Arriving) → a.verdict ≡ Ok tt → a ≡ midway a.reading a.frame a.begun
 accepted a e = ap (λ v. record { verdict = v; reading = a.reading; frame = a.frame; begun = a.begun }) e
 
 module _ (chained : Bool) (a : Arriving) (rows block : List ℕ) (at : ℕ) (piece : List ℕ) (is : piece ≡ line_of (drop at block)) where
@@ -38,11 +38,11 @@ module _ (chained : Bool) (a : Arriving) (rows block : List ℕ) (at : ℕ) (pie
   rest = drop at block
 
   -- All that arrives, by what it makes of an open line; and that it is nothing after a refusal.
-  all_arrives : a.verdict ≡ verdict.Accepted → (t : Arrived)
+  all_arrives : a.verdict ≡ Ok tt → (t : Arrived)
       → arrive chained (beside (midway a.reading a.frame a.begun) rows) (through_feed rest) ≡ t → t ≡ arrive chained (beside a rows) (through_feed rest)
   all_arrives e t p = sym p ∙ ap (λ g. arrive chained (beside g rows) (through_feed rest)) (sym (accepted a e))
 
-  none_arrives : (x : Refusal) → a.verdict ≡ verdict.Refused x → beside a rows ≡ arrive chained (beside a rows) (through_feed rest)
+  none_arrives : (x : Refusal) → a.verdict ≡ Err x → beside a rows ≡ arrive chained (beside a rows) (through_feed rest)
   none_arrives x e = sym (stays chained (beside a rows) x (through_feed rest) e)
 
   -- The line has its LF in the block.
@@ -53,11 +53,11 @@ module _ (chained : Bool) (a : Arriving) (rows block : List ℕ) (at : ℕ) (pie
     behind : at + length piece + 1 ≡ at + length (through_feed rest)
     behind = omega (arith, ap length is, through_ended rest ended)
 
-    pub ended_refused : (x : Refusal) → a.verdict ≡ verdict.Refused x
+    pub ended_refused : (x : Refusal) → a.verdict ≡ Err x
         → took_line (record { arriving = a; at = at + length piece + 1 }) rows ≡ line_taken chained (beside a rows) block at
     ended_refused x e = made chained _ a rows block at _ (none_arrives x e) behind
 
-    pub ended_accepted : a.verdict ≡ verdict.Accepted → (rows' : List ℕ) → rows' ≡ numbers_taken a.reading.last rows a.frame piece
+    pub ended_accepted : a.verdict ≡ Ok tt → (rows' : List ℕ) → rows' ≡ numbers_taken a.reading.last rows a.frame piece
         → (f : Frame) → f ≡ feeds a.frame piece
         → (b : Arriving) → b ≡ closed (step_of chained rows' a.reading (shown f))
         → took_line (record { arriving = b; at = at + length piece + 1 }) rows' ≡ line_taken chained (beside a rows) block at
@@ -78,11 +78,11 @@ module _ (chained : Bool) (a : Arriving) (rows block : List ℕ) (at : ℕ) (pie
     to_end : at + length piece ≡ at + length (through_feed rest)
     to_end = omega (arith, ap length is, through_open rest unended)
 
-    pub open_refused : (x : Refusal) → a.verdict ≡ verdict.Refused x
+    pub open_refused : (x : Refusal) → a.verdict ≡ Err x
         → took_line (record { arriving = a; at = at + length piece }) rows ≡ line_taken chained (beside a rows) block at
     open_refused x e = made chained _ a rows block at _ (none_arrives x e) to_end
 
-    pub open_accepted : a.verdict ≡ verdict.Accepted → (rows' : List ℕ) → rows' ≡ numbers_taken a.reading.last rows a.frame piece
+    pub open_accepted : a.verdict ≡ Ok tt → (rows' : List ℕ) → rows' ≡ numbers_taken a.reading.last rows a.frame piece
         → (f : Frame) → f ≡ feeds a.frame piece
         → (b : Arriving) → b ≡ longer a f (length piece)
         → took_line (record { arriving = b; at = at + length piece }) rows' ≡ line_taken chained (beside a rows) block at

@@ -1,9 +1,8 @@
 -- What is taken from a block, from place `at` on.
-use Rattle.std.specs.Prelude.{ℕ, ◌+◌, Bool, cond, ◌||◌, List, ltb, length, drop}
+use Rattle.std.specs.Prelude.{ℕ, ◌+◌, Bool, cond, ◌||◌, List, ltb, length, drop, Ok}
 use Rattle.model.specs.declared.Arriving.{Arriving}
 use Rattle.model.specs.declared.Frame.{Frame}
 use Rattle.model.specs.declared.Last.{Last}
-use Rattle.model.specs.declared.Verdict.TheVariants as verdict
 use Rattle.model_sheet.specs.Frames.{numbers_feeds}
 use Rattle.model_sheet.specs.Arriving.{stood_first, Arrived, arrive, through_feed}
 use Rattle.program_intake.specs.declared.LineTaken.{LineTaken}
@@ -14,7 +13,7 @@ started begun chars = begun || ltb 0 chars
 
 abbrev pub longer : Arriving → Frame → (chars : ℕ) → Arriving
 longer a frame chars = record
-    { verdict = verdict.Accepted; reading = a.reading; frame = frame; begun = started a.begun chars }
+    { verdict = Ok tt; reading = a.reading; frame = frame; begun = started a.begun chars }
 
 -- The rows' numbers with a piece of the open line: those of the sheet's first line alone.
 unfoldable pub numbers_taken : Last → (rows : List ℕ) → Frame → (piece : List ℕ) → List ℕ

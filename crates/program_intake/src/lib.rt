@@ -8,7 +8,7 @@ ghost use Rattle.model_sheet.specs.Frames.{shown};
 ghost use Rattle.model_sheet.specs.Reading.{step_of};
 ghost use Rattle.program_intake.specs.Taken.{started, longer, numbers_taken, beside, took_line, line_taken};
 
-use model::{Arriving, Frame, Last, LineStep, Refusal, Verdict};
+use model::{Arriving, Frame, Last, LineStep, Refusal};
 
 // A line taken from a block, or as much of it as the block has, and the place behind it.
 #[derive(Clone, Copy)]
@@ -22,7 +22,7 @@ pub fn open() -> Arriving
     ensures { result ≡ opened }
 {
     Arriving {
-        verdict: Verdict::Accepted,
+        verdict: Ok(()),
         reading: sheet_reader::begin(),
         frame: sheet_frames::empty_frame(),
         begun: false,
@@ -33,39 +33,27 @@ pub fn open() -> Arriving
 pub fn has_begun(begun: bool, chars: usize) -> bool
     ensures { result ≡ started begun chars }
 {
-    if begun {
-        return true;
-    }
-    0 < chars
+    begun || 0 < chars
 }
 
 // More of the open line.
 fn lengthen(a: Arriving, frame: Frame, chars: usize) -> Arriving
     ensures { result ≡ longer a frame chars }
 {
-    let reading = a.reading;
     Arriving {
-        verdict: Verdict::Accepted,
-        reading,
+        verdict: Ok(()),
+        reading: a.reading,
         frame,
         begun: has_begun(a.begun, chars),
     }
 }
 
 // No line of the sheet was read yet.
+#[tactic(auto, unfolding(model_sheet::specs::Arriving::stood_first))]
 fn is_first(last: Last) -> bool
     ensures { result ≡ stood_first last }
 {
-    match last {
-        Last::Nothing => true,
-        Last::Grid => false,
-        Last::Offset => false,
-        Last::Name => false,
-        Last::Box => false,
-        Last::Capacity => false,
-        Last::Order => false,
-        Last::Kernel => false,
-    }
+    matches!(last, Last::Nothing)
 }
 
 // The rows' numbers in a piece of the open line: on the sheet's first line alone are any.
@@ -81,13 +69,10 @@ fn take_numbers(last: Last, f: Frame, piece: &[u8], rows: &mut [u32])
 fn close_line(chained: bool, a: Arriving, rows: &[u32], frame: Frame) -> Arriving
     ensures { result ≡ closed (step_of chained rows.now a.reading (shown frame)) }
 {
-    let r = a.reading;
-    let s = sheet_reader::step(chained, rows, r, frame);
-    let verdict = s.verdict;
-    let reading = s.reading;
+    let s = sheet_reader::step(chained, rows, a.reading, frame);
     Arriving {
-        verdict,
-        reading,
+        verdict: s.verdict,
+        reading: s.reading,
         frame: sheet_frames::empty_frame(),
         begun: false,
     }
@@ -100,40 +85,25 @@ pub fn take_line(chained: bool, a: Arriving, rows: &mut [u32], block: &[u8], at:
     ensures { took_line result rows.new ≡ line_taken chained (beside a rows.old) block.now at }
 {
     let piece = sheet_frames::line(block, at);
-    let chars = piece.len();
-    let end = at + chars;
+    let end = at + piece.len();
     let has_feed = end < block.len();
-    let v = a.verdict;
-    match v {
-        Verdict::Refused(_) => {
-            if has_feed {
-                return LineTaken {
-                    arriving: a,
-                    at: end + 1,
-                };
-            }
-            LineTaken {
-                arriving: a,
-                at: end,
-            }
-        }
-        Verdict::Accepted => {
-            let f = a.frame;
-            let r = a.reading;
-            let last = r.last;
-            take_numbers(last, f, piece, rows);
-            let open = sheet_frames::more(f, piece);
-            if has_feed {
-                return LineTaken {
-                    arriving: close_line(chained, a, rows, open),
-                    at: end + 1,
-                };
-            }
-            LineTaken {
-                arriving: lengthen(a, open, chars),
-                at: end,
-            }
-        }
+    let behind = if has_feed { end + 1 } else { end };
+    let Ok(()) = a.verdict else {
+        return LineTaken {
+            arriving: a,
+            at: behind,
+        };
+    };
+    take_numbers(a.reading.last, a.frame, piece, rows);
+    let open = sheet_frames::more(a.frame, piece);
+    let arriving = if has_feed {
+        close_line(chained, a, rows, open)
+    } else {
+        lengthen(a, open, piece.len())
+    };
+    LineTaken {
+        arriving,
+        at: behind,
     }
 }
 
@@ -144,37 +114,26 @@ pub fn take_block(chained: bool, a: Arriving, rows: &mut [u32], block: &[u8]) ->
 {
     let mut arriving = a;
     let mut at: usize = 0;
+    // A line says where the next one begins.
     while at < block.len() {
         let t = take_line(chained, arriving, rows, block, at);
-        let next = t.arriving;
-        arriving = next;
+        arriving = t.arriving;
         at = t.at;
     }
     arriving
 }
 
 // At the end of the input.
+#[tactic(auto, unfolding(model_sheet::specs::Arriving::finished))]
 pub fn finish(a: Arriving) -> LineStep
     ensures { result ≡ finished a }
 {
-    let reading = a.reading;
-    let v = a.verdict;
-    match v {
-        Verdict::Refused(n) => LineStep {
-            verdict: Verdict::Refused(n),
-            reading,
-        },
-        Verdict::Accepted => {
-            if a.begun {
-                return LineStep {
-                    verdict: Verdict::Refused(Refusal::Malformed),
-                    reading,
-                };
-            }
-            LineStep {
-                verdict: Verdict::Accepted,
-                reading,
-            }
-        }
+    let verdict = match a.verdict {
+        Ok(()) if a.begun => Err(Refusal::Malformed),
+        v => v,
+    };
+    LineStep {
+        verdict,
+        reading: a.reading,
     }
 }

@@ -43,48 +43,25 @@ pub fn begin() -> Job
 pub fn staged(j: Job, stage: Stage) -> Job
     ensures { result ≡ staged j stage }
 {
-    let arriving = j.arriving;
-    let state = j.state;
-    let line = j.line;
-    Job {
-        stage,
-        arriving,
-        state,
-        clocks: j.clocks,
-        line,
-        from: j.from,
-        count: j.count,
-    }
+    Job { stage, ..j }
 }
 
 // At the end of the input: a line that is open is turned back; so is a sheet that lacks lines; a run that wants cells is starved.
+#[tactic(auto, unfolding(crate::specs::Jobs::closed, crate::specs::Jobs::closed_by))]
 pub fn close_input(j: Job) -> Job
     ensures { result ≡ closed j }
 {
-    let stage = j.stage;
-    match stage {
-        Stage::Sheet => {
-            let a = j.arriving;
-            if a.begun {
-                return staged(j, Stage::Refusing(Refusal::Malformed));
-            }
-            staged(j, Stage::Refusing(Refusal::Misplaced))
-        }
-        Stage::Cells => {
-            let l = j.line;
-            if l.begun {
-                return staged(j, Stage::Refusing(Refusal::Malformed));
-            }
-            staged(j, Stage::Ending(STARVED_BYTE))
-        }
-        Stage::Clocks => j,
-        Stage::Ending(_) => j,
-        Stage::Refusing(_) => j,
-        Stage::Over => j,
+    match j.stage {
+        Stage::Sheet if j.arriving.begun => staged(j, Stage::Refusing(Refusal::Malformed)),
+        Stage::Sheet => staged(j, Stage::Refusing(Refusal::Misplaced)),
+        Stage::Cells if j.line.begun => staged(j, Stage::Refusing(Refusal::Malformed)),
+        Stage::Cells => staged(j, Stage::Ending(STARVED_BYTE)),
+        Stage::Clocks | Stage::Ending(_) | Stage::Refusing(_) | Stage::Over => j,
     }
 }
 
 // After a read that answered `got`: nothing is the end of the input; where it failed the program is over, without a last line.
+// A number, since `ReadFails` speaks of each negative one.
 pub fn after_read(j: Job, got: isize) -> Job
     ensures { result ≡ after_read got j }
 {

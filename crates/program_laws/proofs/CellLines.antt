@@ -9,8 +9,8 @@ use borrow.Author.Tests.{eq-eqb, ne_eqb}
 use Rattle.model.specs.declared.CellLine.{CellLine}
 use Rattle.model.specs.declared.Refusal.{Refusal}
 use Rattle.model.specs.declared.Refusal.TheVariants as refusal
-use Rattle.model.specs.declared.Verdict.{Verdict}
-use Rattle.model.specs.declared.Verdict.TheVariants as verdict
+use Rattle.std.specs.Prelude.{Ok, Err}
+use Rattle.model.specs.Answers.{Verdict}
 use Rattle.model_sheet.specs.Lines.{Line, line_feed, lines_of}
 use Rattle.model_sheet.specs.Frames.{Seen, empty_frame, feeds, shown, seen_of}
 use Rattle.model_sheet.specs.Reading.{cell_verdict, cell_in}
@@ -23,25 +23,25 @@ use Rattle.sheet_trips.proofs.AsItArrives.{infront, whole_line, last_line_lem, o
 
 -- A line of which these characters have arrived.
 abbrev pub open_line : List ℕ → CellLine
-open_line p = record { verdict = verdict.Accepted; frame = feeds empty_frame p; begun = some p }
+open_line p = record { verdict = Ok tt; frame = feeds empty_frame p; begun = some p }
 
 -- The cells that a line, open or turned back, and the rest of the input give; and the verdict behind them.
 pub data Gives (l : CellLine) (rest : List ℕ) (cells : List ℕ) (v : Verdict) : Type 0 where
   is_open : (p : List ℕ) → l ≡ open_line p → cells ≡ cells_in (infront p (lines_of rest)) → v ≡ behind_cells (infront p (lines_of rest)) → Gives l rest cells v
-  is_back : (x : Refusal) → l.verdict ≡ verdict.Refused x → cells ≡ [] → v ≡ verdict.Refused x → Gives l rest cells v
+  is_back : (x : Refusal) → l.verdict ≡ Err x → cells ≡ [] → v ≡ Err x → Gives l rest cells v
 
 -- A line with its LF, as it arrived.
 sound_cell : Seen → ℕ
 sound_cell l = cond l.sound (cell_in l) 0
 
-accepted_sound : (l : Seen) → cell_verdict l ≡ verdict.Accepted → sound_cell l ≡ cell_in l
+accepted_sound : (l : Seen) → cell_verdict l ≡ Ok tt → sound_cell l ≡ cell_in l
 unfolding sound_cell
 accepted_sound l e =
     by_bool l.sound
     (λ s. rw s)
     (λ s. absurd (let d = unsound_cell l s in let z : ◌≡◌ {A = ℕ} 0 1 = cc in omega arith))
 
-same_cell : (p : List ℕ) → cell_verdict (seen_of true p) ≡ verdict.Accepted → cell_in (shown (feeds empty_frame p)) ≡ cell_in (seen_of true p)
+same_cell : (p : List ℕ) → cell_verdict (seen_of true p) ≡ Ok tt → cell_in (shown (feeds empty_frame p)) ≡ cell_in (seen_of true p)
 unfolding sound_cell
 same_cell p e =
     sym (accepted_sound (shown (feeds empty_frame p)) (fixed_memory_cell p ∙ e))
@@ -50,19 +50,19 @@ same_cell p e =
 
 -- The first line, taken and turned back.
 module _ (l : Line) (ls : List Line) where
-  cells_take : cell_verdict (seen_of l.ended l.chars) ≡ verdict.Accepted → cells_in (l ∷ ls) ≡ cell_in (seen_of l.ended l.chars) ∷ cells_in ls
+  cells_take : cell_verdict (seen_of l.ended l.chars) ≡ Ok tt → cells_in (l ∷ ls) ≡ cell_in (seen_of l.ended l.chars) ∷ cells_in ls
   unfolding cells_in
   cells_take e = rw e
 
-  behind_take : cell_verdict (seen_of l.ended l.chars) ≡ verdict.Accepted → behind_cells (l ∷ ls) ≡ behind_cells ls
+  behind_take : cell_verdict (seen_of l.ended l.chars) ≡ Ok tt → behind_cells (l ∷ ls) ≡ behind_cells ls
   unfolding behind_cells
   behind_take e = rw e
 
-  cells_back : (x : Refusal) → cell_verdict (seen_of l.ended l.chars) ≡ verdict.Refused x → cells_in (l ∷ ls) ≡ []
+  cells_back : (x : Refusal) → cell_verdict (seen_of l.ended l.chars) ≡ Err x → cells_in (l ∷ ls) ≡ []
   unfolding cells_in
   cells_back x e = rw e
 
-  behind_back : (x : Refusal) → cell_verdict (seen_of l.ended l.chars) ≡ verdict.Refused x → behind_cells (l ∷ ls) ≡ verdict.Refused x
+  behind_back : (x : Refusal) → cell_verdict (seen_of l.ended l.chars) ≡ Err x → behind_cells (l ∷ ls) ≡ Err x
   unfolding behind_cells
   behind_back x e = rw e
 
@@ -81,7 +81,7 @@ one_looked r c cs more cells v h = record { later = h.later; split = h.split; gi
 
 -- One character more, of an open line.
 module _ (room : ℕ) (p : List ℕ) (c : ℕ) (cs : List ℕ) where
-  read_back_lem : (l : CellLine) (x : Refusal) → l.verdict ≡ verdict.Refused x → read_cells (suc room) l (c ∷ cs) ≡ none l
+  read_back_lem : (l : CellLine) (x : Refusal) → l.verdict ≡ Err x → read_cells (suc room) l (c ∷ cs) ≡ none l
   unfolding read_cells
   read_back_lem l x e = rw e
 
@@ -89,12 +89,12 @@ module _ (room : ℕ) (p : List ℕ) (c : ℕ) (cs : List ℕ) where
   unfolding read_cells
   read_other n = rw (ne_eqb _ _ n, feeds_more empty_frame p c, some_more p c)
 
-  read_ended : (x : Refusal) → c ≡ line_feed → cell_verdict (seen_of true p) ≡ verdict.Refused x
-      → read_cells (suc room) (open_line p) (c ∷ cs) ≡ one_more (none (record { verdict = verdict.Refused x; frame = empty_frame; begun = false }))
+  read_ended : (x : Refusal) → c ≡ line_feed → cell_verdict (seen_of true p) ≡ Err x
+      → read_cells (suc room) (open_line p) (c ∷ cs) ≡ one_more (none (record { verdict = Err x; frame = empty_frame; begun = false }))
   unfolding read_cells
   read_ended x e v = let w = fixed_memory_cell p ∙ v in rw (eq-eqb _ _ e, w)
 
-  read_cell : c ≡ line_feed → cell_verdict (seen_of true p) ≡ verdict.Accepted
+  read_cell : c ≡ line_feed → cell_verdict (seen_of true p) ≡ Ok tt
       → read_cells (suc room) (open_line p) (c ∷ cs) ≡ one_more (with_cell (cell_in (seen_of true p)) (read_cells room new_line cs))
   unfolding read_cells
   read_cell e v = let w = fixed_memory_cell p ∙ v in rw (eq-eqb _ _ e, w, same_cell p v)
@@ -124,12 +124,12 @@ at_feed room p c cs more cells v e d w ih = go (cell_verdict (seen_of true p)) r
     front = front_feed p c (cs ++ more) e
 
     go : (u : Verdict) → cell_verdict (seen_of true p) ≡ u → Left (read_cells (suc room) (open_line p) (c ∷ cs)) (c ∷ cs) more cells v
-    go (verdict.Refused x) u =
+    go (Err x) u =
         rw (read_ended room p c cs x e u)
         (one_looked _ c cs more cells v
         (nothing _ cs more cells v
         (is_back x refl (d ∙ ap cells_in front ∙ cells_back l (lines_of (cs ++ more)) x u) (w ∙ ap behind_cells front ∙ behind_back l (lines_of (cs ++ more)) x u))))
-    go verdict.Accepted u =
+    go (Ok _) u =
         let t = ih (cells_in (lines_of (cs ++ more)))
         (is_open [] refl refl (w ∙ ap behind_cells front ∙ behind_take l (lines_of (cs ++ more)) u)) in
         rw (read_cell room p c cs e u)
@@ -164,24 +164,24 @@ cells_read_lem (c ∷ cs) more (suc room) l cells v (is_open p q d w) =
     (is_open (p ++ (c ∷ [])) refl (d ∙ ap cells_in (front_other p c (cs ++ more) n)) (w ∙ ap behind_cells (front_other p c (cs ++ more) n)))))))
 
 -- Where there is room, a line that is open and a character, a character is looked at.
-pub one_at_least : (cs : List ℕ) (room : ℕ) (l : CellLine) → l.verdict ≡ verdict.Accepted → 0 < room → 0 < length cs → 0 < (read_cells room l cs).looked
+pub one_at_least : (cs : List ℕ) (room : ℕ) (l : CellLine) → l.verdict ≡ Ok tt → 0 < room → 0 < length cs → 0 < (read_cells room l cs).looked
 unfolding read_cells
 one_at_least cs zero l e h g = absurd (omega arith)
 one_at_least [] (suc room) l e h g = absurd (omega arith)
 one_at_least (c ∷ cs) (suc room) l e h g = rw e (omega arith)
 
 -- Of a line that was turned back no character is looked at.
-pub none_behind : (cs : List ℕ) (room : ℕ) (l : CellLine) (x : Refusal) → l.verdict ≡ verdict.Refused x → read_cells room l cs ≡ none l
+pub none_behind : (cs : List ℕ) (room : ℕ) (l : CellLine) (x : Refusal) → l.verdict ≡ Err x → read_cells room l cs ≡ none l
 none_behind cs zero l x e = no_room l cs
 none_behind [] (suc room) l x e = no_character room l
 none_behind (c ∷ cs) (suc room) l x e = read_back_lem room [] c cs l x e
 
 -- At the end of the input a line that is open lacks its LF.
-unended_back : (p : List ℕ) → cell_verdict (seen_of false p) ≡ verdict.Refused refusal.Malformed
+unended_back : (p : List ℕ) → cell_verdict (seen_of false p) ≡ Err refusal.Malformed
 unended_back p = unsound_cell (seen_of false p) refl
 
-pub input_ends : (l : CellLine) (cells : List ℕ) (v : Verdict) → l.verdict ≡ verdict.Accepted → Gives l [] cells v
-    → (cells ≡ []) × (v ≡ cond l.begun (verdict.Refused refusal.Malformed) verdict.Accepted)
+pub input_ends : (l : CellLine) (cells : List ℕ) (v : Verdict) → l.verdict ≡ Ok tt → Gives l [] cells v
+    → (cells ≡ []) × (v ≡ cond l.begun (Err refusal.Malformed) (Ok tt))
 unfolding lines_of infront some cells_in behind_cells
 input_ends l cells v e (is_back x d _ _) = absurd (let z : ◌≡◌ {A = ℕ} 0 1 = cc in omega arith)
 input_ends l cells v e (is_open [] q d w) = rw q (d, w)

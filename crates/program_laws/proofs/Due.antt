@@ -12,9 +12,8 @@ use Rattle.model.specs.declared.CellLine.{CellLine}
 use Rattle.model.specs.declared.Chain.{Chain}
 use Rattle.model.specs.declared.State.{State}
 use Rattle.model.specs.declared.Refusal.{Refusal}
-use Rattle.model.specs.declared.Verdict.{Verdict}
-use Rattle.model.specs.declared.Verdict.TheVariants as verdict
-use Rattle.model.specs.Answers.{by_verdict}
+use Rattle.std.specs.Prelude.{Ok, Err}
+use Rattle.model.specs.Answers.{Verdict, by_verdict}
 use Rattle.model.specs.Values.{trimmed}
 use Rattle.model.specs.Judging.{most_places, judge_chain}
 use Rattle.model_sheet.specs.Lines.{lines_of}
@@ -45,7 +44,7 @@ chain_of j = j.arriving.reading.chain
 module _ (input : List ℕ) where
   -- Behind the sheet, with these cells at hand: all cells, the verdict behind them, and where the run over them stands.
   pub record Runs (j : Job) (rows rest store written hand : List ℕ) : Type 0 where
-    pub ok : judge_chain (chain_of j) rows ≡ verdict.Accepted
+    pub ok : judge_chain (chain_of j) rows ≡ Ok tt
     pub told : numbers_in input ≡ rows
     pub all : List ℕ
     pub behind : Verdict
@@ -92,7 +91,7 @@ module _ (input : List ℕ) where
       ∙ sym r.due
 
 -- Before the first call.
-stands_fresh : (c : Chain) (rows : List ℕ) (ok : judge_chain c rows ≡ verdict.Accepted) (all store : List ℕ) → most_places ≤ length store → Stands c rows ok all fresh store 0 [] [] all
+stands_fresh : (c : Chain) (rows : List ℕ) (ok : judge_chain c rows ≡ Ok tt) (all store : List ℕ) → most_places ≤ length store → Stands c rows ok all fresh store 0 [] [] all
 unfolding counters_of firings_text
 stands_fresh c rows ok all store long = record {
   es = [];
@@ -107,7 +106,7 @@ stands_fresh c rows ok all store long = record {
 }
 
 -- Cells that come later may be at hand.
-stands_regrouped : {c : Chain} {rows : List ℕ} {ok : judge_chain c rows ≡ verdict.Accepted} {all : List ℕ} {state : State} {store : List ℕ} {clocks : ℕ} {written hand later hand' later' : List ℕ}
+stands_regrouped : {c : Chain} {rows : List ℕ} {ok : judge_chain c rows ≡ Ok tt} {all : List ℕ} {state : State} {store : List ℕ} {clocks : ℕ} {written hand later hand' later' : List ℕ}
     → hand ++ later ≡ hand' ++ later' → Stands c rows ok all state store clocks written hand later → Stands c rows ok all state store clocks written hand' later'
 stands_regrouped e a = record {
   es = a.es;
@@ -126,19 +125,19 @@ stage_further : (input : List ℕ) (a : Arriving) (rows rest : List ℕ) → Mid
 unfolding sheet_stage
 stage_further input a rows rest m = rw (m.arriving, m.unended)
 
-stage_back : (a : Arriving) (rows : List ℕ) (x : Refusal) → a.verdict ≡ verdict.Refused x → sheet_stage a rows ≡ stage.Refusing x
+stage_back : (a : Arriving) (rows : List ℕ) (x : Refusal) → a.verdict ≡ Err x → sheet_stage a rows ≡ stage.Refusing x
 unfolding sheet_stage
 stage_back a rows x e = rw e
 
-stage_whole : (a : Arriving) (rows : List ℕ) → a.verdict ≡ verdict.Accepted → complete a.reading ≡ true
+stage_whole : (a : Arriving) (rows : List ℕ) → a.verdict ≡ Ok tt → complete a.reading ≡ true
     → sheet_stage a rows ≡ by_verdict (judge_chain a.reading.chain rows) stage.Cells stage.Refusing
 unfolding sheet_stage
 stage_whole a rows e s = rw (e, s)
 
 module _ (input : List ℕ) (j : Job) (rows rest store cells written : List ℕ) (long : most_places ≤ length store)
     (state : j.state ≡ fresh) (clocks : j.clocks ≡ 0) (line : j.line ≡ new_line) (nothing : written ≡ []) where
-  run_begins : (ok : judge_chain (chain_of j) rows ≡ verdict.Accepted) → complete j.arriving.reading ≡ true → numbers_in input ≡ rows
-      → split_of input ≡ record { step = record { verdict = verdict.Accepted; reading = j.arriving.reading }; behind = lines_of rest }
+  run_begins : (ok : judge_chain (chain_of j) rows ≡ Ok tt) → complete j.arriving.reading ≡ true → numbers_in input ≡ rows
+      → split_of input ≡ record { step = record { verdict = Ok tt; reading = j.arriving.reading }; behind = lines_of rest }
       → InCells input j rows rest store written
   unfolding feeds some infront layout counters_of
   run_begins ok s same due = record {
@@ -165,8 +164,8 @@ module _ (input : List ℕ) (j : Job) (rows rest store cells written : List ℕ)
   sheet_due (whole e s same due) = rw (stage_whole j.arriving rows e s) (go (judge_chain (chain_of j) rows) refl)
     where
       go : (v : Verdict) → judge_chain (chain_of j) rows ≡ v → Due input (by_verdict v stage.Cells stage.Refusing) j rows rest store cells written
-      go verdict.Accepted ok = run_begins ok s same due
-      go (verdict.Refused x) no-good = rw nothing (sym (text_with input rows _ same due ∙ chain_back rows j.arriving.reading (lines_of rest) x s no-good))
+      go (Ok _) ok = run_begins ok s same due
+      go (Err x) no-good = rw nothing (sym (text_with input rows _ same due ∙ chain_back rows j.arriving.reading (lines_of rest) x s no-good))
 
 -- Where every cell is taken and none comes later, the run is starved.
 module _ (input : List ℕ) (j : Job) (rows rest store written : List ℕ) (i : InCells input j rows rest store written) (none : i.run.later ≡ []) where
@@ -221,11 +220,11 @@ module _ (input : List ℕ) (j : Job) (rows rest store written : List ℕ) (i : 
   }
 
   -- A line that was turned back, where no cell is left.
-  back_due : (line : CellLine) (rest' later' : List ℕ) (x : Refusal) → r.later ≡ later' → Gives line rest' later' r.behind → line.verdict ≡ verdict.Refused x
+  back_due : (line : CellLine) (rest' later' : List ℕ) (x : Refusal) → r.later ≡ later' → Gives line rest' later' r.behind → line.verdict ≡ Err x
       → written ++ refusal_text x ≡ run_text input
   back_due line rest' later' x e (is_open p q _ _) v = absurd (let d = ap (λ (l : CellLine). l.verdict) q in let z : ◌≡◌ {A = ℕ} 0 1 = cc in omega arith)
   back_due line rest' later' x e (is_back y w none b) v =
-      let same : r.behind ≡ verdict.Refused x = b ∙ sym w ∙ v in
+      let same : r.behind ≡ Err x = b ∙ sym w ∙ v in
       ap (λ (u : Verdict). written ++ end_text Starved j.clocks u) (sym same) ∙ starved_due input j rows rest store written i (e ∙ none)
 
   -- The stage that they leave.
@@ -236,8 +235,8 @@ module _ (input : List ℕ) (j : Job) (rows rest store written : List ℕ) (i : 
     where
       go : (v : Verdict) → line.verdict ≡ v
           → Due input (by_verdict v stage.Cells stage.Refusing) (with_line j (by_verdict v stage.Cells stage.Refusing) line 0 0) rows rest' store ([] ++ cells) written
-      go verdict.Accepted v = record { run = runs_on stage.Cells line 0 0 rest' [] later' e g; left = i.left }
-      go (verdict.Refused x) v = back_due line rest' later' x e g v
+      go (Ok _) v = record { run = runs_on stage.Cells line 0 0 rest' [] later' e g; left = i.left }
+      go (Err x) v = back_due line rest' later' x e g v
   cells_due line (c ∷ cs) rest' later' cells e g = rw (some_cells (length cs) line.verdict) (record {
     run = subst (λ (h : List ℕ). Runs input (with_line j stage.Clocks line 0 (length (c ∷ cs))) rows rest' store written h) (sym (take-append_seam (c ∷ cs) cells))
         (runs_on stage.Clocks line 0 (length (c ∷ cs)) rest' (c ∷ cs) later' e g);

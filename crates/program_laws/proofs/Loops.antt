@@ -12,9 +12,8 @@ use borrow.Author.Tests.{eq-eqb, ne_eqb}
 use Rattle.model.specs.declared.Arriving.{Arriving}
 use Rattle.model.specs.declared.Refusal.{Refusal}
 use Rattle.model.specs.declared.Refusal.TheVariants as refusal
-use Rattle.model.specs.declared.Verdict.{Verdict}
-use Rattle.model.specs.declared.Verdict.TheVariants as verdict
-use Rattle.model.specs.Answers.{starved_byte, by_verdict}
+use Rattle.std.specs.Prelude.{Ok, Err}
+use Rattle.model.specs.Answers.{Verdict, starved_byte, by_verdict}
 use Rattle.model_sheet.specs.Arriving.{Arrived, opening, arrive}
 use Rattle.model_sheet.specs.Frames.{row_numbers}
 use Rattle.model_sheet.specs.Writing.{longest_sheet}
@@ -234,7 +233,7 @@ module _ (a : Arrived) (t : Taking a) where
   taken_on : (b : List ℕ) (further : List (List ℕ)) → plan_taken opening ((t.past ++ (b ∷ [])) ++ further) ≡ plan_taken a (b ∷ further)
   taken_on b further = ap (plan_taken opening) (append_assoc t.past (b ∷ []) further) ∙ t.same (b ∷ further)
 
-  pub taking_more : (b : List ℕ) (r : Arrived) → r ≡ arrive false a b → r.sheet.verdict ≡ verdict.Accepted → Taking r
+  pub taking_more : (b : List ℕ) (r : Arrived) → r ≡ arrive false a b → r.sheet.verdict ≡ Ok tt → Taking r
   unfolding plan_taken
   taking_more b r e v = record {
     past = t.past ++ (b ∷ []);
@@ -246,7 +245,7 @@ module _ (a : Arrived) (t : Taking a) where
   unfolding plan_taken
   taking_ended = record { blocks = t.past ++ []; same = t.same [] }
 
-  pub taking_back : (b : List ℕ) (r : Arrived) (x : Refusal) → r ≡ arrive false a b → r.sheet.verdict ≡ verdict.Refused x → Taken r
+  pub taking_back : (b : List ℕ) (r : Arrived) (x : Refusal) → r ≡ arrive false a b → r.sheet.verdict ≡ Err x → Taken r
   unfolding plan_taken
   taking_back b r x e v = record {
     blocks = (t.past ++ (b ∷ [])) ++ [];

@@ -8,15 +8,15 @@ use lib.ListN.{length}
 use Rattle.model.specs.declared.Arriving.{Arriving}
 use Rattle.model.specs.declared.Chain.{Chain}
 use Rattle.model.specs.declared.LineStep.{LineStep}
+use Rattle.model.specs.declared.Refusal.{Refusal}
 use Rattle.model.specs.declared.Refusal.TheVariants as refusal
 use Rattle.model.specs.declared.Request.{Request}
-use Rattle.model.specs.declared.Verdict.{Verdict}
-use Rattle.model.specs.declared.Verdict.TheVariants as verdict
-use Rattle.model.specs.Answers.{by_verdict}
-use Rattle.model.specs.Values.{blank_chain, request_of}
+use Rattle.std.specs.Prelude.{Result, Ok, Err}
+use Rattle.model.specs.Answers.{Verdict, by_verdict, by_answer}
+use Rattle.model.specs.Values.{request_of}
 use Rattle.model_sheet.specs.Lines.{lines_of}
 use Rattle.model.specs.Judging.{judge_chain}
-use Rattle.model.specs.Planning.{judge_request, planned_chain, plan_of}
+use Rattle.model.specs.Planning.{judge_request, planned_chain}
 use Rattle.model_sheet.specs.Reading.{start, complete, read_lines, end_verdict, numbers_in, read_request}
 use Rattle.model_sheet.specs.Writing.{sheet_of, longest_sheet}
 use Rattle.model_sheet.specs.Arriving.{Arrived, opening, arrive, finished}
@@ -37,8 +37,8 @@ all_taken_lem a (b ∷ bs) = go (arrive false a b).sheet.verdict refl (all_taken
   where
     go : (v : Verdict) → (arrive false a b).sheet.verdict ≡ v → plan_taken (arrive false a b) bs ≡ arrive false (arrive false a b) (flatten bs)
         → plan_taken a (b ∷ bs) ≡ arrive false a (b ++ flatten bs)
-    go verdict.Accepted e ih = rw e (ih ∙ in_pieces false a b (flatten bs))
-    go (verdict.Refused x) e ih = rw e (sym (stays false (arrive false a b) x (flatten bs) e) ∙ in_pieces false a b (flatten bs))
+    go (Ok _) e ih = rw e (ih ∙ in_pieces false a b (flatten bs))
+    go (Err x) e ih = rw e (sym (stays false (arrive false a b) x (flatten bs) e) ∙ in_pieces false a b (flatten bs))
 
 -- What is written of a sheet's reading, with these rows beside it.
 abbrev answer_of : LineStep → (rows : List ℕ) → List ℕ
@@ -47,13 +47,13 @@ answer_of s rows =
     by_verdict (end_verdict s (judge_request request rows)) (sheet_of (planned_chain request rows) rows) refusal_text
 
 -- Where a line was turned back, they play no part.
-answer_alike : (s : LineStep) (rows other : List ℕ) → (s.verdict ≡ verdict.Accepted → rows ≡ other) → answer_of s rows ≡ answer_of s other
+answer_alike : (s : LineStep) (rows other : List ℕ) → (s.verdict ≡ Ok tt → rows ≡ other) → answer_of s rows ≡ answer_of s other
 unfolding end_verdict
 answer_alike s rows other h = go s.verdict refl
   where
     go : (v : Verdict) → s.verdict ≡ v → answer_of s rows ≡ answer_of s other
-    go verdict.Accepted e = ap (answer_of s) (h e)
-    go (verdict.Refused x) e = rw e
+    go (Ok _) e = ap (answer_of s) (h e)
+    go (Err x) e = rw e
 
 -- The answer is a function of the whole sheet's reading.
 answered : (input : List ℕ) → let a = arrive false opening input in plan_answer a.sheet a.rows ≡ plan_text input
@@ -62,36 +62,38 @@ answered input =
     let a = as_it_arrives false input in
     ap (λ (s : LineStep). answer_of s (arrive false opening input).rows) a.read
     ∙ answer_alike s (arrive false opening input).rows (numbers_in input) a.rows
-    ∙ go (end_verdict s (judge_request (request_of s.reading.chain) (numbers_in input)))
+    ∙ go (end_verdict s (judge_request asked (numbers_in input)))
   where
     s : LineStep
     s = read_lines false (numbers_in input) start (lines_of input)
 
-    sheet : Chain → List ℕ
-    sheet c = sheet_of (planned_chain (request_of c) (numbers_in input)) (numbers_in input)
+    asked : Request
+    asked = request_of s.reading.chain
 
-    go : (v : Verdict) → by_verdict v (sheet s.reading.chain) refusal_text ≡ by_verdict v (sheet (by_verdict v s.reading.chain (λ x. blank_chain))) refusal_text
-    go verdict.Accepted = refl
-    go (verdict.Refused x) = refl
+    sheet : Request → List ℕ
+    sheet r = sheet_of (planned_chain r (numbers_in input)) (numbers_in input)
+
+    go : (v : Verdict) → by_verdict v (sheet asked) refusal_text ≡ by_answer (by_verdict {A = Result Request Refusal} v (Ok asked) Err) sheet refusal_text
+    go (Ok _) = refl
+    go (Err x) = refl
 
 -- It fits.
-chain_fits : (c : Chain) (rows : List ℕ) → judge_chain c rows ≡ verdict.Accepted → length (sheet_of c rows) ≤ longest_sheet
+chain_fits : (c : Chain) (rows : List ℕ) → judge_chain c rows ≡ Ok tt → length (sheet_of c rows) ≤ longest_sheet
 chain_fits c rows e = sheet_length c rows (accepted_chain c rows e)
 
-planned_fits : (r : Request) (rows : List ℕ) → judge_request r rows ≡ verdict.Accepted → length (sheet_of (planned_chain r rows) rows) ≤ longest_sheet
-unfolding plan_of
-planned_fits r rows e = chain_fits (planned_chain r rows) rows (rw e at (plan_accepted r rows e))
+planned_fits : (r : Request) (rows : List ℕ) → judge_request r rows ≡ Ok tt → length (sheet_of (planned_chain r rows) rows) ≤ longest_sheet
+planned_fits r rows e = chain_fits (planned_chain r rows) rows (plan_accepted r rows e)
 
 text_fits : (s : LineStep) (r : Request) (rows : List ℕ) → length (by_verdict (end_verdict s (judge_request r rows)) (sheet_of (planned_chain r rows) rows) refusal_text) ≤ longest_sheet
 unfolding end_verdict
 text_fits s r rows = go s.verdict (complete s.reading) (judge_request r rows) refl
   where
     go : (v : Verdict) (b : Bool) (w : Verdict) → judge_request r rows ≡ w
-        → length (by_verdict (by_verdict v (cond b w (verdict.Refused refusal.Misplaced)) verdict.Refused) (sheet_of (planned_chain r rows) rows) refusal_text) ≤ longest_sheet
-    go (verdict.Refused x) b w e = omega (arith, refusal_length x)
-    go verdict.Accepted false w e = omega (arith, refusal_length refusal.Misplaced)
-    go verdict.Accepted true (verdict.Refused x) e = omega (arith, refusal_length x)
-    go verdict.Accepted true verdict.Accepted e = planned_fits r rows e
+        → length (by_verdict (by_verdict v (cond b w (Err refusal.Misplaced)) Err) (sheet_of (planned_chain r rows) rows) refusal_text) ≤ longest_sheet
+    go (Err x) b w e = omega (arith, refusal_length x)
+    go (Ok _) false w e = omega (arith, refusal_length refusal.Misplaced)
+    go (Ok _) true (Err x) e = omega (arith, refusal_length x)
+    go (Ok _) true (Ok _) e = planned_fits r rows e
 
 answer_fits : (a : Arriving) (rows : List ℕ) → length (plan_answer a rows) ≤ longest_sheet
 unfolding plan_answer

@@ -6,12 +6,11 @@ use native.Mathlib.Nat.{min-eq_left, mod-eq_of_lt, min-le_left, min-le_right, le
 use native.Mathlib.Omega.{arith}
 use lib.ListN.{length, take, drop, length-append, length-drop}
 use lib.Seq.{drop-drop, take-append-le, length-take-le}
-use Rattle.model.specs.declared.Answer.{Answer}
-use Rattle.model.specs.declared.Answer.TheVariants as answer
+use Rattle.std.specs.Prelude.{Ok}
 use Rattle.model.specs.declared.Counts.{Counts}
 use Rattle.model.specs.declared.Kernel.{Kernel}
 use Rattle.model.specs.declared.Kernel.TheVariants as kernel
-use Rattle.model.specs.Answers.{done_byte, stalled_byte, answer_counts}
+use Rattle.model.specs.Answers.{Answer, done_byte, stalled_byte, answer_counts}
 use Rattle.model.specs.Values.{Trimmed, trimmed}
 use Rattle.model_run.specs.Kernels.{width}
 use Rattle.model_run.specs.Running.{counters_of, Ending, Done, Spent, Starved, Stalled, Full, outcome_of, Run, width_of, run_of}
@@ -39,7 +38,7 @@ stage_of Starved = stage.Cells
 stage_of Stalled = stage.Ending stalled_byte
 stage_of Full = stage.Clocks
 
-stage_of_lem : (e : Ending) (c : Counts) → answer_stage (answer.Ended (outcome_of e c)) ≡ stage_of e
+stage_of_lem : (e : Ending) (c : Counts) → answer_stage (Ok (outcome_of e c)) ≡ stage_of e
 unfolding answer_stage outcome_stage outcome_of stage_of
 stage_of_lem Done c = refl
 stage_of_lem Spent c = refl
@@ -47,7 +46,7 @@ stage_of_lem Starved c = refl
 stage_of_lem Stalled c = refl
 stage_of_lem Full c = refl
 
-counts_of_lem : (e : Ending) (c : Counts) → answer_counts (answer.Ended (outcome_of e c)) ≡ c
+counts_of_lem : (e : Ending) (c : Counts) → answer_counts (Ok (outcome_of e c)) ≡ c
 unfolding answer_counts
 counts_of_lem e c = outcome_counts_lem e c
 

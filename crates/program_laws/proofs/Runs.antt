@@ -18,8 +18,7 @@ use Rattle.model_program.specs.Programs.{firings_text}
 use Rattle.model.specs.declared.Chain.{Chain}
 use Rattle.model.specs.declared.Counts.{Counts}
 use Rattle.model.specs.declared.State.{State}
-use Rattle.model.specs.declared.Answer.TheVariants as answer
-use Rattle.model.specs.declared.Verdict.TheVariants as verdict
+use Rattle.std.specs.Prelude.{Ok}
 use Rattle.grid_laws.proofs.ListLaws.{length_tabulate}
 use Rattle.flow.proofs.Laws.{few_clocks}
 use Rattle.model_run.specs.Words.{words_of, words_from}
@@ -73,7 +72,7 @@ fired_most [] = omega arith
 fired_most (true ∷ es) = omega (arith, fired_most es)
 fired_most (false ∷ es) = omega (arith, fired_most es)
 
-module _ (c : Chain) (rows : List ℕ) (ok : judge_chain c rows ≡ verdict.Accepted) (all : List ℕ) where
+module _ (c : Chain) (rows : List ℕ) (ok : judge_chain c rows ≡ Ok tt) (all : List ℕ) where
   abbrev S : Setting
   S = setting_of c rows ok all
 
@@ -126,7 +125,7 @@ module _ (c : Chain) (rows : List ℕ) (ok : judge_chain c rows ≡ verdict.Acce
     pub record Went (r : Run) : Type 0 where
       pub ending : Ending
       pub counts : Counts
-      pub answer : r.answer ≡ answer.Ended (outcome_of ending counts)
+      pub answer : r.answer ≡ Ok (outcome_of ending counts)
       pub stands : Stands r.state r.store (clocks + counts.clocks)
           (written ++ firings_text (width_of (trimmed c rows)) (counters state).fired counts.firings r.output) (drop counts.cells hand) later
       pub stopped : Stopped out allowance counts.clocks (counters r.state) (drop counts.cells hand) ending

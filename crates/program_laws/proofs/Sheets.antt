@@ -12,9 +12,8 @@ use Rattle.model.specs.declared.LineStep.{LineStep}
 use Rattle.model.specs.declared.Reading.{Reading}
 use Rattle.model.specs.declared.Refusal.{Refusal}
 use Rattle.model.specs.declared.Refusal.TheVariants as refusal
-use Rattle.model.specs.declared.Verdict.{Verdict}
-use Rattle.model.specs.declared.Verdict.TheVariants as verdict
-use Rattle.model.specs.Answers.{by_verdict}
+use Rattle.std.specs.Prelude.{Ok, Err}
+use Rattle.model.specs.Answers.{Verdict, by_verdict}
 use Rattle.model.specs.Values.{trimmed}
 use Rattle.model.specs.Judging.{judge_chain}
 use Rattle.model_sheet.specs.Lines.{Line, line_feed, lines_of}
@@ -53,19 +52,19 @@ module _ (rows : List ℕ) (r : Reading) (l : Line) (ls : List Line) where
   abbrev step_at : LineStep
   step_at = step_of true rows r (seen_of l.ended l.chars)
 
-  line_back : (x : Refusal) → step_at.verdict ≡ verdict.Refused x → sheet_and_behind rows r (l ∷ ls) ≡ record { step = step_at; behind = ls }
+  line_back : (x : Refusal) → step_at.verdict ≡ Err x → sheet_and_behind rows r (l ∷ ls) ≡ record { step = step_at; behind = ls }
   unfolding sheet_and_behind
   line_back x e = rw e
 
-  line_last : step_at.verdict ≡ verdict.Accepted → complete step_at.reading ≡ true → sheet_and_behind rows r (l ∷ ls) ≡ record { step = step_at; behind = ls }
+  line_last : step_at.verdict ≡ Ok tt → complete step_at.reading ≡ true → sheet_and_behind rows r (l ∷ ls) ≡ record { step = step_at; behind = ls }
   unfolding sheet_and_behind
   line_last e s = rw (e, s)
 
-  line_more : step_at.verdict ≡ verdict.Accepted → complete step_at.reading ≡ false → sheet_and_behind rows r (l ∷ ls) ≡ sheet_and_behind rows step_at.reading ls
+  line_more : step_at.verdict ≡ Ok tt → complete step_at.reading ≡ false → sheet_and_behind rows r (l ∷ ls) ≡ sheet_and_behind rows step_at.reading ls
   unfolding sheet_and_behind
   line_more e s = rw (e, s)
 
-text_refused : (rows : List ℕ) (p : Split) (x : Refusal) → p.step.verdict ≡ verdict.Refused x → text_behind rows p ≡ refusal_text x
+text_refused : (rows : List ℕ) (p : Split) (x : Refusal) → p.step.verdict ≡ Err x → text_behind rows p ≡ refusal_text x
 unfolding text_behind end_verdict
 text_refused rows p x e = rw e
 
@@ -83,9 +82,9 @@ pub record Midway (input : List ℕ) (a : Arriving) (rows rest : List ℕ) : Typ
 -- After a line or a part of one: still there, turned back, or behind the `04`.
 pub data Read (input : List ℕ) (a : Arriving) (rows rest : List ℕ) : Type 0 where
   further : Midway input a rows rest → Read input a rows rest
-  back : (x : Refusal) → a.verdict ≡ verdict.Refused x → run_text input ≡ refusal_text x → Read input a rows rest
-  whole : a.verdict ≡ verdict.Accepted → complete a.reading ≡ true → numbers_in input ≡ rows
-      → split_of input ≡ record { step = record { verdict = verdict.Accepted; reading = a.reading }; behind = lines_of rest } → Read input a rows rest
+  back : (x : Refusal) → a.verdict ≡ Err x → run_text input ≡ refusal_text x → Read input a rows rest
+  whole : a.verdict ≡ Ok tt → complete a.reading ≡ true → numbers_in input ≡ rows
+      → split_of input ≡ record { step = record { verdict = Ok tt; reading = a.reading }; behind = lines_of rest } → Read input a rows rest
 
 pub opened_midway : (input : List ℕ) → Midway input opened opening.rows input
 unfolding feeds numbers_feeds some infront complete closes numbers_in stood_first
@@ -108,10 +107,10 @@ at_feed input r p c rest feed few own due = go s.verdict refl
     s = step_of true all r (seen_of true p)
 
     go : (v : Verdict) → s.verdict ≡ v → let a = more true (standing all r p) c in Read input a.sheet a.rows rest
-    go (verdict.Refused x) e =
+    go (Err x) e =
         subst (λ (a : Arrived). Read input a.sheet a.rows rest) (sym (more_feed true all r p c feed few own))
         (back x e (run_text_lem input _ (due ∙ line_back all r l (lines_of rest) x e) ∙ text_refused all _ x e))
-    go verdict.Accepted e =
+    go (Ok _) e =
         let first = behind_first true all r (seen_of true p) e in
         subst (λ (a : Arrived). Read input a.sheet a.rows rest) (sym (more_accepted true all r p c feed few own e))
         (by_bool (complete s.reading)
@@ -188,7 +187,7 @@ sheet_cut input a rows m = go m.chars (ap (λ b. b.begun) m.arriving) (run_text_
     go [] e due = (λ t. absurd (let z : true ≡ false = sym t ∙ e in let y : ◌≡◌ {A = ℕ} 0 1 = cc in omega arith), λ _. due ∙ no_line all m.reading m.unended)
     go (c ∷ p) e due = (λ _. due ∙ cut_line all m.reading c p, λ t. absurd (let z : false ≡ true = sym t ∙ e in let y : ◌≡◌ {A = ℕ} 0 1 = cc in omega arith))
 
-no_more : (rows : List ℕ) (r : Reading) → sheet_and_behind rows r [] ≡ record { step = record { verdict = verdict.Accepted; reading = r }; behind = [] }
+no_more : (rows : List ℕ) (r : Reading) → sheet_and_behind rows r [] ≡ record { step = record { verdict = Ok tt; reading = r }; behind = [] }
 unfolding sheet_and_behind
 no_more rows r = refl
 
@@ -210,14 +209,14 @@ sheet_unended input a rows m = go m.chars m.due
         ∙ ap (λ (s : LineStep). complete s.reading) cut ∙ m.unended
 
 -- Behind the `04`: the chain is judged, and an accepted one is run.
-pub chain_back : (rows : List ℕ) (r : Reading) (ls : List Line) (x : Refusal) → complete r ≡ true → judge_chain r.chain rows ≡ verdict.Refused x
-    → text_behind rows (record { step = record { verdict = verdict.Accepted; reading = r }; behind = ls }) ≡ refusal_text x
+pub chain_back : (rows : List ℕ) (r : Reading) (ls : List Line) (x : Refusal) → complete r ≡ true → judge_chain r.chain rows ≡ Err x
+    → text_behind rows (record { step = record { verdict = Ok tt; reading = r }; behind = ls }) ≡ refusal_text x
 unfolding text_behind end_verdict
 chain_back rows r ls x s e = rw (s, e)
 
-pub chain_runs : (rows : List ℕ) (r : Reading) (ls : List Line) → complete r ≡ true → judge_chain r.chain rows ≡ verdict.Accepted
+pub chain_runs : (rows : List ℕ) (r : Reading) (ls : List Line) → complete r ≡ true → judge_chain r.chain rows ≡ Ok tt
     → let t = trimmed r.chain rows in
-    text_behind rows (record { step = record { verdict = verdict.Accepted; reading = r }; behind = ls })
+    text_behind rows (record { step = record { verdict = Ok tt; reading = r }; behind = ls })
     ≡ firings_text (width_of t) 0 (whole_run t (cells_in ls)).standing.done.firings (whole_run t (cells_in ls)).standing.output
     ++ end_text (whole_run t (cells_in ls)).ending (whole_run t (cells_in ls)).standing.done.clocks (behind_cells ls)
 unfolding text_behind end_verdict

@@ -9,9 +9,8 @@ use lib.ListN.{length, take, drop, length-append, length-drop}
 use lib.Seq.{drop-drop}
 use Rattle.model.specs.declared.Arriving.{Arriving}
 use Rattle.model.specs.declared.Refusal.{Refusal}
-use Rattle.model.specs.declared.Verdict.{Verdict}
-use Rattle.model.specs.declared.Verdict.TheVariants as verdict
-use Rattle.model.specs.Answers.{by_verdict}
+use Rattle.std.specs.Prelude.{Ok, Err}
+use Rattle.model.specs.Answers.{Verdict, by_verdict}
 use Rattle.model.specs.Judging.{most_places, judge_chain}
 use Rattle.model_run.specs.Running.{Ending}
 use Rattle.model_sheet.specs.Reading.{complete}
@@ -104,10 +103,10 @@ module _ (input : List ℕ) (l : Loop) (h : Holds input l) where
   rank_sheet a rows = go a.verdict (complete a.reading) (judge_chain a.reading.chain rows)
     where
       go : (v : Verdict) (b : Bool) (w : Verdict) → rank (by_verdict v (cond b (by_verdict w stage.Cells stage.Refusing) stage.Sheet) stage.Refusing) ≤ 2
-      go (verdict.Refused x) b w = omega arith
-      go verdict.Accepted false w = omega arith
-      go verdict.Accepted true verdict.Accepted = omega arith
-      go verdict.Accepted true (verdict.Refused x) = omega arith
+      go (Err x) b w = omega arith
+      go (Ok _) false w = omega arith
+      go (Ok _) true (Ok _) = omega arith
+      go (Ok _) true (Err x) = omega arith
 
   pub sheet_step : l.job.stage ≡ stage.Sheet → l.at < length l.block → Advances input l (sheet_read j l.block l.at l.rows l.store l.cells l.words l.text)
   unfolding sheet_read line_taken
@@ -142,25 +141,25 @@ module _ (input : List ℕ) (l : Loop) (h : Holds input l) where
     where
       go : (b : Bool) (v : Verdict) → rank (cond b stage.Clocks (by_verdict v stage.Cells stage.Refusing)) ≤ 3
       go true v = omega arith
-      go false verdict.Accepted = omega arith
-      go false (verdict.Refused x) = omega arith
+      go false (Ok _) = omega arith
+      go false (Err x) = omega arith
 
-  rank_back : (x : Refusal) → rank (cells_stage 0 (verdict.Refused x)) ≡ 1
+  rank_back : (x : Refusal) → rank (cells_stage 0 (Err x)) ≡ 1
   unfolding cells_stage
   rank_back x = refl
 
-  cells_nearer : (v : Verdict) → j.line.verdict ≡ v → (v ≡ verdict.Accepted → l.at < length l.block)
+  cells_nearer : (v : Verdict) → j.line.verdict ≡ v → (v ≡ Ok tt → l.at < length l.block)
       → rank (cells_stage (length read.cells) read.line.verdict) < 3 * read.looked + 2
-  cells_nearer verdict.Accepted e some =
+  cells_nearer (Ok _) e some =
       omega (
         arith,
         rank_cells (length read.cells) read.line.verdict,
         one_at_least (drop l.at l.block) (length l.cells) j.line e h.cells (omega (arith, some refl, length-drop l.at l.block)),
       )
-  cells_nearer (verdict.Refused x) e some =
+  cells_nearer (Err x) e some =
       rw (none_behind (drop l.at l.block) (length l.cells) j.line x e, e) (omega (arith, rank_back x))
 
-  pub cells_step : l.job.stage ≡ stage.Cells → (j.line.verdict ≡ verdict.Accepted → l.at < length l.block)
+  pub cells_step : l.job.stage ≡ stage.Cells → (j.line.verdict ≡ Ok tt → l.at < length l.block)
       → Advances input l (cells_read j l.block l.at l.rows l.store l.cells l.words l.text)
   unfolding cells_read cells_taken
   cells_step e some =

@@ -9,9 +9,8 @@ use lib.ListN.{length, take, drop}
 use lib.Seq.{drop-length}
 use borrow.Author.Tests.{eqb-true, eqb-false}
 use Rattle.model.specs.declared.Refusal.TheVariants as refusal
-use Rattle.model.specs.declared.Verdict.{Verdict}
-use Rattle.model.specs.declared.Verdict.TheVariants as verdict
-use Rattle.model.specs.Answers.{starved_byte, by_verdict}
+use Rattle.std.specs.Prelude.{Ok, Err}
+use Rattle.model.specs.Answers.{Verdict, starved_byte, by_verdict}
 use Rattle.model_sheet.specs.Frames.{framed}
 use Rattle.model_run.specs.Running.{Starved}
 use Rattle.model_program.specs.Programs.{end_line, refusal_text, end_text, run_text}
@@ -43,17 +42,17 @@ module _ (input : List ℕ) (j : Job) (rows store cells written : List ℕ) wher
       go true e = rw i.nothing (sym (cut.0 e))
       go false e = rw i.nothing (sym (cut.1 e))
 
-  pub cells_end : j.line.verdict ≡ verdict.Accepted → InCells input j rows [] store written → Due input (closed_by stage.Cells j).stage (closed_by stage.Cells j) rows [] store cells written
+  pub cells_end : j.line.verdict ≡ Ok tt → InCells input j rows [] store written → Due input (closed_by stage.Cells j).stage (closed_by stage.Cells j) rows [] store cells written
   unfolding closed_by
   cells_end v i = go j.line.begun ends.1
     where
-      ends : (i.run.later ≡ []) × (i.run.behind ≡ cond j.line.begun (verdict.Refused refusal.Malformed) verdict.Accepted)
+      ends : (i.run.later ≡ []) × (i.run.behind ≡ cond j.line.begun (Err refusal.Malformed) (Ok tt))
       ends = input_ends j.line i.run.later i.run.behind v i.run.gives
 
       due : written ++ end_text Starved j.clocks i.run.behind ≡ run_text input
       due = starved_due input j rows [] store written i ends.0
 
-      go : (b : Bool) → i.run.behind ≡ cond b (verdict.Refused refusal.Malformed) verdict.Accepted
+      go : (b : Bool) → i.run.behind ≡ cond b (Err refusal.Malformed) (Ok tt)
           → Due input (cond b (stage.Refusing refusal.Malformed) (stage.Ending starved_byte)) (staged j (cond b (stage.Refusing refusal.Malformed) (stage.Ending starved_byte))) rows [] store cells written
       go true e = ap (λ (u : Verdict). written ++ end_text Starved j.clocks u) (sym e) ∙ due
       go false e = ap (λ (u : Verdict). written ++ end_text Starved j.clocks u) (sym e) ∙ due
@@ -110,8 +109,8 @@ module _ (input : List ℕ) (l : Loop) (h : Holds input l) (on : over l.job.stag
   at_end_lem stage.Cells e w at none = go l.job.line.verdict refl w
     where
       go : (v : Verdict) → l.job.line.verdict ≡ v → by_verdict v true (λ x. false) ≡ true → Supplied input l (with_block l (closed_by stage.Cells l.job) [] [])
-      go (verdict.Refused x) v z = absurd (never (sym z))
-      go verdict.Accepted v z =
+      go (Err x) v z = absurd (never (sym z))
+      go (Ok _) v z =
           let due = cells_end input l.job l.rows l.store l.cells l.written v
           (subst (λ (xs : List ℕ). InCells input l.job l.rows xs l.store l.written) (used_up at ∙ ap (λ (xs : List (List ℕ)). flatten xs) none) (due_at input l h stage.Cells e)) in
           by l.job.line.begun due

@@ -8,14 +8,11 @@ use lib.Dec.{eqb}
 use lib.ListN.{length, drop, length-append}
 use lib.Seq.{drop-length}
 use borrow.Author.Tests.{eqb-true}
-use Rattle.model.specs.declared.Answer.{Answer}
-use Rattle.model.specs.declared.Answer.TheVariants as answer
+use Rattle.std.specs.Prelude.{Ok, Err}
 use Rattle.model.specs.declared.Outcome.TheVariants as outcome
 use Rattle.model.specs.declared.Refusal.{Refusal}
-use Rattle.model.specs.declared.Verdict.{Verdict}
-use Rattle.model.specs.declared.Verdict.TheVariants as verdict
 use Rattle.model.specs.declared.Refusal.TheVariants as refusal
-use Rattle.model.specs.Answers.{starved_byte, by_verdict}
+use Rattle.model.specs.Answers.{Verdict, Answer, starved_byte, by_verdict}
 use Rattle.model_sheet.specs.Arriving.{CellsRead}
 use Rattle.model_sheet.specs.Frames.{framed}
 use Rattle.model_program.specs.Programs.{end_line, refusal_text, run_text}
@@ -153,8 +150,8 @@ module _ (input : List ℕ) (l : Loop) (h : Holds input l) (none : l.blocks ≡ 
       by false d = record { last = framed (end_line starved_byte j.clocks); missing = no_cell; all = d }
 
       go : (x : Verdict) → j.line.verdict ≡ x → by_verdict x true (λ y. false) ≡ true → Told input l × StarvedAt input
-      go (verdict.Refused y) d z = absurd (never (sym z))
-      go verdict.Accepted d z = (
+      go (Err y) d z = absurd (never (sym z))
+      go (Ok _) d z = (
         by j.line.begun (cells_end input j l.rows l.store l.cells l.written d i),
         λ _. starved_run input j l.rows [] l.store l.written i (input_ends j.line i.run.later i.run.behind d i.run.gives).0,
       )
@@ -196,14 +193,14 @@ reads_starved past further some lent n unread w = (there past further some lent 
 Stays : Loop → Type 0
 Stays l = ((turn l).blocks ≡ l.blocks) × (settled (turn l).job.stage (turn l).job.line.verdict ≡ true)
 
-after_answer : (a : Answer) (x : Refusal) → settled (answer_stage a) (verdict.Refused x) ≡ true
+after_answer : (a : Answer) (x : Refusal) → settled (answer_stage a) (Err x) ≡ true
 unfolding answer_stage outcome_stage
-after_answer (answer.Refused y) x = refl
-after_answer (answer.Ended (outcome.Done c)) x = refl
-after_answer (answer.Ended (outcome.Spent c)) x = refl
-after_answer (answer.Ended (outcome.Starved c)) x = refl
-after_answer (answer.Ended (outcome.Stalled c)) x = refl
-after_answer (answer.Ended (outcome.Full c)) x = refl
+after_answer (Err y) x = refl
+after_answer (Ok (outcome.Done c)) x = refl
+after_answer (Ok (outcome.Spent c)) x = refl
+after_answer (Ok (outcome.Starved c)) x = refl
+after_answer (Ok (outcome.Stalled c)) x = refl
+after_answer (Ok (outcome.Full c)) x = refl
 
 module _ (l : Loop) where
   abbrev step_at : Stage → Step
@@ -226,13 +223,13 @@ module _ (l : Loop) where
       neither false = refl
 
   -- Where a line was turned back, no cell is read behind it, and a run call leaves the line.
-  read_none : (x : Refusal) → l.job.line.verdict ≡ verdict.Refused x → settled (step_at stage.Cells).job.stage (step_at stage.Cells).job.line.verdict ≡ true
+  read_none : (x : Refusal) → l.job.line.verdict ≡ Err x → settled (step_at stage.Cells).job.stage (step_at stage.Cells).job.line.verdict ≡ true
   unfolding advanced_by cells_read cells_taken cells_stage
   read_none x e =
       ap (λ (r : CellsRead). settled (cells_stage (length r.cells) r.line.verdict) r.line.verdict) (none_behind (drop l.at l.block) (length l.cells) l.job.line x e)
       ∙ ap (λ (v : Verdict). settled (cells_stage 0 v) v) e
 
-  run_leaves : (x : Refusal) → l.job.line.verdict ≡ verdict.Refused x → settled (step_at stage.Clocks).job.stage (step_at stage.Clocks).job.line.verdict ≡ true
+  run_leaves : (x : Refusal) → l.job.line.verdict ≡ Err x → settled (step_at stage.Clocks).job.stage (step_at stage.Clocks).job.line.verdict ≡ true
   unfolding advanced_by ran_on
   run_leaves x e = ap (λ (v : Verdict). settled (step_at stage.Clocks).job.stage v) e ∙ after_answer _ x
 
@@ -240,16 +237,16 @@ module _ (l : Loop) where
   unfolding Stays over wants_by advanced_by last_line
   stays due = go l.job.stage refl due l.job.line.verdict refl
     where
-      back : (v : Verdict) → by_verdict v false (λ x. true) ≡ true → (x : Refusal) → v ≡ verdict.Refused x → by_verdict v true (λ y. false) ≡ false
-      back verdict.Accepted d x e = absurd (never (sym d))
-      back (verdict.Refused y) d x e = refl
+      back : (v : Verdict) → by_verdict v false (λ x. true) ≡ true → (x : Refusal) → v ≡ Err x → by_verdict v true (λ y. false) ≡ false
+      back (Ok _) d x e = absurd (never (sym d))
+      back (Err y) d x e = refl
 
       go : (s : Stage) → l.job.stage ≡ s → settled s l.job.line.verdict ≡ true → (v : Verdict) → l.job.line.verdict ≡ v → Stays l
       go stage.Sheet e d v w = absurd (never (sym d))
-      go stage.Cells e d verdict.Accepted w = absurd (never (sym d ∙ ap (λ (v : Verdict). by_verdict v false (λ x. true)) w))
-      go stage.Cells e d (verdict.Refused x) w = stays_by stage.Cells e refl (back l.job.line.verdict d x w) (read_none x w)
-      go stage.Clocks e d verdict.Accepted w = absurd (never (sym d ∙ ap (λ (v : Verdict). by_verdict v false (λ x. true)) w))
-      go stage.Clocks e d (verdict.Refused x) w = stays_by stage.Clocks e refl refl (run_leaves x w)
+      go stage.Cells e d (Ok _) w = absurd (never (sym d ∙ ap (λ (v : Verdict). by_verdict v false (λ x. true)) w))
+      go stage.Cells e d (Err x) w = stays_by stage.Cells e refl (back l.job.line.verdict d x w) (read_none x w)
+      go stage.Clocks e d (Ok _) w = absurd (never (sym d ∙ ap (λ (v : Verdict). by_verdict v false (λ x. true)) w))
+      go stage.Clocks e d (Err x) w = stays_by stage.Clocks e refl refl (run_leaves x w)
       go (stage.Ending way) e d v w = stays_by (stage.Ending way) e refl refl refl
       go (stage.Refusing x) e d v w = stays_by (stage.Refusing x) e refl refl refl
       go stage.Over e d v w =

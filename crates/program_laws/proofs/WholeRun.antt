@@ -18,8 +18,8 @@ use Rattle.model_run.specs.CallLists.{Lending, Between, lent_cells}
 use Rattle.model_program.specs.Programs.{firings_text, end_text, whole_run}
 use Rattle.model.specs.declared.CellsPassed.{CellsPassed}
 use Rattle.model.specs.declared.Chain.{Chain}
-use Rattle.model.specs.declared.Verdict.{Verdict}
-use Rattle.model.specs.declared.Verdict.TheVariants as verdict
+use Rattle.std.specs.Prelude.{Ok}
+use Rattle.model.specs.Answers.{Verdict}
 use Rattle.grid_laws.proofs.ListLaws.{tabulate_back}
 use Rattle.flow.proofs.Laws.{fewer_clocks}
 use Rattle.flow.proofs.Timing.{fresh_first}
@@ -57,7 +57,7 @@ lent_hand t all taken hand later l b e p n =
     tabulate_back 0 hand l.cells _ (sym n)
     (λ k h. ap₂ (λ (xs : List ℕ) (i : ℕ). get_or xs (i + k) 0) e p ∙ get_or-append-add taken (hand ++ later) k 0 ∙ get_or-append hand later 0 k (omega arith))
 
-module _ (c : Chain) (rows : List ℕ) (ok : judge_chain c rows ≡ verdict.Accepted) (all : List ℕ) where
+module _ (c : Chain) (rows : List ℕ) (ok : judge_chain c rows ≡ Ok tt) (all : List ℕ) where
   -- The chain, and the cells as a stream.
   abbrev pub setting_of : Setting
   setting_of = record { trimmed = trimmed c rows; proper = trimmed_proper c rows; accepted = accepted_chain c rows ok; stream = λ i. get_or all i 0 }

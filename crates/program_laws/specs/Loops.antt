@@ -1,6 +1,6 @@
 -- The loops of the programs, as their code goes through them. No contract can name what a read gave, so they speak of some
 -- answer and of some blocks.
-use Rattle.std.specs.Prelude.{ℕ, suc, ◌≤◌, Bool, true, false, ◌&&◌, ◌≡◌, eqb, ℤ, pos, negsuc, length}
+use Rattle.std.specs.Prelude.{ℕ, suc, ◌≤◌, Bool, true, false, ◌&&◌, ◌≡◌, eqb, ℤ, pos, negsuc, length, Option, None, Some}
 use mathlib.Core.List.{List, [], ◌++◌, flatten}
 use Rattle.model.specs.declared.Arriving.{Arriving}
 use Rattle.model_sheet.specs.Arriving.{Arrived, opening}
@@ -83,9 +83,9 @@ pub record Taken (a : Arrived) : Type 0 where
   pub blocks : List (List ℕ)
   pub same : plan_taken opening blocks ≡ a
 
-abbrev pub TakenUnless : (failed : Bool) → Arriving → (rows : List ℕ) → Type 0
-TakenUnless true a rows = Unit {0}
-TakenUnless false a rows = Taken (record { sheet = a; rows = rows })
+abbrev pub TakenIn : Option Arriving → (rows : List ℕ) → Type 0
+TakenIn None rows = Unit {0}
+TakenIn (Some a) rows = Taken (record { sheet = a; rows = rows })
 
 -- A text that is due of this sheet: that of the blocks read.
 pub record PlanDue (a : Arriving) (rows text : List ℕ) : Type 0 where

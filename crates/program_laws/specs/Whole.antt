@@ -2,8 +2,7 @@
 use Rattle.std.specs.Prelude.{ℕ, zero, suc, ◌+◌, ◌*◌, ◌≤◌, ◌<◌, Bool, true, false, cond, ◌&&◌, ◌≡◌, eqb, negsuc, length, take}
 use mathlib.Core.List.{List, [], ◌∷◌, ◌++◌, flatten}
 use Rattle.model.specs.declared.Refusal.TheVariants as refusal
-use Rattle.model.specs.declared.Verdict.{Verdict}
-use Rattle.model.specs.Answers.{starved_byte, by_verdict}
+use Rattle.model.specs.Answers.{Verdict, starved_byte, by_verdict}
 use Rattle.model.specs.Values.{trimmed}
 use Rattle.model_sheet.specs.Lines.{lines_of}
 use Rattle.model_sheet.specs.Frames.{framed}

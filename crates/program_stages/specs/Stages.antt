@@ -1,12 +1,9 @@
 -- What the program `run` does next.
-use Rattle.std.specs.Prelude.{ℕ, Bool, true, false, cond, List, ltb}
-use Rattle.model.specs.declared.Answer.{Answer}
-use Rattle.model.specs.declared.Answer.TheVariants as answer
+use Rattle.std.specs.Prelude.{ℕ, Bool, true, false, cond, List, ltb, Ok, Err}
 use Rattle.model.specs.declared.Arriving.{Arriving}
 use Rattle.model.specs.declared.Outcome.{Outcome}
 use Rattle.model.specs.declared.Outcome.TheVariants as outcome
-use Rattle.model.specs.declared.Verdict.{Verdict}
-use Rattle.model.specs.Answers.{done_byte, stalled_byte, by_verdict}
+use Rattle.model.specs.Answers.{Verdict, Answer, done_byte, stalled_byte, by_verdict}
 use Rattle.model.specs.Judging.{judge_chain}
 use Rattle.model_sheet.specs.Reading.{complete}
 use Rattle.program_stages.specs.declared.Stage.{Stage}
@@ -32,8 +29,8 @@ outcome_stage (outcome.Full c) = stage.Clocks
 
 unfoldable pub answer_stage : Answer → Stage
 unfolding outcome_stage
-answer_stage (answer.Ended o) = outcome_stage o
-answer_stage (answer.Refused x) = stage.Refusing x
+answer_stage (Ok o) = outcome_stage o
+answer_stage (Err x) = stage.Refusing x
 
 -- Nothing is left to do without more input, by the verdict of the line of cells that was read last.
 unfoldable pub wants_by : Stage → Verdict → Bool

@@ -5,7 +5,7 @@
 ghost use Rattle.std.specs.Prelude.{◌≡◌};
 ghost use Rattle.program_stages.specs.Stages.{sheet_stage, cells_stage, answer_stage, wants_by, over};
 
-use model::{Answer, Arriving, DONE_BYTE, Outcome, Refusal, STALLED_BYTE, Verdict};
+use model::{Arriving, DONE_BYTE, Outcome, Refusal, STALLED_BYTE};
 
 // What a run of the program `run` does next.
 #[derive(Clone, Copy)]
@@ -25,83 +25,66 @@ pub enum Stage {
 }
 
 // Where the sheet has been read to: turned back, still open, or at its `04`, where the chain is judged, with the rows beside it.
+#[tactic(auto, unfolding(crate::specs::Stages::sheet_stage))]
 pub fn sheet_stage(a: Arriving, rows: &[u32]) -> Stage
     ensures { result ≡ sheet_stage a rows.now }
 {
-    let v = a.verdict;
-    match v {
-        Verdict::Refused(n) => Stage::Refusing(n),
-        Verdict::Accepted => {
-            let r = a.reading;
-            if !sheet_reader::is_complete(r) {
-                return Stage::Sheet;
-            }
-            let chain = r.chain;
-            let judged = judging::judge_chain(chain, rows);
-            match judged {
-                Verdict::Refused(n) => Stage::Refusing(n),
-                Verdict::Accepted => Stage::Cells,
-            }
-        }
+    if let Err(x) = a.verdict {
+        return Stage::Refusing(x);
+    }
+    if !sheet_reader::is_complete(a.reading) {
+        return Stage::Sheet;
+    }
+    match judging::judge_chain(a.reading.chain, rows) {
+        Ok(()) => Stage::Cells,
+        Err(x) => Stage::Refusing(x),
     }
 }
 
 // Cells first; a line that was turned back only where none is left.
-pub fn cells_stage(count: usize, v: Verdict) -> Stage
+#[tactic(auto, unfolding(crate::specs::Stages::cells_stage))]
+pub fn cells_stage(count: usize, v: Result<(), Refusal>) -> Stage
     ensures { result ≡ cells_stage count v }
 {
     if 0 < count {
         return Stage::Clocks;
     }
     match v {
-        Verdict::Refused(n) => Stage::Refusing(n),
-        Verdict::Accepted => Stage::Cells,
+        Ok(()) => Stage::Cells,
+        Err(x) => Stage::Refusing(x),
     }
 }
 
 // After a run call.
-pub fn answer_stage(a: Answer) -> Stage
+#[tactic(auto, unfolding(crate::specs::Stages::answer_stage, crate::specs::Stages::outcome_stage))]
+pub fn answer_stage(a: Result<Outcome, Refusal>) -> Stage
     ensures { result ≡ answer_stage a }
 {
     match a {
-        Answer::Refused(n) => Stage::Refusing(n),
-        Answer::Ended(o) => match o {
-            Outcome::Done(_) => Stage::Ending(DONE_BYTE),
-            Outcome::Stalled(_) => Stage::Ending(STALLED_BYTE),
-            Outcome::Starved(_) => Stage::Cells,
-            Outcome::Full(_) => Stage::Clocks,
-            Outcome::Spent(_) => Stage::Clocks,
-        },
+        Ok(Outcome::Done(_)) => Stage::Ending(DONE_BYTE),
+        Ok(Outcome::Stalled(_)) => Stage::Ending(STALLED_BYTE),
+        Ok(Outcome::Starved(_)) => Stage::Cells,
+        Ok(Outcome::Full(_) | Outcome::Spent(_)) => Stage::Clocks,
+        Err(x) => Stage::Refusing(x),
     }
 }
 
 // Nothing is left to do without more input, where `v` is the verdict of the line of cells that was read last.
-pub fn wants_input(stage: Stage, v: Verdict) -> bool
+#[tactic(auto, unfolding(crate::specs::Stages::wants_by))]
+pub fn wants_input(stage: Stage, v: Result<(), Refusal>) -> bool
     ensures { result ≡ wants_by stage v }
 {
     match stage {
         Stage::Sheet => true,
-        Stage::Cells => match v {
-            Verdict::Accepted => true,
-            Verdict::Refused(_) => false,
-        },
-        Stage::Clocks => false,
-        Stage::Ending(_) => false,
-        Stage::Refusing(_) => false,
-        Stage::Over => false,
+        Stage::Cells => v.is_ok(),
+        Stage::Clocks | Stage::Ending(_) | Stage::Refusing(_) | Stage::Over => false,
     }
 }
 
 // Nothing is left to do.
+#[tactic(auto, unfolding(crate::specs::Stages::over))]
 pub fn is_over(stage: Stage) -> bool
     ensures { result ≡ over stage }
 {
-    match stage {
-        Stage::Over => true,
-        Stage::Sheet => false,
-        Stage::Cells => false,
-        Stage::Clocks => false,
-        Stage::Ending(_) => false,
-        Stage::Refusing(_) => false,
-    }
+    matches!(stage, Stage::Over)
 }

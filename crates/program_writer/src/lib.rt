@@ -12,8 +12,6 @@ ghost use Rattle.program_writer.specs.Texts.{laid, laid_if_fits, room_for, fitti
 
 use hexadecimal::{high_digit, low_digit};
 use model::Refusal;
-use numbers::lesser;
-use values::number_of;
 
 // The two digits of a byte.
 fn put_byte(out: &mut [u8], at: usize, b: u8)
@@ -42,14 +40,10 @@ fn put_words(out: &mut [u8], at: usize, words: &[u32], from: usize, size: usize)
         × (out.new
         ≡ sets out.old at (digits_of (flat_map word_bytes (take size (drop from words.now))))) }
 {
-    let mut i: usize = 0;
-    let mut p = at;
-    while i < size {
-        put_word(out, p, words[from + i]);
-        p = p + 8;
-        i += 1;
+    for i in 0..size {
+        put_word(out, at + 8 * i, words[from + i]);
     }
-    p
+    at + 8 * size
 }
 
 // One `10` line; the place behind it.
@@ -94,8 +88,8 @@ fn how_many(size: usize, index: u32, n: u32, words: usize, room: usize) -> usize
         return 0;
     }
     let indices = (4294967295 - index) as usize;
-    let lines = lesser(room / (8 * size + 11), indices);
-    lesser(n as usize, lesser(words / size, lines))
+    let lines = (room / (8 * size + 11)).min(indices);
+    (n as usize).min((words / size).min(lines))
 }
 
 // The lines of n firings of `size` words each, the first of which has this index: as many as fit. How many characters they have.
@@ -103,15 +97,9 @@ pub fn put_firings(size: usize, index: u32, n: u32, words: &[u32], out: &mut [u8
     ensures { laid result out.new ≡ firings_laid size index n words.now out.old }
 {
     let lines = how_many(size, index, n, words.len(), out.len());
-    let mut i: usize = 0;
-    let mut at: usize = 0;
-    let mut from: usize = 0;
-    let mut j = index;
-    while i < lines {
-        at = put_firing(out, at, j, words, from, size);
-        from = from + size;
-        j += 1;
-        i += 1;
+    let mut at = 0;
+    for i in 0..lines {
+        at = put_firing(out, at, index + i as u32, words, i * size, size);
     }
     at
 }
@@ -138,7 +126,7 @@ pub fn put_refusal(n: Refusal, out: &mut [u8]) -> usize
         return 0;
     }
     put_byte(out, 0, 0x1F);
-    put_byte(out, 2, number_of(n));
+    put_byte(out, 2, u8::from(n));
     out[4] = b'\n';
     5
 }

@@ -1,5 +1,5 @@
 -- Reuse distances on rows: the largest over the first iterations of the rows that have any.
-use Prim.Native.Nat.{ℕ, ◌+◌, ◌-◌, ◌≤◌, ◌<◌, max}
+use Prim.Native.Nat.{ℕ, ◌+◌, ◌-◌, ◌<◌, max}
 use mathlib.Core.Bool.{Bool, true, false, cond}
 use mathlib.Core.List.{List, [], ◌∷◌, map}
 use mathlib.Core.Path.{◌≡◌, refl, sym, ◌∙◌, ap, ap₂}
@@ -9,14 +9,13 @@ use lib.ListN.{length, replicate}
 use borrow.Author.Tests.{eq-eqb, ne_eqb}
 use Rattle.model.specs.Lists.{tabulate, greatest}
 use Rattle.model.specs.Grounds.{Row, row, cells_above}
-use Rattle.model.specs.Judging.{most_cells}
 use Rattle.model.specs.Iterations.{firsts_from}
 use Rattle.grid_laws.proofs.ListLaws.{tabulate_same}
 use Rattle.geometry.specs.Parts.{number_at, Filled}
 use Rattle.geometry.proofs.FillLaws.{filled_none}
 use Rattle.rows.specs.Courses.{looked, row_length}
 use Rattle.rows.specs.declared.RowCourse.{RowCourse}
-use Rattle.row_courses.specs.CourseTables.{read_at, distance_at, Near}
+use Rattle.row_courses.specs.CourseTables.{read_at, distance_at}
 
 -- A list that is filled with the same entries, and one of zeros.
 module _ (size : ℕ) (f g : ℕ → ℕ) where
@@ -47,9 +46,6 @@ module _ (rs : List Row) (above : List ℕ) (c : RowCourse) (v : ℕ) where
     widen_none m e f = filled_same 31 (number_at r) (λ k. max (distance_at rs above c k v) (number_at r k)) m m r refl (λ k h. omega (arith, distance_none k e)) f
 
     module _ (at : List ℕ) (a : Filled 32 0 (read_at rs above c v) (looked c) at) (n : ℕ) (e : n ≡ looked c) where
-      pub reads_near : Near rs above c v → (row_length rs c v ≡ 0 → ⊥) → (k : ℕ) → k < n → number_at at k ≤ most_cells
-      reads_near near some k h = omega (arith, a.done k (omega arith), near (omega arith) k (omega arith))
-
       pub widen_some : (xs : List ℕ) → (row_length rs c v ≡ 0 → ⊥) → Filled 31 0 (λ k. max (number_at at k - number_at at (k + 1)) (number_at r k)) (n - 1) xs
           → Filled 31 0 (λ k. max (distance_at rs above c k v) (number_at r k)) (looked c - 1) xs
       widen_some xs some f =

@@ -18,7 +18,7 @@ use Rattle.model.specs.Courses.{rows_down, columns_on, common_row, count as coun
 use Rattle.model.specs.Boxes.{course}
 use Rattle.model.specs.Boxes.Part.{whole, box}
 use Rattle.model.specs.Values.{rows_of, offsets_of, part_of, on_rows}
-use Rattle.model.specs.Answers.{by_verdict}
+use Rattle.model.specs.Answers.{by_verdict, verdict_of}
 use Rattle.model.specs.Iterations.{firsts, position_of, course_of, iterations_of, iteration_of, reads_of, distance_in, distance_of}
 use Rattle.model.specs.declared.Bounds.{Bounds}
 use Rattle.model.specs.declared.Window.{Window}
@@ -28,11 +28,10 @@ use Rattle.grid_laws.proofs.CheckLaws.{WindowPasses, window_passes, some_referen
 use Rattle.grid_laws.proofs.RowLaws.{Holds, row_there, above_all}
 use Rattle.grid_laws.proofs.Iterations.{few_cells, below_cells}
 use Rattle.model.specs.declared.Refusal.{Refusal}
-use Rattle.model.specs.declared.Verdict.TheVariants as verdict
+use Rattle.std.specs.Prelude.{Err}
 use Rattle.geometry.specs.Parts.{number_at, Filled}
 use Rattle.rows.specs.Courses.{course_for, looked, column_in, row_length}
 use Rattle.rows.specs.Surveys.{row_survey_of, Surveyed}
-use Rattle.rows.specs.declared.RowSurvey.{RowSurvey}
 use Rattle.rows.proofs.SurveyLaws.{survey_verdict}
 use Rattle.rows.specs.declared.RowCourse.{RowCourse}
 use Rattle.rows.proofs.WindowLaws.{two_sized}
@@ -226,6 +225,6 @@ module _ (count : ℕ) (rows : List ℕ) (w : Window) (b : Bounds) (c : RowCours
   distances_count = omega (arith, looked_is) ∙ sym (ap (λ v. by_verdict v (w.count - 1) (λ _. 0)) s.accepted)
 
 -- Where the survey refuses, there are none.
-pub none_refused : (count : ℕ) (rows : List ℕ) (w : Window) (b : Bounds) (s : RowSurvey) (x : Refusal) → s ≡ row_survey_of count rows w b → s.verdict ≡ verdict.Refused x → 0 ≡ distance_count count rows w b
-none_refused count rows w b s x e r =
-    sym (ap (λ v. by_verdict v (w.count - 1) (λ _. 0)) (sym (survey_verdict count rows w b) ∙ sym (ap (λ (s : RowSurvey). s.verdict) e) ∙ r))
+pub none_refused : (count : ℕ) (rows : List ℕ) (w : Window) (b : Bounds) (x : Refusal) → row_survey_of count rows w b ≡ Err x → 0 ≡ distance_count count rows w b
+none_refused count rows w b x r =
+    sym (ap (λ v. by_verdict v (w.count - 1) (λ _. 0)) (sym (survey_verdict count rows w b) ∙ ap verdict_of r))

@@ -102,21 +102,6 @@ pub record Search (above : List ℕ) (height j from to : ℕ) : Type 0 where
   pub high : to < min height 512 → j < number_at above to
 
 module _ (above : List ℕ) (height j : ℕ) where
-  pub search_start : (to : ℕ) → to ≡ min height 512 → Search above height j 0 to
-  search_start to e = record { rises = omega arith; most = omega arith; some = omega arith; low = λ h. absurd (omega arith); high = λ h. absurd (omega arith) }
-
-  pub search_on : (from to middle : ℕ) → from < middle → middle < to → number_at above middle ≤ j → Search above height j from to → Search above height j middle to
-  search_on from to middle a b h s = record { rises = omega arith; most = s.most; some = s.some; low = λ _. h; high = s.high }
-
-  pub search_back : (from to middle : ℕ) → from < middle → middle < to → j < number_at above middle → Search above height j from to → Search above height j from middle
-  search_back from to middle a b h s = record { rises = omega arith; most = omega (arith, s.most); some = omega arith; low = s.low; high = λ _. h }
-
-  pub search_end : (from to : ℕ) → to ≤ from + 1 → Search above height j from to → RowOf above height j from
-  search_end from to h s = record { below = omega (arith, s.rises, s.most); from = s.low; to = λ l. next (omega (arith, s.rises, s.most, s.some)) l }
-    where
-      next : to ≡ from + 1 → from + 1 < min height 512 → j < number_at above (from + 1)
-      next e l = rw e at (s.high (omega arith))
-
   -- Where iteration j lies in a row, that is the answer.
   pub row_of_lies : (v : ℕ) → height ≤ 512 → number_at above 0 ≤ j → j < number_at above height → RowOf above height j v → LiesIn above height j v
   row_of_lies v few low high r = go (dec_lt 0 height)

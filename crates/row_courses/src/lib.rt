@@ -14,8 +14,7 @@ ghost use Rattle.rows.specs.Courses.{looked, row_length};
 ghost use Rattle.row_courses.specs.CourseTables.{above_count, lengths_above, entry_of, read_at, RowOf, distance_at, Near};
 ghost use Rattle.row_courses.specs.CourseTables.{AllNear, distance_count};
 
-use model::{Bounds, MOST_ROWS, Verdict, Window};
-use numbers::{greater_u32, less, lesser, wide_usize};
+use model::{Bounds, MOST_ROWS, Window};
 use rows::RowCourse;
 
 // How many cells lie above each row, and in all of them.
@@ -28,12 +27,9 @@ pub fn cells_above(count: u32, rows: &[u32], to: &mut [u32; 513])
         return;
     }
     let mut cells: u32 = 0;
-    let mut i: u32 = 0;
-    while i < count {
-        cells = cells + rows::length_of(count, rows, i);
-        i += 1;
-        let at = wide_usize(i);
-        to[at] = cells;
+    for i in 0..count {
+        cells += rows::length_of(count, rows, i);
+        to[i as usize + 1] = cells;
     }
 }
 
@@ -43,14 +39,11 @@ pub fn iterations_above(count: u32, rows: &[u32], course: RowCourse, to: &mut [u
         (min course.height 512 + 1) to.new }
 {
     *to = [0u32; 513];
-    let n = lesser(wide_usize(course.height), MOST_ROWS as usize) as u32;
+    let n = course.height.min(MOST_ROWS);
     let mut iterations: u32 = 0;
-    let mut v: u32 = 0;
-    while v < n {
-        iterations = iterations + rows::row_length(count, rows, course, v);
-        v += 1;
-        let at = wide_usize(v);
-        to[at] = iterations;
+    for v in 0..n {
+        iterations += rows::row_length(count, rows, course, v);
+        to[v as usize + 1] = iterations;
     }
 }
 
@@ -59,7 +52,8 @@ pub fn row_of(above: &[u32; 513], height: u32, j: u32) -> u32
     ensures { RowOf above.now height j result }
 {
     let mut from: usize = 0;
-    let mut to = lesser(wide_usize(height), MOST_ROWS as usize);
+    let mut to = height.min(MOST_ROWS) as usize;
+    // Halving by hand: what is answered holds on a table that does not rise too, of which `partition_point` says nothing.
     while from + 1 < to {
         let middle = from + (to - from) / 2;
         if above[middle] <= j {
@@ -76,7 +70,7 @@ fn entry(above: &[u32; 513], i: usize) -> usize
     ensures { (result ≡ entry_of above.now i) × (result < 4294967296) }
 {
     if i < 513 {
-        return wide_usize(above[i]);
+        return above[i] as usize;
     }
     0
 }
@@ -95,9 +89,9 @@ fn read_at(
     ensures { result
         ≡ entry_of above.now (down + u) + ((on + column) - (row (rows_of count rows.now) (down + u)).start) }
 {
-    let cells = entry(above, wide_usize(down) + u);
+    let cells = entry(above, down as usize + u);
     let start = rows::start_of(count, rows, down, u);
-    cells + less(wide_usize(on) + column, start)
+    cells + (on as usize + column).saturating_sub(start)
 }
 
 // The positions that the references read in the first iteration of the course's row v.
@@ -113,16 +107,11 @@ pub fn reads(
         to.new }
 {
     *to = [0usize; 32];
-    let n = lesser(course.references as usize, 32);
-    let u = wide_usize(course.top) + wide_usize(v);
-    let column = lesser(rows::row_start(count, rows, course, v), 8192);
-    let down = course.down;
-    let on = course.on;
-    let mut k: usize = 0;
-    while k < n {
-        let at = read_at(count, rows, above, down[k], on[k], u, column);
-        to[k] = at;
-        k += 1;
+    let n = (course.references as usize).min(32);
+    let u = course.top as usize + v as usize;
+    let column = rows::row_start(count, rows, course, v).min(8192);
+    for k in 0..n {
+        to[k] = read_at(count, rows, above, course.down[k], course.on[k], u, column);
     }
 }
 
@@ -131,7 +120,7 @@ fn distance(x: usize, y: usize) -> u32
     requires { x ≤ most_cells }
     ensures { result ≡ x - y }
 {
-    less(x, y) as u32
+    x.saturating_sub(y) as u32
 }
 
 // The greater of each number and the distance of two neighbours, of n positions.
@@ -141,12 +130,8 @@ fn farther(at: &[usize; 32], r: &[u32; 31], n: usize) -> [u32; 31]
         (λ k. max (number_at at.now k - number_at at.now (k + 1)) (number_at r.now k)) (n - 1) result }
 {
     let mut to = [0u32; 31];
-    let mut k: usize = 0;
-    while k + 1 < n {
-        let far = distance(at[k], at[k + 1]);
-        let most = greater_u32(far, r[k]);
-        to[k] = most;
-        k += 1;
+    for k in 0..n.saturating_sub(1) {
+        to[k] = distance(at[k], at[k + 1]).max(r[k]);
     }
     to
 }
@@ -171,7 +156,7 @@ fn widened(
     }
     let mut at = [0usize; 32];
     reads(count, rows, above, course, v, &mut at);
-    let n = lesser(course.references as usize, 32);
+    let n = (course.references as usize).min(32);
     farther(&at, r, n)
 }
 
@@ -184,19 +169,10 @@ fn distances_in(count: u32, rows: &[u32], above: &[u32; 513], course: RowCourse)
         (looked course - 1) result }
 {
     let mut r = [0u32; 31];
-    let mut v = course.height;
-    while 0 < v {
-        v -= 1;
-        let next = widened(count, rows, above, course, v, &r);
-        r = next;
+    for v in (0..course.height).rev() {
+        r = widened(count, rows, above, course, v, &r);
     }
     r
-}
-
-fn none() -> [u32; 31]
-    ensures { Filled 31 0 (λ k. 0) 0 result }
-{
-    [0u32; 31]
 }
 
 // The reuse distances of neighbours, the largest over the iterations that a run covers; none where the survey refuses.
@@ -204,15 +180,10 @@ pub fn distances(count: u32, rows: &[u32], window: Window, bounds: Bounds) -> [u
     ensures { Filled 31 0 (distance_of (on_rows count rows.now window bounds))
         (distance_count count rows.now window bounds) result }
 {
-    let survey = rows::survey(count, rows, window, bounds);
-    let verdict = survey.verdict;
-    match verdict {
-        Verdict::Refused(_) => none(),
-        Verdict::Accepted => {
-            let mut above = [0u32; 513];
-            cells_above(count, rows, &mut above);
-            let course = survey.course;
-            distances_in(count, rows, &above, course)
-        }
-    }
+    let Ok(survey) = rows::survey(count, rows, window, bounds) else {
+        return [0u32; 31];
+    };
+    let mut above = [0u32; 513];
+    cells_above(count, rows, &mut above);
+    distances_in(count, rows, &above, survey.course)
 }

@@ -1,4 +1,4 @@
--- Laws of going over numbered things from the last to the first.
+-- Laws of going over numbered things one by one.
 use Prim.Native.Nat.{ℕ, ◌+◌, ◌-◌, ◌≤◌, ◌<◌, min, max}
 use mathlib.Core.List.{◌∷◌}
 use mathlib.Core.Path.{◌≡◌, ◌∙◌, ap}
@@ -42,13 +42,13 @@ module _ (f : ℕ → ℕ) where
   smallest_all k n e = rw e (ap smallest (part_all f n))
 
   -- The sum.
-  pub sum_none : (k n : ℕ) → n ≤ k → 0 ≡ sum (part f k n)
-  unfolding sum
-  sum_none k n h = rw (part_none f k n h)
+  pub sum_start : (n : ℕ) → 0 + sum (part f 0 n) ≡ sum (tabulate n f)
+  sum_start n = rw (part_all f n) (omega arith)
 
-  pub sum_back : (k n : ℕ) → 0 < k → k ≤ n → f (k - 1) + sum (part f k n) ≡ sum (part f (k - 1) n)
+  pub sum_on : (s k n : ℕ) → k < n → s + f k + sum (part f (k + 1) n) ≡ s + sum (part f k n)
   unfolding sum
-  sum_back k n some h = rw (part_back f k n some h)
+  sum_on s k n h = rw (part_more f k n h) (omega arith)
 
-  pub sum_all : (k n : ℕ) → k ≡ 0 → sum (part f k n) ≡ sum (tabulate n f)
-  sum_all k n e = rw e (ap sum (part_all f n))
+  pub sum_end : (s k n : ℕ) → n ≤ k → s ≡ s + sum (part f k n)
+  unfolding sum
+  sum_end s k n h = rw (part_none f k n h) (omega arith)

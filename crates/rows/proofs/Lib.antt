@@ -1,6 +1,5 @@
 pub mod BackLaws
 pub mod LentLaws
-pub mod HoldLaws
 pub mod CommonLaws
 pub mod PlacedLaws
 pub mod SpanLaws

@@ -16,24 +16,23 @@ use Rattle.model.specs.Grounds.Ground.{skewed}
 use Rattle.model.specs.Courses.{count as counted, low_row, low_column, all_iterations}
 use Rattle.model.specs.Boxes.{index_count, widths, equal_rows, box_shape, box_course, course, bad_box}
 use Rattle.model.specs.Boxes.Part.{box}
-use Rattle.model.specs.Answers.{first_of}
+use Rattle.model.specs.Answers.{Verdict, first_of, verdict_of}
 use Rattle.model.specs.Values.{rows_of, offsets_of, part_of, on_rows}
 use Rattle.model.specs.Iterations.{cells_of, course_of, iterations_of}
 use Rattle.model.specs.Judging.{bad_rows, bad_count, repeats, no_iteration, window_checks, judge_rows}
 use Rattle.model.specs.Windows.{centre_of}
 use Rattle.model.specs.declared.Bounds.{Bounds}
 use Rattle.model.specs.declared.Refusal.TheVariants as refusal
-use Rattle.model.specs.declared.Verdict.TheVariants as verdict
+use Rattle.std.specs.Prelude.{Ok, Err}
 use Rattle.model.specs.declared.Window.{Window}
 use Rattle.grid_laws.proofs.ChainLaws.{offsets_count, rows_count}
-use Rattle.grid_laws.proofs.CheckLaws.{some_references, few_references}
-use Rattle.model.specs.declared.Verdict.{Verdict}
+use Rattle.grid_laws.proofs.CheckLaws.{some_references, few_references, answer_back}
 use Rattle.geometry.specs.Parts.{number_at}
 use Rattle.windows.specs.Windows.{repeats_in, centre_in}
 use Rattle.windows.proofs.OffsetLaws.{is_held}
 use Rattle.rows.specs.Courses.{downs, ons, length_in, whole_course, box_on, course_for}
 use Rattle.rows.specs.Boxing.{placed_in, placed_by, BoxFits}
-use Rattle.rows.specs.Surveys.{unsurveyed_of, row_survey_of, Known, Surveyed}
+use Rattle.rows.specs.Surveys.{row_survey_of, Known, Surveyed}
 use Rattle.rows.specs.declared.RowCourse.{RowCourse}
 use Rattle.rows.specs.declared.RowSurvey.{RowSurvey}
 use Rattle.rows.specs.declared.boxed.Placed.{Placed}
@@ -49,12 +48,12 @@ whole_is count w xs ys e f =
     λ i. record { top = 0; height = count; boxed = false; left = 0; width = 0; references = sym (offsets_count 2 w) i; down = e i; on = f i }
 
 module _ (count : ℕ) (rows : List ℕ) (w : Window) (b : Bounds) where
-  pub survey_rows : bad_rows (rows_of count rows) ≡ true → unsurveyed_of refusal.BadRows ≡ row_survey_of count rows w b
+  pub survey_rows : bad_rows (rows_of count rows) ≡ true → Err refusal.BadRows ≡ row_survey_of count rows w b
   unfolding row_survey_of window_checks first_of
   survey_rows e = rw e
 
   module _ (p : bad_rows (rows_of count rows) ≡ false) where
-    pub survey_count : bad_count w.count ≡ true → unsurveyed_of refusal.BadCount ≡ row_survey_of count rows w b
+    pub survey_count : bad_count w.count ≡ true → Err refusal.BadCount ≡ row_survey_of count rows w b
     unfolding row_survey_of window_checks first_of
     survey_count e = rw (p, e)
 
@@ -70,7 +69,7 @@ module _ (count : ℕ) (rows : List ℕ) (w : Window) (b : Bounds) where
       unfolding centre_in
       centre_is = rw (is_held 2 w (omega arith) (few_references w.count q))
 
-      pub survey_repeats : repeats (offsets_of 2 w) ≡ true → unsurveyed_of refusal.EqualOffsets ≡ row_survey_of count rows w b
+      pub survey_repeats : repeats (offsets_of 2 w) ≡ true → Err refusal.EqualOffsets ≡ row_survey_of count rows w b
       unfolding row_survey_of window_checks first_of
       survey_repeats e = rw (p, q, e)
 
@@ -84,19 +83,18 @@ module _ (count : ℕ) (rows : List ℕ) (w : Window) (b : Bounds) where
             ∙ ap₂ (λ (n k : ℕ). sum (tabulate n (length_in (rows_of count rows) (downs (offsets_of 2 w)) (ons (offsets_of 2 w)) k))) (sym (rows_count count rows)) (sym (offsets_count 2 w))
             ∙ all_count (rows_of count rows) (offsets_of 2 w) p (omega (arith, offsets_count 2 w, some_references w.count q)) (omega (arith, offsets_count 2 w, few_references w.count q))
 
-        pub survey_iterations : m ≡ 0 → unsurveyed_of refusal.NoIteration ≡ row_survey_of count rows w b
+        pub survey_iterations : m ≡ 0 → Err refusal.NoIteration ≡ row_survey_of count rows w b
         unfolding row_survey_of window_checks first_of no_iteration
         survey_iterations z = rw (p, q, d, eq-eqb _ 0 (sym iterations_are ∙ z))
 
         pub known : (m ≡ 0 → ⊥) → (centre cells : ℕ) → centre ≡ centre_in 2 w → cells ≡ sum (tabulate count (λ i. min (number_at rows (2 * i + 1)) 1024))
-            → Known count rows w (record { verdict = verdict.Accepted; centre = centre; cells = cells; iterations = m; course = c })
+            → Known count rows w (record { centre = centre; cells = cells; iterations = m; course = c })
         unfolding no_iteration cell_count
         known some centre cells x y = record {
           rows_pass = p;
           count_pass = q;
           distinct = d;
           iterates = ne_eqb _ 0 (λ z. some (iterations_are ∙ z));
-          verdict_is = refl;
           centre_is = x ∙ centre_is;
           cells_is = y ∙ lent_cells_lem count rows p;
           iterations_is = iterations_are;
@@ -116,11 +114,11 @@ equal_cells n w = same_sum n w ∙ sym (cells_sum n (λ _. record { start = 0; l
 -- Of rows and a window that 16 and 4 to 6 let pass.
 module _ (count : ℕ) (rows : List ℕ) (w : Window) (b : Bounds) (s : RowSurvey) (k : Known count rows w s) where
   -- Where no box stood, that is the survey.
-  pub surveyed : b.stood ≡ false → s ≡ row_survey_of count rows w b
+  pub surveyed : b.stood ≡ false → Ok s ≡ row_survey_of count rows w b
   unfolding row_survey_of window_checks first_of part_of bad_box cells_of iterations_of course_of course
   surveyed e =
       rw (k.rows_pass, k.count_pass, k.distinct, k.iterates, e)
-      (λ i. record { verdict = k.verdict_is i; centre = k.centre_is i; cells = k.cells_is i; iterations = k.iterations_is i; course = k.course_is i })
+      (λ i. Ok (record { centre = k.centre_is i; cells = k.cells_is i; iterations = k.iterations_is i; course = k.course_is i }))
 
   -- Where one stood, it is placed by these numbers.
   module _ (stood : b.stood ≡ true) (at : Placed) (a : at ≡ placed_in count b.lowest b.highest (low_row (offsets_of 2 w)) (low_column (offsets_of 2 w))) where
@@ -161,11 +159,11 @@ module _ (count : ℕ) (rows : List ℕ) (w : Window) (b : Bounds) (s : RowSurve
     abbrev bad : Bool
     bad = bad_box (skewed rs) offsets (box (lowest 0 ∷ lowest 1 ∷ []) (highest 0 ∷ highest 1 ∷ []))
 
-    pub box_refused : (BoxFits rs s.course.down s.course.on w.count at → ⊥) → unsurveyed_of refusal.BadBox ≡ row_survey_of count rows w b
+    pub box_refused : (BoxFits rs s.course.down s.course.on w.count at → ⊥) → Err refusal.BadBox ≡ row_survey_of count rows w b
     unfolding row_survey_of window_checks first_of part_of tabulate BoxFitsHere
     box_refused none = go bad refl
       where
-        go : (t : Bool) → bad ≡ t → unsurveyed_of refusal.BadBox ≡ row_survey_of count rows w b
+        go : (t : Bool) → bad ≡ t → Err refusal.BadBox ≡ row_survey_of count rows w b
         go true e = rw (k.rows_pass, k.count_pass, k.distinct, k.iterates, stood, e)
         go false e = absurd (none (here_fits (box_fits rs offsets (two_sized w) (lowest 0) (lowest 1) (highest 0) (highest 1) k.rows_pass some e)))
 
@@ -193,9 +191,7 @@ module _ (count : ℕ) (rows : List ℕ) (w : Window) (b : Bounds) (s : RowSurve
           (omega (arith, ap (λ (p : Placed). p.height) at_is), omega (arith, ap (λ (p : Placed). p.width) at_is))
 
       pub box_accepted : (m : ℕ) → m ≡ at.height * at.width
-          → ◌≡◌ {A = RowSurvey}
-          (record {
-            verdict = verdict.Accepted;
+          → Ok (record {
             centre = s.centre;
             cells = s.cells;
             iterations = m;
@@ -205,18 +201,17 @@ module _ (count : ℕ) (rows : List ℕ) (w : Window) (b : Bounds) (s : RowSurve
               boxed = true;
               left = at.left;
               width = at.width;
-              references = w.count;
+              references = s.course.references;
               down = s.course.down;
               on = s.course.on;
             };
           })
-          (row_survey_of count rows w b)
+          ≡ row_survey_of count rows w b
       unfolding row_survey_of window_checks first_of part_of tabulate cells_of iterations_of course_of course counted box_course box_shape cell_count widths box_on whole_course first_entry other_entries
       box_accepted m e =
           let good = fits_box rs offsets (two_sized w) (lowest 0) (lowest 1) (highest 0) (highest 1) fits in
           rw (k.rows_pass, k.count_pass, k.distinct, k.iterates, stood, good)
-          (λ i. record {
-            verdict = verdict.Accepted;
+          (λ i. Ok (record {
             centre = k.centre_is i;
             cells = k.cells_is i;
             iterations = (e ∙ ap (λ (p : Placed). p.height * p.width) at_is ∙ equal_cells (index_count (lowest 0) (highest 0)) (index_count (lowest 1) (highest 1))) i;
@@ -226,13 +221,13 @@ module _ (count : ℕ) (rows : List ℕ) (w : Window) (b : Bounds) (s : RowSurve
               boxed = true;
               left = (at_is i).left;
               width = (at_is i).width;
-              references = sym (offsets_count 2 w) i;
+              references = (k.course_is i).references;
               down = (k.course_is i).down;
               on = (k.course_is i).on;
             };
-          })
+          }))
 
--- What a survey that accepts says, and its verdict.
+-- What a survey that is answered says, and its verdict.
 pub record Answer (count : ℕ) (rows : List ℕ) (w : Window) (b : Bounds) (s : RowSurvey) : Type 0 where
   pub surveyed : Surveyed count rows w b s.course
   pub centre : s.centre ≡ centre_of (offsets_of 2 w)
@@ -240,25 +235,29 @@ pub record Answer (count : ℕ) (rows : List ℕ) (w : Window) (b : Bounds) (s :
   pub iterations : s.iterations ≡ iterations_of (on_rows count rows w b)
 
 module _ (count : ℕ) (rows : List ℕ) (w : Window) (b : Bounds) where
-  pub survey_verdict : (row_survey_of count rows w b).verdict ≡ judge_rows count rows w b
+  pub survey_verdict : verdict_of (row_survey_of count rows w b) ≡ judge_rows count rows w b
   unfolding row_survey_of
   survey_verdict = go (judge_rows count rows w b) refl
     where
-      go : (v : Verdict) → judge_rows count rows w b ≡ v → (row_survey_of count rows w b).verdict ≡ judge_rows count rows w b
-      go verdict.Accepted e = rw e
-      go (verdict.Refused r) e = rw e
+      go : (v : Verdict) → judge_rows count rows w b ≡ v → verdict_of (row_survey_of count rows w b) ≡ judge_rows count rows w b
+      go (Ok _) e = rw e
+      go (Err r) e = rw e
 
-  pub survey_answer : (s : RowSurvey) → s ≡ row_survey_of count rows w b → s.verdict ≡ verdict.Accepted → Answer count rows w b s
-  unfolding row_survey_of
-  survey_answer s e a = record {
-    surveyed = record { accepted = ok; course = ap (λ (s : RowSurvey). s.course) all };
-    centre = ap (λ (s : RowSurvey). s.centre) all;
-    cells = ap (λ (s : RowSurvey). s.cells) all;
-    iterations = ap (λ (s : RowSurvey). s.iterations) all;
-  }
-    where
-      ok : judge_rows count rows w b ≡ verdict.Accepted
-      ok = sym survey_verdict ∙ sym (ap (λ (s : RowSurvey). s.verdict) e) ∙ a
+  module _ (s : RowSurvey) (e : row_survey_of count rows w b ≡ Ok s) where
+    pub survey_passed : judge_rows count rows w b ≡ Ok tt
+    survey_passed = sym survey_verdict ∙ ap verdict_of e
 
-      all : s ≡ record { verdict = verdict.Accepted; centre = centre_of (offsets_of 2 w); cells = cells_of (on_rows count rows w b); iterations = iterations_of (on_rows count rows w b); course = course_for count (offsets_of 2 w) (part_of 2 b) }
-      all = e ∙ rw ok
+    pub survey_answer : Answer count rows w b s
+    unfolding row_survey_of
+    survey_answer = record {
+      surveyed = record { accepted = survey_passed; course = ap (λ (s : RowSurvey). s.course) all };
+      centre = ap (λ (s : RowSurvey). s.centre) all;
+      cells = ap (λ (s : RowSurvey). s.cells) all;
+      iterations = ap (λ (s : RowSurvey). s.iterations) all;
+    }
+      where
+        found : RowSurvey
+        found = record { centre = centre_of (offsets_of 2 w); cells = cells_of (on_rows count rows w b); iterations = iterations_of (on_rows count rows w b); course = course_for count (offsets_of 2 w) (part_of 2 b) }
+
+        all : s ≡ found
+        all = answer_back (judge_rows count rows w b) found s e

@@ -7,7 +7,6 @@ ghost use Rattle.rows.specs.Boxing.{span_in, Spans, placed_in, BoxFits};
 
 use super::common;
 use model::Bounds;
-use numbers::wide_usize;
 use windows::lows::index_in;
 
 // In one dimension: the first index, counted from the first iteration, and how many there are; none where not all of them lie
@@ -61,8 +60,7 @@ fn rows_hold(
         × (result ≡ false → Spans (rows_of count rows.now) down.now on.now n from to left right
         → ⊥) }
 {
-    let mut u = from;
-    while u < to {
+    for u in from..to {
         let c = common::columns_in(count, rows, down, on, n, u);
         if left < c.start {
             return false;
@@ -70,7 +68,6 @@ fn rows_hold(
         if c.end <= right {
             return false;
         }
-        u += 1;
     }
     true
 }
@@ -122,10 +119,10 @@ pub(crate) fn fits(
     if width == 0 {
         return false;
     }
-    let top = wide_usize(at.top);
-    let bottom = top + wide_usize(height);
-    let left = wide_usize(at.left);
-    let right = left + wide_usize(width) - 1;
+    let top = at.top as usize;
+    let bottom = top + height as usize;
+    let left = at.left as usize;
+    let right = left + width as usize - 1;
     rows_hold(count, rows, down, on, n, top, bottom, left, right)
 }
 

@@ -1,35 +1,10 @@
 // Rows of cells, and rows of iterations: the columns that keep each reference inside the row that it reads.
-ghost use Rattle.std.specs.Prelude.{◌≡◌, ◌+◌, ◌-◌, ◌≤◌, min};
+ghost use Rattle.std.specs.Prelude.{◌≡◌, ◌+◌, ◌-◌, ◌≤◌};
 ghost use Rattle.model.specs.Grounds.{Row, row, end as end_of};
 ghost use Rattle.model.specs.Values.{rows_of};
 ghost use Rattle.rows.specs.Courses.{start_in, end_in, length_in};
 
-use numbers::{greater, less, lesser, number_at, wide_usize};
-
-// A length of at most 1,024.
-pub(crate) fn capped(x: usize) -> u32
-    ensures { result ≡ min x 1024 }
-{
-    if x < 1024 {
-        return x as u32;
-    }
-    1024
-}
-
-// The start of the row that lies so far below row u; 0 past the last row.
-pub(crate) fn start_of(count: u32, rows: &[u32], down: u32, u: usize) -> usize
-    ensures { result ≡ (row (rows_of count rows.now) (down + u)).start }
-{
-    let n = wide_usize(count);
-    if n <= u {
-        return 0;
-    }
-    let i = wide_usize(down) + u;
-    if n <= i {
-        return 0;
-    }
-    wide_usize(number_at(rows, 2 * i))
-}
+use numbers::number_at;
 
 // Columns: the first, and the first behind the last.
 #[derive(Clone, Copy)]
@@ -39,22 +14,20 @@ pub(crate) struct Columns {
 }
 
 // The row of cells that lies so far below row u; none past the last row.
-fn row_below(count: u32, rows: &[u32], down: u32, u: usize) -> Columns
+pub(crate) fn row_below(count: u32, rows: &[u32], down: u32, u: usize) -> Columns
     ensures { (result.start ≡ (row (rows_of count rows.now) (down + u)).start)
         × (result.end ≡ end_of (row (rows_of count rows.now) (down + u))) }
 {
-    let n = wide_usize(count);
-    if n <= u {
+    let i = (down as usize).saturating_add(u);
+    if count as usize <= i {
         return Columns { start: 0, end: 0 };
     }
-    let i = wide_usize(down) + u;
-    if n <= i {
-        return Columns { start: 0, end: 0 };
+    let start = number_at(rows, 2 * i) as usize;
+    let length = number_at(rows, 2 * i + 1) as usize;
+    Columns {
+        start,
+        end: start + length,
     }
-    let start = wide_usize(number_at(rows, 2 * i));
-    let length = wide_usize(number_at(rows, 2 * i + 1));
-    let end = start + length;
-    Columns { start, end }
 }
 
 // The columns of row u of all iterations that keep a reference inside its row.
@@ -63,10 +36,11 @@ fn columns_of(count: u32, rows: &[u32], down: u32, on: u32, u: usize) -> Columns
         × (result.end ≡ end_of (row (rows_of count rows.now) (down + u)) - on) }
 {
     let cells = row_below(count, rows, down, u);
-    let left = wide_usize(on);
-    let start = less(cells.start, left);
-    let end = less(cells.end, left);
-    Columns { start, end }
+    let left = on as usize;
+    Columns {
+        start: cells.start.saturating_sub(left),
+        end: cells.end.saturating_sub(left),
+    }
 }
 
 // Row u of all iterations,
@@ -85,15 +59,13 @@ pub(crate) fn columns_in(
     if n == 0 {
         return Columns { start: 0, end: 0 };
     }
-    let mut k = n - 1;
-    let last = columns_of(count, rows, down[k], on[k], u);
+    let last = columns_of(count, rows, down[n - 1], on[n - 1], u);
     let mut start = last.start;
     let mut end = last.end;
-    while 0 < k {
-        k -= 1;
+    for k in (0..n - 1).rev() {
         let here = columns_of(count, rows, down[k], on[k], u);
-        start = greater(here.start, start);
-        end = lesser(here.end, end);
+        start = here.start.max(start);
+        end = here.end.min(end);
     }
     Columns { start, end }
 }
@@ -111,5 +83,5 @@ pub(crate) fn length_in(
     ensures { result ≡ length_in (rows_of count rows.now) down.now on.now n u }
 {
     let c = columns_in(count, rows, down, on, n, u);
-    capped(less(c.end, c.start))
+    c.end.saturating_sub(c.start).min(1024) as u32
 }

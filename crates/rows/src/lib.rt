@@ -13,10 +13,10 @@ ghost use Rattle.model.specs.Values.{rows_of, offsets_of};
 ghost use Rattle.model.specs.Judging.{bad_rows, bad_count, repeats as repeats_of};
 ghost use Rattle.geometry.specs.Parts.{number_at};
 ghost use Rattle.rows.specs.Courses.{whole_course, column_in, row_length as row_length_in, length_in};
-ghost use Rattle.rows.specs.Surveys.{no_course, unsurveyed_of, row_survey_of, Known};
+ghost use Rattle.rows.specs.Surveys.{row_survey_of, Known};
 
-use model::{Bounds, Refusal, Verdict, Window};
-use numbers::{lesser, number_at, wide_usize};
+use model::{Bounds, Refusal, Window};
+use numbers::number_at;
 use windows::lows::{heights_in, low_in};
 
 // The iterations that a run on rows covers, row by row. Rows and columns of iterations are counted from the window's lows.
@@ -35,11 +35,10 @@ pub struct RowCourse {
     pub on: [u32; 32],
 }
 
-// What judging and running ask of a window on rows: the first of 16, 4, 5, 6 and 15 that turns them back, else the centre,
-// the cells, and the iterations that a run covers.
+// What judging and running ask of a window on rows that 16, 4, 5, 6 and 15 let pass: the centre, the cells, and the
+// iterations that a run covers.
 #[derive(Clone, Copy)]
 pub struct RowSurvey {
-    pub verdict: Verdict,
     pub centre: u8,
     pub cells: u32,
     pub iterations: u32,
@@ -51,13 +50,9 @@ fn cells_in(count: u32, rows: &[u32]) -> u32
     requires { count ≤ 512 }
     ensures { result ≡ sum (tabulate count (λ i. min (number_at rows.now (2 * i + 1)) 1024)) }
 {
-    let n = wide_usize(count);
     let mut cells: u32 = 0;
-    let mut i = n;
-    while 0 < i {
-        i -= 1;
-        let length = number_at(rows, 2 * i + 1);
-        cells = common::capped(wide_usize(length)) + cells;
+    for i in 0..count as usize {
+        cells += number_at(rows, 2 * i + 1).min(1024);
     }
     cells
 }
@@ -69,40 +64,10 @@ fn iterations_in(count: u32, rows: &[u32], down: &[u32; 32], on: &[u32; 32], n: 
         ≡ sum (tabulate count (length_in (rows_of count rows.now) down.now on.now n)) }
 {
     let mut iterations: u32 = 0;
-    let mut u = wide_usize(count);
-    while 0 < u {
-        u -= 1;
-        iterations = common::length_in(count, rows, down, on, n, u) + iterations;
+    for u in 0..count as usize {
+        iterations += common::length_in(count, rows, down, on, n, u);
     }
     iterations
-}
-
-fn blank() -> RowCourse
-    ensures { result ≡ no_course }
-{
-    RowCourse {
-        top: 0,
-        height: 0,
-        boxed: false,
-        left: 0,
-        width: 0,
-        references: 0,
-        down: [0u32; 32],
-        on: [0u32; 32],
-    }
-}
-
-fn unsurveyed(x: Refusal) -> RowSurvey
-    ensures { result ≡ unsurveyed_of x }
-{
-    let course = blank();
-    RowSurvey {
-        verdict: Verdict::Refused(x),
-        centre: 0,
-        cells: 0,
-        iterations: 0,
-        course,
-    }
 }
 
 // The course of all iterations, of a window that 4 lets pass.
@@ -110,20 +75,18 @@ fn whole_course(count: u32, window: Window) -> RowCourse
     requires { bad_count window.count ≡ false }
     ensures { result ≡ whole_course count (offsets_of 2 window) }
 {
-    let references = window.count;
-    let n = references as usize;
-    let offsets = window.offsets;
-    let low_row = low_in(&offsets, n, 0);
-    let down = heights_in(&offsets, n, 0, low_row);
-    let low_column = low_in(&offsets, n, 1);
-    let on = heights_in(&offsets, n, 1, low_column);
+    let n = window.count as usize;
+    let low_row = low_in(&window.offsets, n, 0);
+    let down = heights_in(&window.offsets, n, 0, low_row);
+    let low_column = low_in(&window.offsets, n, 1);
+    let on = heights_in(&window.offsets, n, 1, low_column);
     RowCourse {
         top: 0,
         height: count,
         boxed: false,
         left: 0,
         width: 0,
-        references,
+        references: window.count,
         down,
         on,
     }
@@ -136,27 +99,19 @@ fn survey_box(
     window: Window,
     bounds: Bounds,
     known: RowSurvey,
-) -> RowSurvey
+) -> Result<RowSurvey, Refusal>
     requires { (bounds.stood ≡ true) × Known count rows.now window known }
     ensures { result ≡ row_survey_of count rows.now window bounds }
 {
-    let references = window.count;
-    let n = references as usize;
-    let offsets = window.offsets;
-    let low_row = low_in(&offsets, n, 0);
-    let low_column = low_in(&offsets, n, 1);
+    let n = window.count as usize;
+    let low_row = low_in(&window.offsets, n, 0);
+    let low_column = low_in(&window.offsets, n, 1);
     let at = boxed::placed_at(count, bounds, low_row, low_column);
-    let course = known.course;
-    let down = course.down;
-    let on = course.on;
-    if !boxed::fits(count, rows, &down, &on, n, at) {
-        return unsurveyed(Refusal::BadBox);
+    if !boxed::fits(count, rows, &known.course.down, &known.course.on, n, at) {
+        return Err(Refusal::BadBox);
     }
     let iterations = boxed::iterations(at.height, at.width);
-    RowSurvey {
-        verdict: Verdict::Accepted,
-        centre: known.centre,
-        cells: known.cells,
+    Ok(RowSurvey {
         iterations,
         course: RowCourse {
             top: at.top,
@@ -164,30 +119,29 @@ fn survey_box(
             boxed: true,
             left: at.left,
             width: at.width,
-            references,
-            down,
-            on,
+            ..known.course
         },
-    }
+        ..known
+    })
 }
 
 // 6 and 15, the centre, the cells and the course, of rows and a window that 16, 4 and 5 let pass.
-fn survey_in(count: u32, rows: &[u32], window: Window, bounds: Bounds) -> RowSurvey
+fn survey_in(count: u32, rows: &[u32], window: Window, bounds: Bounds) -> Result<RowSurvey, Refusal>
     requires { (bad_rows (rows_of count rows.now) ≡ false) × (bad_count window.count ≡ false)
         × (repeats_of (offsets_of 2 window) ≡ false) }
     ensures { result ≡ row_survey_of count rows.now window bounds }
 {
     let course = whole_course(count, window);
+    // Lists of their own: read inside the course they take a seventh more time.
     let down = course.down;
     let on = course.on;
     let iterations = iterations_in(count, rows, &down, &on, window.count as usize);
     if iterations == 0 {
-        return unsurveyed(Refusal::NoIteration);
+        return Err(Refusal::NoIteration);
     }
     let cells = cells_in(count, rows);
     let centre = windows::centre(2, window);
     let whole = RowSurvey {
-        verdict: Verdict::Accepted,
         centre,
         cells,
         iterations,
@@ -196,21 +150,26 @@ fn survey_in(count: u32, rows: &[u32], window: Window, bounds: Bounds) -> RowSur
     if bounds.stood {
         return survey_box(count, rows, window, bounds, whole);
     }
-    whole
+    Ok(whole)
 }
 
-// 16, 4, 5, 6 and 15, the centre, the cells and the course of the iterations that a run covers, found together.
-pub fn survey(count: u32, rows: &[u32], window: Window, bounds: Bounds) -> RowSurvey
+// The survey, or the first of 16, 4, 5, 6 and 15 that turns rows, window and box back.
+pub fn survey(
+    count: u32,
+    rows: &[u32],
+    window: Window,
+    bounds: Bounds,
+) -> Result<RowSurvey, Refusal>
     ensures { result ≡ row_survey_of count rows.now window bounds }
 {
     if limits::bad_rows(count, rows) {
-        return unsurveyed(Refusal::BadRows);
+        return Err(Refusal::BadRows);
     }
     if limits::bad_count(window.count) {
-        return unsurveyed(Refusal::BadCount);
+        return Err(Refusal::BadCount);
     }
     if windows::repeats(2, window) {
-        return unsurveyed(Refusal::EqualOffsets);
+        return Err(Refusal::EqualOffsets);
     }
     survey_in(count, rows, window, bounds)
 }
@@ -220,10 +179,10 @@ pub fn row_start(count: u32, rows: &[u32], course: RowCourse, v: u32) -> usize
     ensures { result ≡ column_in (rows_of count rows.now) course v }
 {
     if course.boxed {
-        return wide_usize(course.left);
+        return course.left as usize;
     }
-    let n = lesser(course.references as usize, 32);
-    let u = wide_usize(course.top) + wide_usize(v);
+    let n = (course.references as usize).min(32);
+    let u = course.top as usize + v as usize;
     let down = course.down;
     let on = course.on;
     let c = common::columns_in(count, rows, &down, &on, n, u);
@@ -235,10 +194,10 @@ pub fn row_length(count: u32, rows: &[u32], course: RowCourse, v: u32) -> u32
     ensures { result ≡ row_length_in (rows_of count rows.now) course v }
 {
     if course.boxed {
-        return common::capped(wide_usize(course.width));
+        return course.width.min(1024);
     }
-    let n = lesser(course.references as usize, 32);
-    let u = wide_usize(course.top) + wide_usize(v);
+    let n = (course.references as usize).min(32);
+    let u = course.top as usize + v as usize;
     let down = course.down;
     let on = course.on;
     common::length_in(count, rows, &down, &on, n, u)
@@ -248,7 +207,7 @@ pub fn row_length(count: u32, rows: &[u32], course: RowCourse, v: u32) -> u32
 pub fn start_of(count: u32, rows: &[u32], down: u32, u: usize) -> usize
     ensures { result ≡ (row (rows_of count rows.now) (down + u)).start }
 {
-    common::start_of(count, rows, down, u)
+    common::row_below(count, rows, down, u).start
 }
 
 // How many cells row i has; none past the last row.
@@ -258,5 +217,5 @@ pub fn length_of(count: u32, rows: &[u32], i: u32) -> u32
     if count <= i {
         return 0;
     }
-    number_at(rows, 2 * wide_usize(i) + 1)
+    number_at(rows, 2 * i as usize + 1)
 }

@@ -2,30 +2,11 @@
 use Prim.Native.Nat.{ℕ, suc, ◌+◌, ◌-◌, ◌%◌, ◌≤◌, ◌<◌}
 use mathlib.Core.List.{List}
 use mathlib.Core.Path.{◌≡◌, ◌∙◌}
-use native.Mathlib.Nat.{mod-lt, mod-one, mod-add-mod, mod-eq_of_lt, mod-eq-sub-mod}
 use native.Mathlib.Numerals.{add-one}
 use native.Mathlib.Omega.{arith}
 use native.Mathlib.Decide.{ℕ_discrete}
 use lib.ListN.{length, get_or, set, length-set}
 use lib.Seq.{get_or-set_same, get_or-set_other}
-use Rattle.loop_laws.specs.Sweeps.{Ringed}
-
--- ---- a place some cells behind another
-
-pub behind_below : (base q held cap : ℕ) → base + q % cap + held < base + cap → base + q % cap + held ≡ base + (q + held) % cap
-behind_below base q held cap h =
-    let l : q % cap + held < cap = omega arith in
-    omega (arith, mod-add-mod q cap held, mod-eq_of_lt l)
-
-pub behind_wraps : (base q held cap : ℕ) → 0 < cap → held ≤ cap → base + cap ≤ base + q % cap + held → base + q % cap + held - cap ≡ base + (q + held) % cap
-behind_wraps base q held cap z g h =
-    let l : cap ≤ q % cap + held = omega arith in
-    let m : q % cap + held - cap < cap = omega (arith, mod-lt q z) in
-    omega (arith, mod-add-mod q cap held, mod-eq-sub-mod l, mod-eq_of_lt m)
-
--- The one place of a FIFO.
-pub place_one : (base cap q : ℕ) → 0 < cap → cap ≤ 1 → base ≡ base + q % cap
-place_one base cap q h l = let e : cap ≡ 1 = omega arith in rw e (omega (arith, mod-one q))
 
 -- The ring places of the FIFOs before k are found.
 pub record Ringing (n : ℕ) (bases caps ps puts gets : List ℕ) (k : ℕ) : Type 0 where
@@ -33,9 +14,6 @@ pub record Ringing (n : ℕ) (bases caps ps puts gets : List ℕ) (k : ℕ) : Ty
   pub gets_there : length gets ≡ 32
   pub found : (j : ℕ) → j < k → suc j < n → 0 < get_or caps j 0
       → (get_or puts j 0 ≡ get_or bases j 0 + get_or ps j 0 % get_or caps j 0) × (get_or gets j 0 ≡ get_or bases j 0 + get_or ps (suc j) 0 % get_or caps j 0)
-
-pub ringing_start : (n : ℕ) (bases caps ps puts gets : List ℕ) → length puts ≡ 32 → length gets ≡ 32 → Ringing n bases caps ps puts gets 0
-ringing_start n bases caps ps puts gets lp lg = record { puts_there = lp; gets_there = lg; found = λ j h. absurd (omega arith) }
 
 pub ringing_again : (n : ℕ) (bases caps ps puts gets : List ℕ) (k u g held : ℕ) → Ringing n bases caps ps puts gets k → k < 32
     → get_or ps (k + 1) 0 ≤ get_or ps k 0 → held ≡ get_or ps k 0 - get_or ps (k + 1) 0
@@ -55,6 +33,3 @@ ringing_again n bases caps ps puts gets k u g held r l le eh eg eu = record {
         let s : get_or ps (k + 1) 0 + held ≡ get_or ps k 0 = omega arith in
         rw (d, get_or-set_same puts k u 0 (omega (arith, r.puts_there)), get_or-set_same gets k g 0 (omega (arith, r.gets_there))) (rw s at (eu z2), rw add-one at (eg z2))
     go j h m z (no d) = rw (get_or-set_other puts k j u 0 d, get_or-set_other gets k j g 0 d) (r.found j (omega arith) m z)
-
-pub ringing_end : (n : ℕ) (bases caps ps puts gets : List ℕ) (k : ℕ) → n ≤ k + 1 → Ringing n bases caps ps puts gets k → Ringed n bases caps ps puts gets
-ringing_end n bases caps ps puts gets k h r j l z = r.found j (omega arith) l z

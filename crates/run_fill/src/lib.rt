@@ -2,7 +2,7 @@
 
 #![tactic(auto)]
 
-ghost use Rattle.std.specs.Prelude.{List, ◌≡◌, true, false, ℕ, suc, ◌+◌, ◌-◌, ◌*◌, ◌%◌, ◌<◌, ◌≤◌, length, get_or};
+ghost use Rattle.std.specs.Prelude.{List, ◌≡◌, true, false, ℕ, suc, ◌+◌, ◌-◌, ◌*◌, ◌%◌, ◌<◌, ◌≤◌, length, get_or, IsSomeAnd, IfSome};
 ghost use Rattle.model_run.specs.Clock.{Layout, turn as turn_of};
 ghost use Rattle.loop_laws.specs.Passes.{of, step, FullFifos};
 ghost use Rattle.loop_laws.specs.Sweeps.{source, Lined, Ringed, word_at, gets_on, PutOn, Turns, room_for, room_at, room_goes};
@@ -85,9 +85,7 @@ fn movers(
 {
     let mut count = 0;
     let mut behind = 0;
-    let mut k = n;
-    while 0 < k {
-        k -= 1;
+    for k in (0..n).rev() {
         let p = ps[k];
         let src = source_of(ps, k, size);
         let b = room_for(n, k, caps[k], p, behind);
@@ -107,7 +105,7 @@ fn bounded(t: usize, g: usize, d: usize) -> usize
     ensures { (result ≤ t) × (g ≡ 0 → result ≤ d) × (0 < t → (g ≡ 0 → 0 < d) → 0 < result) }
 {
     if g == 0 {
-        return numbers::lesser(t, d);
+        return t.min(d);
     }
     t
 }
@@ -140,7 +138,7 @@ fn keeps(
         }
         return 1;
     }
-    let t = numbers::lesser(most, w - p);
+    let t = most.min(w - p);
     let u = bounded(t, sg, s - p);
     bounded(u, bg, b - p)
 }
@@ -191,8 +189,7 @@ fn span(
     let mut t = most;
     let mut s = size;
     let mut sg = 0;
-    let mut k = 0;
-    while k < n {
+    for k in 0..n {
         let p = ps[k];
         let g = goes[k];
         let b = room_at(ps, caps, n, k);
@@ -200,7 +197,6 @@ fn span(
         t = keeps(g, p, wants[k], s, sg, b, bg, t);
         s = p;
         sg = g;
-        k += 1;
     }
     t
 }
@@ -271,16 +267,13 @@ fn go(
         → Gone c n cells word wants bases.now caps goes.now ps.old ps.new
         puts.new gets.new store.old store.new }
 {
-    let mut k = n;
-    while 0 < k {
-        k -= 1;
+    for k in (0..n).rev() {
         if goes[k] == 0 {
             continue;
         }
         let x = word_for(k, word, bases, tops, gets, store);
         put_on(n, k, x, bases, tops, puts, store);
-        let p = ps[k];
-        ps[k] = p + 1;
+        ps[k] += 1;
     }
 }
 
@@ -294,19 +287,12 @@ fn lined(n: usize, at: &[usize; 32], ps: &[usize; 32]) -> bool
     ensures { (result ≡ true → Lined n at.now ps.now)
         × (result ≡ false → Lined n at.now ps.now → ⊥) }
 {
-    let mut k = 0;
-    while k + 1 < n {
+    for k in 0..n.saturating_sub(1) {
         let p = ps[k];
         let q = ps[k + 1];
-        if p <= q {
+        if p <= q || p + at[k + 1] != q + at[k] {
             return false;
         }
-        let x = p + at[k + 1];
-        let y = q + at[k];
-        if x != y {
-            return false;
-        }
-        k += 1;
     }
     true
 }
@@ -334,7 +320,7 @@ fn reach(first: usize, cells: usize, allowance: usize) -> usize
     if first == 0 {
         return allowance;
     }
-    numbers::lesser(cells, allowance)
+    cells.min(allowance)
 }
 
 // The clocks of a call until its filters are found aligned. None of them fires: in each a filter moves that is not where it
@@ -365,6 +351,7 @@ fn until_aligned(
 {
     let mut taken = 0;
     let mut clocks = 0;
+    // Each time round makes the t clocks in which the same filters move, and t is found on the way.
     while clocks < allowance {
         if cells.len() <= taken {
             return Stopped {
@@ -391,8 +378,7 @@ fn until_aligned(
         let first = goes[0];
         let most = reach(first, cells.len() - taken, allowance - clocks);
         let t = span(n, wants, caps, size, passed, &goes, most);
-        let mut i = 0;
-        while i < t {
+        for _ in 0..t {
             go(
                 n,
                 &goes,
@@ -405,7 +391,6 @@ fn until_aligned(
                 store,
             );
             taken += first;
-            i += 1;
         }
         clocks += t;
     }
@@ -455,15 +440,13 @@ fn places(
     ensures { (length puts.new ≡ 32) × (length gets.new ≡ 32)
         × Ringed n bases.now caps.now ps.now puts.new gets.new }
 {
-    let mut k = 0;
-    while k + 1 < n {
+    for k in 0..n.saturating_sub(1) {
         let q = ps[k + 1];
         let held = ps[k] - q;
         let cap = caps[k];
         let g = place(bases[k], cap, q);
         puts[k] = place_behind(g, held, cap, tops[k]);
         gets[k] = g;
-        k += 1;
     }
 }
 
@@ -477,17 +460,12 @@ fn full_fifos(n: usize, caps: &[usize; 32], passed: &[usize; 32]) -> bool
     if 32 < n {
         return false;
     }
-    let mut k = 0;
-    while k + 1 < n {
+    for k in 0..n.saturating_sub(1) {
         let p = passed[k];
         let q = passed[k + 1];
-        if p < q {
+        if p < q || p - q != caps[k] {
             return false;
         }
-        if p - q != caps[k] {
-            return false;
-        }
-        k += 1;
     }
     true
 }
@@ -499,19 +477,7 @@ fn full_fifos(n: usize, caps: &[usize; 32], passed: &[usize; 32]) -> bool
 fn bad_counter(source: usize, size: usize, w: usize, a: usize, x: usize, p: usize) -> bool
     ensures { (result ≡ false → GoodCounter source size w a x p) × (result ≡ true → GoodCounter source size w a x p → ⊥) }
 {
-    if size <= x {
-        return true;
-    }
-    if x < a {
-        return true;
-    }
-    if x - a != w {
-        return true;
-    }
-    if x < p {
-        return true;
-    }
-    source < p
+    size <= x || x < a || x - a != w || x < p || source < p
 }
 
 // Whether a FIFO of c places is out of place: it is to begin at `from` and to end at `top`, within `room` places; and the
@@ -519,25 +485,12 @@ fn bad_counter(source: usize, size: usize, w: usize, a: usize, x: usize, p: usiz
 fn bad_ring(from: usize, room: usize, c: usize, base: usize, top: usize, p: usize, q: usize) -> bool
     ensures { (result ≡ false → GoodRing from room c base top p q) × (result ≡ true → GoodRing from room c base top p q → ⊥) }
 {
-    if MOST_PLACES < c {
-        return true;
-    }
-    if base != from {
-        return true;
-    }
-    if top < base {
-        return true;
-    }
-    if top - base != c {
-        return true;
-    }
-    if room < top {
-        return true;
-    }
-    if p <= q {
-        return false;
-    }
-    c < p - q
+    MOST_PLACES < c
+        || base != from
+        || top < base
+        || top - base != c
+        || room < top
+        || c < p.saturating_sub(q)
 }
 
 // Whether the counters or the wanted cells are out of place.
@@ -551,13 +504,7 @@ fn bad_counters(
     ensures { (result ≡ false → Counted n size at.now wants.now ps.now)
         × (result ≡ true → Counted n size at.now wants.now ps.now → ⊥) }
 {
-    if n == 0 {
-        return true;
-    }
-    if 32 < n {
-        return true;
-    }
-    if MOST_CELLS < size {
+    if n == 0 || 32 < n || MOST_CELLS < size {
         return true;
     }
     let a = at[0];
@@ -567,14 +514,12 @@ fn bad_counters(
     }
     let w = x - a;
     let mut source = size;
-    let mut k = 0;
-    while k < n {
+    for k in 0..n {
         let p = ps[k];
         if bad_counter(source, size, w, at[k], wants[k], p) {
             return true;
         }
         source = p;
-        k += 1;
     }
     false
 }
@@ -594,14 +539,12 @@ fn bad_rings(
         × (result ≡ true → Housed n room caps.now bases.now tops.now ps.now → ⊥) }
 {
     let mut from = 0;
-    let mut k = 0;
-    while k + 1 < n {
+    for k in 0..n.saturating_sub(1) {
         let top = tops[k];
         if bad_ring(from, room, caps[k], bases[k], top, ps[k], ps[k + 1]) {
             return true;
         }
         from = top;
-        k += 1;
     }
     false
 }
@@ -617,7 +560,7 @@ pub struct Filled {
     pub full: bool,
 }
 
-// The clocks of a call until its filters are found aligned. Tables that are out of place make no clock, and nothing changes;
+// The clocks of a call until its filters are found aligned. `None`: the tables are out of place, and nothing changes;
 // all others are those of a layout of one iteration (`once`). Open are: in which of the clocks with aligned filters it stops,
 // and the entries of `puts` and `gets` past the n - 1 FIFOs, or of one without a place.
 pub fn fill(
@@ -634,42 +577,29 @@ pub fn fill(
     store: &mut [u32],
     cells: &[u32],
     allowance: usize,
-) -> Filled
+) -> Option<Filled>
     ensures { ((L : Layout) (walk : ℕ → ℕ) (iterations fired : ℕ)
         → Handed L walk n size iterations fired at.now wants.now caps.now
         bases.now tops.now counters store.old
-        → FillsTo result.how result.taken result.clocks L n fired at.now caps.now bases.now
-        counters result.passed puts.new gets.new store.old store.new
-        cells.now allowance)
+        → IsSomeAnd result (λ f. FillsTo f.how f.taken f.clocks L n fired at.now caps.now bases.now
+        counters f.passed puts.new gets.new store.old store.new
+        cells.now allowance))
         × ByTest
         (Sound n size (length store.old) at.now wants.now caps.now
         bases.now tops.now counters)
-        (Left result counters puts.old puts.new gets.old gets.new store.old
-        store.new)
-        (FillsTo result.how result.taken result.clocks (once n size wants.now caps.now) n 0
-        at.now caps.now bases.now counters result.passed puts.new
+        (Left result puts.old puts.new gets.old gets.new store.old store.new)
+        (IsSomeAnd result (λ f. FillsTo f.how f.taken f.clocks (once n size wants.now caps.now) n 0
+        at.now caps.now bases.now counters f.passed puts.new
         gets.new store.old store.new cells.now allowance
-        × (result.full ≡ false → FullFifos n caps.now result.passed → ⊥))
-        × (result.full ≡ true → FullFifos n caps.now result.passed) }
+        × (f.full ≡ false → FullFifos n caps.now f.passed → ⊥)))
+        × IfSome result (λ f. f.full ≡ true → FullFifos n caps.now f.passed) }
 {
     let mut passed = counters;
     if bad_counters(n, at, wants, size, &passed) {
-        return Filled {
-            how: Stop::Stalled,
-            taken: 0,
-            clocks: 0,
-            passed,
-            full: false,
-        };
+        return None;
     }
     if bad_rings(n, caps, bases, tops, &passed, store.len()) {
-        return Filled {
-            how: Stop::Stalled,
-            taken: 0,
-            clocks: 0,
-            passed,
-            full: false,
-        };
+        return None;
     }
     *puts = [0usize; 32];
     *gets = [0usize; 32];
@@ -689,13 +619,12 @@ pub fn fill(
         cells,
         allowance,
     );
-    let how = s.how;
     let full = full_fifos(n, caps, &passed);
-    Filled {
-        how,
+    Some(Filled {
+        how: s.how,
         taken: s.taken,
         clocks: s.clocks,
         passed,
         full,
-    }
+    })
 }

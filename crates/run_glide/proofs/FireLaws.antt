@@ -26,9 +26,6 @@ use Rattle.run_glide.specs.Glides.{Blank, fired_of}
 pub part_all : (l : List ℕ) (o : ℕ) → take (length l - o) (drop o l) ≡ drop o l
 part_all l o = take_all (length l - o) (drop o l) (omega (arith, length-drop o l))
 
-pub part_length : (l : List ℕ) (o : ℕ) → length (take (length l - o) (drop o l)) ≡ length l - o
-part_length l o = ap length (part_all l o) ∙ length-drop o l
-
 -- A row that was written from its start: past the words it is 0.
 module _ (n : ℕ) (row vs : List ℕ) (B : Blank n row) (e : length vs ≡ n) (few : n ≤ 32) where
   all : sets row 0 vs ≡ vs ++ drop (0 + length vs) row

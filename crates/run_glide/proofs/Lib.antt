@@ -1,4 +1,3 @@
-pub mod FitLaws
 pub mod FireLaws
 pub mod RingLaws
 pub mod ManyLaws

@@ -1,8 +1,8 @@
 -- Passes and firings one after the other: the places stay in their rings.
-use Prim.Native.Nat.{ℕ, zero, suc, ◌+◌, ◌-◌, ◌*◌, ◌/◌, ◌≤◌, ◌<◌}
+use Prim.Native.Nat.{ℕ, zero, suc, ◌+◌, ◌-◌, ◌*◌, ◌≤◌, ◌<◌}
 use mathlib.Core.List.{List, [], ◌∷◌}
 use mathlib.Core.Path.{◌≡◌, refl, ◌∙◌, ap}
-use native.Mathlib.Nat.{suc-mul, mul-le-mul_right, le-div_iff_mul-le, add-zero, zero-mul}
+use native.Mathlib.Nat.{suc-mul, mul-le-mul_right, add-zero, zero-mul}
 use native.Mathlib.Numerals.{add-one}
 use native.Mathlib.Omega.{arith}
 use native.Mathlib.Decide.{ℕ_discrete}
@@ -103,9 +103,6 @@ module _ (kernel : Kernel) (centre n size from o count : ℕ) (bases tops cells 
       out_length = ap (λ (l : Lent). length l.words) e ∙ length-sets out at (written kernel centre ts (up_to n) (passing (n - 1) x us gs store)) ∙ s.out_length;
     }
 
-    pub fired_all : count ≤ i → lent_of us gs store out ≡ fires_of kernel centre ts n size bases tops cells from o count (lent_of us₀ gs₀ store₀ out₀)
-    fired_all h = let e : count ≡ i = omega (arith, s.most) in rw e s.left
-
 -- ---- what they leave as it was
 
 -- A store past the places that are written to,
@@ -195,14 +192,7 @@ blank_passed n bases tops cells from (suc i) l few b =
 pub blank_after : (n : ℕ) (bases tops cells : List ℕ) (from i : ℕ) (l l' : Lent) → n ≤ 32 → Blank n l.words → l' ≡ passes_of n 0 bases tops cells from 0 i l → Blank n l'.words
 blank_after n bases tops cells from i l l' few b e = rw (ap (λ (z : Lent). z.words) e) (blank_passed n bases tops cells from i l few b)
 
--- ---- how many
-
--- As many firings as there is room for.
-pub room_holds : (m most room size : ℕ) → 0 < size → most ≡ room / size → m ≤ most → m * size ≤ room
-room_holds m most room size h e l = (le-div_iff_mul-le h).0 (rw (← e) l)
-
-pub room_for_one : (most room size : ℕ) → 0 < size → most ≡ room / size → size ≤ room → 0 < most
-room_for_one most room size h e l = rw e ((le-div_iff_mul-le h).1 (omega arith))
+-- ---- how wide
 
 -- A firing writes some words.
 pub width_some : (k : Kernel) (n size : ℕ) → 0 < n → size ≡ width k n → 0 < size

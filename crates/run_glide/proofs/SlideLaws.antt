@@ -1,19 +1,17 @@
 -- The loop over the clocks of aligned filters, whatever its tables say: the places stay in their rings, no number gets out of its range, and nothing is written past the rings and past the words.
-use Prim.Native.Nat.{ℕ, ◌+◌, ◌-◌, ◌*◌, ◌/◌, ◌%◌, ◌^◌, ◌≤◌, ◌<◌}
+use Prim.Native.Nat.{ℕ, ◌+◌, ◌-◌, ◌*◌, ◌/◌, ◌%◌, ◌≤◌, ◌<◌}
 use mathlib.Core.Bool.{Bool, true, false}
 use mathlib.Core.List.{List, []}
 use mathlib.Core.Path.{◌≡◌, refl, sym, ◌∙◌, ap}
-use native.Mathlib.Nat.{mod-lt, mod-le, div-le_self, mul-le-mul, zero-mul, add-mul}
+use native.Mathlib.Nat.{mod-le, div-le_self, mul-le-mul, zero-mul, add-mul}
 use native.Mathlib.Omega.{arith}
-use native.Mathlib.Decide.{ℕ_discrete, dec_lt}
+use native.Mathlib.Decide.{dec_lt}
 use lib.ListN.{length, get_or, replicate, length-replicate, get_or-replicate, get_or-eq_default}
-use mir.Syntax.{w64}
-use mir.Val.{Fits}
 use Rattle.model_run.specs.Kernels.{width}
 use Rattle.model.specs.declared.Kernel.{Kernel}
 use Rattle.model.specs.declared.Kernel.TheVariants as kernels
 use Rattle.loop_laws.specs.Passes.{Lent, lent_of, heads}
-use Rattle.run_glide.specs.Glides.{Blank, GoodPlaces, InRings, InRows, Rung, passes_of, fires_of, Stops, Within}
+use Rattle.run_glide.specs.Glides.{Blank, GoodPlaces, InRings, Rung, passes_of, fires_of, Stops, Within}
 use Rattle.run_glide.specs.declared.Slid.{Slid}
 use Rattle.run_glide.proofs.ManyLaws.{store_after_lem, words_after}
 
@@ -26,33 +24,8 @@ term_low left b s l h = mul-le-mul {n₂ = 1048576} {m₂ = 1048576} (let d = di
 pub rest_low : (left b : ℕ) → left ≤ 1048576 → left % b ≤ 1048576
 rest_low left b l = let m = mod-le left b in omega arith
 
-pub term_fits : (left b s : ℕ) → left ≤ 1048576 → s ≤ 1048576 → Fits w64 (left / b * s)
-term_fits left b s l h = record { fits = omega (arith, term_low left b s l h) }
-
 pub sum_low : (sum left b s d : ℕ) → left ≤ 1048576 → sum ≤ d * 1099511627776 → s ≤ 1048576 → sum + left / b * s ≤ (d + 1) * 1099511627776
 sum_low sum left b s d l e h = omega (arith, term_low left b s l h)
-
-pub sum_fits : (sum left b s d dims : ℕ) → dims ≤ 4 → d < dims → left ≤ 1048576 → sum ≤ d * 1099511627776 → s ≤ 1048576 → Fits w64 (sum + left / b * s)
-sum_fits sum left b s d dims f g l e h = record { fits = omega (arith, term_low left b s l h) }
-
--- ---- the test, one more entry
-
-pub places_more : (room : ℕ) (bases tops us gs : List ℕ) (k : ℕ) → ((j : ℕ) → j < k → GoodPlaces (get_or bases j 0) (get_or tops j 0) (get_or us j 0) (get_or gs j 0) room)
-    → GoodPlaces (get_or bases k 0) (get_or tops k 0) (get_or us k 0) (get_or gs k 0) room
-    → (j : ℕ) → j < k + 1 → GoodPlaces (get_or bases j 0) (get_or tops j 0) (get_or us j 0) (get_or gs j 0) room
-places_more room bases tops us gs k f g j h = go (ℕ_discrete j k)
-  where
-    go : Dec (j ≡ k) → GoodPlaces (get_or bases j 0) (get_or tops j 0) (get_or us j 0) (get_or gs j 0) room
-    go (yes d) = rw d g
-    go (no d) = f j (omega arith)
-
-pub walks_more : (spans strides : List ℕ) (d : ℕ) → ((i : ℕ) → i < d → (0 < get_or spans i 0) × (get_or strides i 0 ≤ 1048576)) → (get_or spans d 0 ≡ 0 → ⊥) → get_or strides d 0 ≤ 1048576
-    → (i : ℕ) → i < d + 1 → (0 < get_or spans i 0) × (get_or strides i 0 ≤ 1048576)
-walks_more spans strides d f n l i h = go (ℕ_discrete i d)
-  where
-    go : Dec (i ≡ d) → (0 < get_or spans i 0) × (get_or strides i 0 ≤ 1048576)
-    go (yes e) = rw e ((let z : 0 < get_or spans d 0 = omega (arith, n) in z), l)
-    go (no e) = f i (omega arith)
 
 -- ---- the loop
 
@@ -111,10 +84,6 @@ module _ (n size iterations fired₀ allowance : ℕ) (bases tops cells store₀
       each true k h = let g = r.each k h in (g.0, g.1, g.1, g.3)
 
   module _ (us gs store out : List ℕ) (fired left taken o : ℕ) (s : Slides us gs store out fired left taken o) where
-    -- The places, in the store as it is.
-    pub rung_now : Rung n (length store) bases tops us gs store
-    rung_now = rw s.rung.room_is s.rung
-
     -- Clocks without a firing,
     pub slides_waits : (us' gs' store' words words' : List ℕ) (m : ℕ) → Rung n (length store) bases tops us' gs' store'
         → lent_of us' gs' store' words' ≡ passes_of n 0 bases tops cells taken 0 m (lent_of us gs store words) → taken + m ≤ length cells → taken + m ≤ allowance
@@ -173,26 +142,3 @@ module _ (n size iterations fired₀ allowance : ℕ) (bases tops cells store₀
       store_kept = s.store_kept;
       out_kept = λ i h. s.out_kept i (rw (s.words, ← ef) h);
     }
-
--- Filter 0 some cells on.
-pub position_fits : (position wanted taken len : ℕ) → position ≤ wanted → wanted ≤ 1048576 → taken ≤ len → len * 4 < 2 ^ 63 → Fits w64 (position + taken)
-position_fits position wanted taken len d w h l = record { fits = omega arith }
-
--- Iterations are left in the row of the next.
-pub row_left : (row fired : ℕ) → 0 < row → fired % row ≤ row
-row_left row fired s = let m = mod-lt fired s in omega arith
-
-pub row_some : (row fired : ℕ) → 0 < row → 0 < row - fired % row
-row_some row fired s = let m = mod-lt fired s in omega arith
-
--- The cell that filter 0 wants, by how far it has to go.
-pub by_wait : (dims row iterations first wanted position : ℕ) (spans strides : List ℕ) → InRows dims row iterations first wanted position spans strides
-    → InRows dims row iterations first (position + (wanted - position)) position spans strides
-by_wait dims row iterations first wanted position spans strides r = record {
-  walks = r.walks;
-  some = r.some;
-  most = r.most;
-  first_low = r.first_low;
-  wanted_low = omega (arith, r.wanted_low, r.due);
-  due = omega arith;
-}

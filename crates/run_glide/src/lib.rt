@@ -2,7 +2,7 @@
 
 #![tactic(auto)]
 
-ghost use Rattle.std.specs.Prelude.{List, ◌≡◌, true, false, ℕ, ◌+◌, ◌-◌, ◌*◌, ◌%◌, ◌<◌, ◌≤◌, length};
+ghost use Rattle.std.specs.Prelude.{List, ◌≡◌, true, false, ℕ, ◌+◌, ◌-◌, ◌*◌, ◌%◌, ◌<◌, ◌≤◌, length, IsSomeAnd};
 ghost use Rattle.model_run.specs.Kernels.{width as width_for, terms as terms_of};
 ghost use Rattle.model_run.specs.Clock.{Layout};
 ghost use Rattle.kernel_terms.specs.FilterTables.{filters_for};
@@ -44,15 +44,13 @@ fn exchange(
 {
     let m = n - 1;
     let mut carry = word;
-    let mut k = 0;
-    while k < m {
+    for k in 0..m {
         words[k] = carry;
         let u = puts[k];
         let w = store[u];
         store[u] = carry;
         carry = w;
         puts[k] = next_place(u, bases[k], tops[k]);
-        k += 1;
     }
     words[m] = carry;
 }
@@ -84,8 +82,7 @@ fn pass(
     }
     let m = n - 1;
     let mut carry = word;
-    let mut k = 0;
-    while k < m {
+    for k in 0..m {
         words[k] = carry;
         let g = gets[k];
         let u = puts[k];
@@ -94,7 +91,6 @@ fn pass(
         carry = w;
         puts[k] = next_place(u, bases[k], tops[k]);
         gets[k] = next_place(g, bases[k], tops[k]);
-        k += 1;
     }
     words[m] = carry;
 }
@@ -129,8 +125,7 @@ fn pass_all(
         × (length words.new ≡ length words.old) }
 {
     let mut at = o;
-    let mut i = 0;
-    while i < count {
+    for i in 0..count {
         let word = cells[from + i];
         pass(
             full,
@@ -144,7 +139,6 @@ fn pass_all(
             &mut words[at..],
         );
         at += step;
-        i += 1;
     }
 }
 
@@ -188,13 +182,11 @@ fn fire_all(
         return;
     }
     let mut at = o;
-    let mut i = 0;
-    while i < count {
+    for i in 0..count {
         let newest = cells[from + i];
         pass(full, n, bases, tops, puts, gets, store, newest, row);
         kernel::apply(kernel, centre, terms, terms, row, out, at);
         at += width;
-        i += 1;
     }
 }
 
@@ -203,10 +195,7 @@ fn firings_in(a: usize, b: usize, c: usize, room: usize, width: usize) -> usize
     requires { 0 < width }
     ensures { (result ≤ a) × (result ≤ b) × (result ≤ c) × (result * width ≤ room) × (0 < a → 0 < b → 0 < c → width ≤ room → 0 < result) }
 {
-    let most = room / width;
-    let few = numbers::lesser(a, b);
-    let fewer = numbers::lesser(few, c);
-    numbers::lesser(fewer, most)
+    a.min(b).min(c).min(room / width)
 }
 
 // ---- where the cells of the next iteration are
@@ -218,14 +207,10 @@ fn walk(dims: usize, spans: &[usize; 4], strides: &[usize; 4], j: usize) -> usiz
 {
     let mut sum = 0;
     let mut left = j;
-    let mut d = 0;
-    while d < dims {
-        let b = spans[d];
-        let s = strides[d];
-        let x = left / b;
-        sum += x * s;
-        left = left % b;
-        d += 1;
+    for d in 0..dims {
+        let span = spans[d];
+        sum += left / span * strides[d];
+        left %= span;
     }
     sum
 }
@@ -249,10 +234,7 @@ fn wait_for(
         return 0;
     }
     let wanted = first + walk(dims, spans, strides, next);
-    if wanted < position {
-        return 0;
-    }
-    wanted - position
+    wanted.saturating_sub(position)
 }
 
 // ---- what is handed in
@@ -261,16 +243,7 @@ fn wait_for(
 fn bad_place(base: usize, top: usize, u: usize, g: usize, room: usize) -> bool
     ensures { (result ≡ false → GoodPlaces base top u g room) × (result ≡ true → GoodPlaces base top u g room → ⊥) }
 {
-    if top <= base {
-        return true;
-    }
-    if top <= u {
-        return true;
-    }
-    if top <= g {
-        return true;
-    }
-    room < top
+    top <= base || top <= u || top <= g || room < top
 }
 
 // Whether the places of the FIFOs are.
@@ -285,18 +258,13 @@ fn bad_places(
     ensures { (result ≡ false → InRings n room bases.now tops.now puts.now gets.now)
         × (result ≡ true → InRings n room bases.now tops.now puts.now gets.now → ⊥) }
 {
-    if n == 0 {
+    if n == 0 || 32 < n {
         return true;
     }
-    if 32 < n {
-        return true;
-    }
-    let mut k = 0;
-    while k + 1 < n {
+    for k in 0..n - 1 {
         if bad_place(bases[k], tops[k], puts[k], gets[k], room) {
             return true;
         }
-        k += 1;
     }
     false
 }
@@ -315,33 +283,16 @@ fn bad_rows(
     ensures { (result ≡ false → InRows dims row iterations first wanted position spans.now strides.now)
         × (result ≡ true → InRows dims row iterations first wanted position spans.now strides.now → ⊥) }
 {
-    if 4 < dims {
+    if 4 < dims || row == 0 || MOST_CELLS < iterations {
         return true;
     }
-    if row == 0 {
+    if MOST_CELLS < first || MOST_CELLS < wanted || wanted < position {
         return true;
     }
-    if MOST_CELLS < iterations {
-        return true;
-    }
-    if MOST_CELLS < first {
-        return true;
-    }
-    if MOST_CELLS < wanted {
-        return true;
-    }
-    if wanted < position {
-        return true;
-    }
-    let mut d = 0;
-    while d < dims {
-        if spans[d] == 0 {
+    for d in 0..dims {
+        if spans[d] == 0 || MOST_CELLS < strides[d] {
             return true;
         }
-        if MOST_CELLS < strides[d] {
-            return true;
-        }
-        d += 1;
     }
     false
 }
@@ -411,6 +362,7 @@ fn slide(
     let mut left = left0;
     let mut taken = 0;
     let mut o = 0;
+    // Each turn makes as many clocks as go one way: those of a wait, or firings up to the end of a row.
     while fired < iterations {
         if taken == allowance {
             return Slid {
@@ -426,9 +378,9 @@ fn slide(
                 firings: fired - fired0,
             };
         }
-        let lent = numbers::lesser(allowance, cells.len()) - taken;
+        let lent = allowance.min(cells.len()) - taken;
         if 0 < wait {
-            let waits = numbers::lesser(wait, lent);
+            let waits = wait.min(lent);
             pass_all(
                 full, n, bases, tops, puts, gets, store, cells, taken, waits, &mut spare, 0, 0,
             );
@@ -474,9 +426,9 @@ fn slide(
     }
 }
 
-// The clocks of a call whose filters are aligned. `full`: each FIFO is full; `order`: the author's order. Tables that are out
-// of place make no clock, and nothing changes. Of others that are no layout's these stay open: which clocks fire, the words of
-// the firings, and what the store holds before the end of the last FIFO.
+// The clocks of a call whose filters are aligned. `full`: each FIFO is full; `order`: the author's order. `None`: the tables
+// are out of place, and nothing changes. Of others that are no layout's these stay open: which clocks fire, the words of the
+// firings, and what the store holds before the end of the last FIFO.
 pub fn glide(
     full: bool,
     kernel: Kernel,
@@ -500,20 +452,20 @@ pub fn glide(
     out: &mut [u32],
     allowance: usize,
     order: Order,
-) -> Slid
+) -> Option<Slid>
     ensures { ((L : Layout) (write : List ℕ → List ℕ) (size : ℕ) (caps : List ℕ)
         → (full ≡ true → FullFifos n caps passed.now)
         → Glides L write kernel (terms_of kernel centre (filters_for n order)) n row iterations size centre (width_for kernel n)
         fired0 dims at.now wants.now caps bases.now tops.now spans.now
         strides.now passed.now puts0 gets0 store.old
-        → GlidesTo result L write (width_for kernel n) n iterations size fired0 passed.now store.old
-        store.new out.old out.new cells.now allowance)
+        → IsSomeAnd result (λ r. GlidesTo r L write (width_for kernel n) n iterations size fired0 passed.now store.old
+        store.new out.old out.new cells.now allowance))
         × ByTest
         (Sound n dims row iterations (length store.old) at.now wants.now
         bases.now tops.now spans.now strides.now passed.now puts0 gets0)
         (Left result store.old store.new out.old out.new)
-        (Within result n (width_for kernel n) iterations fired0 tops.now store.old store.new
-        out.old out.new cells.now allowance) }
+        (IsSomeAnd result (λ r. Within r n (width_for kernel n) iterations fired0 tops.now store.old store.new
+        out.old out.new cells.now allowance)) }
 {
     let first = at[0];
     let wanted = wants[0];
@@ -521,25 +473,16 @@ pub fn glide(
     if bad_rows(
         dims, spans, strides, row, iterations, first, wanted, position,
     ) {
-        return Slid {
-            how: Way::Spent,
-            clocks: 0,
-            firings: 0,
-        };
+        return None;
     }
     let mut puts = puts0;
     let mut gets = gets0;
     if bad_places(n, bases, tops, &puts, &gets, store.len()) {
-        return Slid {
-            how: Way::Spent,
-            clocks: 0,
-            firings: 0,
-        };
+        return None;
     }
     let found = kernel_terms::terms_of(kernel, centre, n, order);
     let filters = found.filters;
-    let count = found.count;
-    slide(
+    Some(slide(
         full,
         kernel,
         centre,
@@ -562,7 +505,7 @@ pub fn glide(
         cells,
         out,
         allowance,
-        &filters[..count],
+        &filters[..found.count],
         kernel_terms::width(kernel, n),
-    )
+    ))
 }

@@ -8,7 +8,7 @@ use Rattle.model.specs.Values.{Trimmed, dims_of, trimmed, capacities_of}
 use Rattle.model.specs.Answers.{Check, first_of}
 use Rattle.model.specs.Judging.{too_large, judged, judge_chain}
 use Rattle.model.specs.declared.Chain.{Chain}
-use Rattle.model.specs.declared.Verdict.TheVariants as verdict
+use Rattle.std.specs.Prelude.{Ok}
 use Rattle.grid_laws.proofs.ListLaws.{length_tabulate}
 use Rattle.grid_laws.proofs.ChainLaws.{ground_dims, length_order, offsets_count, offsets_sized, part_bounded}
 use Rattle.grid_laws.proofs.Iterations.{few_cells, some_covered, fitting}
@@ -17,7 +17,7 @@ use Rattle.model.specs.Sized.{Proper, Fitting}
 use Rattle.run_laws.specs.Accepted.{Accepted}
 
 -- Where none of the first checks holds, the others decide.
-pub first_append : (cs ds : List Check) → first_of cs ≡ verdict.Accepted → first_of (cs ++ ds) ≡ first_of ds
+pub first_append : (cs ds : List Check) → first_of cs ≡ Ok tt → first_of (cs ++ ds) ≡ first_of ds
 first_append cs ds e = rw e at (then_checks cs ds)
 
 -- A chain, trimmed, has them.
@@ -32,7 +32,7 @@ trimmed_proper c rows = record {
   terms = length_order c.window.count c.order;
 }
 
-pub accepted : (t : Trimmed) → Proper t → judged t ≡ verdict.Accepted → Accepted t
+pub accepted : (t : Trimmed) → Proper t → judged t ≡ Ok tt → Accepted t
 unfolding judged too_large
 accepted t proper e =
     let p = value_passes t e in
@@ -46,7 +46,7 @@ accepted t proper e =
       places = ltb-false 16384 (sum t.capacities) p.chain.places;
     }
 
-pub accepted_chain : (c : Chain) (rows : List ℕ) → judge_chain c rows ≡ verdict.Accepted → Accepted (trimmed c rows)
+pub accepted_chain : (c : Chain) (rows : List ℕ) → judge_chain c rows ≡ Ok tt → Accepted (trimmed c rows)
 unfolding judge_chain
 accepted_chain c rows e = accepted (trimmed c rows) (trimmed_proper c rows) e
 

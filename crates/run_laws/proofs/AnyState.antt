@@ -18,8 +18,7 @@ use Rattle.model_run.specs.Clock.{Layout, first, fires, next}
 use Rattle.model_run.specs.Store.{first_place, place_in, presented, stored}
 use Rattle.model_run.specs.Running.{layout, counters_of, with_counters, Standing, Done, goes, Ended, outcome_of, words, clocked, call, short_store, bad_state, judge_run, begun, written_by, width_of, ended, run_trimmed, Run}
 use Rattle.model.specs.declared.State.{State}
-use Rattle.model.specs.declared.Verdict.TheVariants as verdict
-use Rattle.model.specs.declared.Answer.TheVariants as answer
+use Rattle.std.specs.Prelude.{Ok}
 use Rattle.grid_laws.proofs.ListLaws.{length_tabulate}
 use Rattle.grid_laws.proofs.CheckLaws.{passes, both_pass}
 use Rattle.flow.specs.Machine.{Lawful, Holds, Invariant}
@@ -153,11 +152,11 @@ module _ (L : Layout) (lawful : Lawful L) (write : List ℕ → List ℕ) (size 
 
 -- What a call that no number turns back is judged by, and the other way.
 pub record Judged (t : Trimmed) (s : State) (store : List ℕ) : Type 0 where
-  pub value : judged t ≡ verdict.Accepted
+  pub value : judged t ≡ Ok tt
   pub enough : short_store t store ≡ false
   pub sound : bad_state (layout t) (counters_of t.count s) ≡ false
 
-pub judged_run : (t : Trimmed) (s : State) (store : List ℕ) → judge_run t s store ≡ verdict.Accepted → Judged t s store
+pub judged_run : (t : Trimmed) (s : State) (store : List ℕ) → judge_run t s store ≡ Ok tt → Judged t s store
 unfolding judge_run judged
 judged_run t s store e =
     let a = both_pass (value_checks t) _ e in
@@ -165,7 +164,7 @@ judged_run t s store e =
     let p11 = passes _ _ _ p10.1 in
     record { value = a.0; enough = p10.0; sound = p11.0 }
 
-pub run_judged : (t : Trimmed) (s : State) (store : List ℕ) → Judged t s store → judge_run t s store ≡ verdict.Accepted
+pub run_judged : (t : Trimmed) (s : State) (store : List ℕ) → Judged t s store → judge_run t s store ≡ Ok tt
 unfolding judge_run judged first_of
 run_judged t s store j = first_append (value_checks t) _ j.value ∙ rw (j.enough, j.sound) refl
 
@@ -203,7 +202,7 @@ module _ (t : Trimmed) (proper : Proper t) (s : State) (store lent output : List
   -- What the call leaves, by its end.
   unfoldable pub ran : Run
   ran = record {
-    answer = answer.Ended (outcome_of end.ending end.standing.done);
+    answer = Ok (outcome_of end.ending end.standing.done);
     state = with_counters s end.standing.counters;
     store = end.standing.store;
     output = end.standing.output;
@@ -230,6 +229,6 @@ module _ (t : Trimmed) (proper : Proper t) (s : State) (store lent output : List
   judged_again store' e = record { value = j.value; enough = e; sound = rw run_counters (invariant_good (layout t) end.standing.counters end_stays.good.invariant) }
 
   -- and the store that it hands back is as long as it was.
-  pub accepted_again : judge_run t run.state run.store ≡ verdict.Accepted
+  pub accepted_again : judge_run t run.state run.store ≡ Ok tt
   unfolding short_store
   accepted_again = run_judged t run.state run.store (judged_again run.store (ap (λ (n : ℕ). ltb n (sum t.capacities)) run_store_length ∙ j.enough))

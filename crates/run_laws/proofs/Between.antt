@@ -21,8 +21,7 @@ use Rattle.model.specs.declared.Kernel.{Kernel}
 use Rattle.model.specs.declared.Kernel.TheVariants as kernel
 use Rattle.model.specs.declared.State.{State}
 use Rattle.model.specs.declared.Refusal.TheVariants as refusal
-use Rattle.model.specs.declared.Verdict.TheVariants as verdict
-use Rattle.model.specs.declared.Answer.TheVariants as answer
+use Rattle.std.specs.Prelude.{Ok, Err}
 use Rattle.grid_laws.proofs.ListLaws.{length_tabulate, get_d_tabulate}
 use Rattle.flow.specs.Machine.{Invariant}
 use Rattle.flow.proofs.Laws.{ran_invariant}
@@ -95,11 +94,11 @@ module _ (S : Setting) where
 
   -- Of all numbers only 10 can turn a call back.
   pub only_10 : {b : Between} {es : List Bool} → Reached b es → (store : List ℕ)
-      → judge_run t b.state store ≡ cond (short_store t store) (verdict.Refused refusal.ShortStore) verdict.Accepted
+      → judge_run t b.state store ≡ cond (short_store t store) (Err refusal.ShortStore) (Ok tt)
   unfolding judge_run first_of
   only_10 {b} r store =
       first_append (value_checks t) _ ok.checks
-      ∙ ap (λ (x : Bool). cond (short_store t store) (verdict.Refused refusal.ShortStore) (cond x (verdict.Refused refusal.BadState) verdict.Accepted))
+      ∙ ap (λ (x : Bool). cond (short_store t store) (Err refusal.ShortStore) (cond x (Err refusal.BadState) (Ok tt)))
       (invariant_good (layout t) (now b) (reached_invariant r))
 
   -- A call's own end and events, where 10 does not turn it back.
@@ -114,11 +113,11 @@ module _ (S : Setting) where
     clocks = events (layout t) (written_by t) (width_of t) (lent_cells t stream l b) l.allowance beginning
 
     unfoldable pub refused : Run
-    refused = record { answer = answer.Refused refusal.ShortStore; state = b.state; store = take l.front b.store; output = l.output }
+    refused = record { answer = Err refusal.ShortStore; state = b.state; store = take l.front b.store; output = l.output }
 
     unfoldable pub ran : Run
     ran = record {
-      answer = answer.Ended (outcome_of ending.ending ending.standing.done);
+      answer = Ok (outcome_of ending.ending ending.standing.done);
       state = with_counters b.state ending.standing.counters;
       store = ending.standing.store;
       output = ending.standing.output;
@@ -131,7 +130,7 @@ module _ (S : Setting) where
     by_call r P short enough = go (short_store t (take l.front b.store)) refl (only_10 r (take l.front b.store))
       where
         go : (x : Bool) → short_store t (take l.front b.store) ≡ x
-            → judge_run t b.state (take l.front b.store) ≡ cond (short_store t (take l.front b.store)) (verdict.Refused refusal.ShortStore) verdict.Accepted
+            → judge_run t b.state (take l.front b.store) ≡ cond (short_store t (take l.front b.store)) (Err refusal.ShortStore) (Ok tt)
             → P (call_run t stream l b) (call_events t stream l b)
         go true x e = rw (e, x) (short x)
         go false x e = rw (e, x) (enough x)

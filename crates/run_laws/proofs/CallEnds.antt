@@ -7,15 +7,14 @@ use mathlib.Core.Path.{◌≡◌, refl, sym, ◌∙◌, ap, subst}
 use native.Mathlib.Nat.{add-zero, suc-mul, mul-le-mul_right}
 use native.Mathlib.Omega.{arith}
 use lib.ListN.{length, take, length-append}
-use Rattle.model.specs.Answers.{outcome_counts, answer_counts}
+use Rattle.model.specs.Answers.{Answer, outcome_counts, answer_counts}
 use Rattle.model_run.specs.Clock.{moves}
 use Rattle.model_run.specs.Running.{layout, Ending, Done, Spent, Starved, Stalled, Full, ends, outcome_of, short_store, begun, written_by, width_of}
 use Rattle.model_run.specs.CallLists.{Lending, Between, LentEnough, lent_cells, call_run, call_events, firings_among}
 use Rattle.model.specs.declared.Counts.{Counts}
 use Rattle.model.specs.declared.Outcome.{Outcome}
 use Rattle.model.specs.declared.Outcome.TheVariants as outcome
-use Rattle.model.specs.declared.Answer.{Answer}
-use Rattle.model.specs.declared.Answer.TheVariants as answer
+use Rattle.std.specs.Prelude.{Ok, Err}
 use Rattle.flow.proofs.Laws.{fewer_clocks, room_left}
 use Rattle.model_run.specs.Reports.{Reports, firings_of, clocks_of}
 use Rattle.run_laws.proofs.Layouts.{lawful}
@@ -42,10 +41,10 @@ ending_of (outcome.Stalled c) = Stalled
 ending_of (outcome.Full c) = Full
 
 pub answered : Answer → Ending
-answered (answer.Ended o) = ending_of o
-answered (answer.Refused x) = Done
+answered (Ok o) = ending_of o
+answered (Err x) = Done
 
-pub answered_back : (e : Ending) (c : Counts) → answered (answer.Ended (outcome_of e c)) ≡ e
+pub answered_back : (e : Ending) (c : Counts) → answered (Ok (outcome_of e c)) ≡ e
 unfolding answered ending_of outcome_of
 answered_back Done c = refl
 answered_back Spent c = refl
@@ -53,7 +52,7 @@ answered_back Starved c = refl
 answered_back Stalled c = refl
 answered_back Full c = refl
 
-same_ending : (e f : Ending) (c d : Counts) → answer.Ended (outcome_of e c) ≡ answer.Ended (outcome_of f d) → e ≡ f
+same_ending : (e f : Ending) (c d : Counts) → ◌≡◌ {A = Answer} (Ok (outcome_of e c)) (Ok (outcome_of f d)) → e ≡ f
 same_ending e f c d x = sym (answered_back e c) ∙ ap answered x ∙ answered_back f d
 
 module _ (S : Setting) (l : Lending) (b : Between) {es : List Bool} (r : Reached S b es) where

@@ -12,9 +12,9 @@ use Rattle.model.specs.Values.{Trimmed, ground_of, dims_of, trimmed, no_order}
 use Rattle.model.specs.Answers.{first_of}
 use Rattle.model.specs.Judging.{repeats, no_iteration, bad_order, window_checks, chain_checks, value_checks, judged, judge_chain}
 use Rattle.model.specs.Steps.{falling, authors_order, distances, sorted}
-use Rattle.model.specs.Planning.{trimmed_request, judge_request, planned_chain, plan_of}
+use Rattle.model.specs.Planning.{trimmed_request, judge_request, planned_chain}
 use Rattle.model.specs.declared.Request.{Request}
-use Rattle.model.specs.declared.Verdict.TheVariants as verdict
+use Rattle.std.specs.Prelude.{Ok}
 use Rattle.grid_laws.proofs.ListLaws.{length_tabulate}
 use Rattle.grid_laws.proofs.SameCourses.{same_course}
 use Rattle.grid_laws.proofs.Iterations.{fitting}
@@ -34,7 +34,7 @@ sorted_fits t f =
     (sized_falling (dims t.the_ground) t.offsets f.suits.entries) f.suits.bounded
 
 -- A value that no number turns back is judged as before with its offsets sorted: the order that is recorded is each filter number once.
-pub same_checks : (t : Trimmed) → Proper t → judged t ≡ verdict.Accepted → value_checks (sorted t) ≡ value_checks t
+pub same_checks : (t : Trimmed) → Proper t → judged t ≡ Ok tt → value_checks (sorted t) ≡ value_checks t
 unfolding judged sorted value_checks window_checks chain_checks no_iteration course
 same_checks t p e =
     let os = t.offsets in
@@ -56,7 +56,7 @@ sorted_proper t p = record {
 }
 
 -- What 5 says of a value that no number turns back.
-pub no_repeats : (t : Trimmed) → judged t ≡ verdict.Accepted → repeats t.offsets ≡ false
+pub no_repeats : (t : Trimmed) → judged t ≡ Ok tt → repeats t.offsets ≡ false
 unfolding judged
 no_repeats t e = (value_passes t e).window.distinct
 
@@ -73,7 +73,7 @@ request_proper r rows =
       terms = refl;
     }
 
-module _ (r : Request) (rows : List ℕ) (ok : judge_request r rows ≡ verdict.Accepted) where
+module _ (r : Request) (rows : List ℕ) (ok : judge_request r rows ≡ Ok tt) where
   -- The planned chain's lists are the request's, with the offsets sorted.
   pub planned_lists : trimmed (planned_chain r rows) rows ≡ sorted (trimmed_request r rows)
   unfolding judge_request judged planned_chain trimmed_request sorted
@@ -82,10 +82,10 @@ module _ (r : Request) (rows : List ℕ) (ok : judge_request r rows ≡ verdict.
       trimmed_chain (sorted (trimmed_request r rows)) rows (ground_again r.grid rows) p.dimensions p.references p.entries p.bounded p.fifos p.terms
       (few_dims (dims_of r.grid) (ground_of r.grid rows) (ground_dims r.grid rows) (value_passes (trimmed_request r rows) ok).window.grid) (accepted (trimmed_request r rows) (request_proper r rows) ok).few
 
-  pub planned_judged : judged (sorted (trimmed_request r rows)) ≡ verdict.Accepted
+  pub planned_judged : judged (sorted (trimmed_request r rows)) ≡ Ok tt
   unfolding judged judge_request
   planned_judged = ap first_of (same_checks (trimmed_request r rows) (request_proper r rows) ok) ∙ ok
 
-  pub plan_accepted : judge_chain (plan_of r rows).chain rows ≡ verdict.Accepted
-  unfolding plan_of judge_chain
-  plan_accepted = rw (ok, planned_lists) planned_judged
+  pub plan_accepted : judge_chain (planned_chain r rows) rows ≡ Ok tt
+  unfolding judge_chain
+  plan_accepted = rw planned_lists planned_judged

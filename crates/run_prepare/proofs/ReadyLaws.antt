@@ -1,7 +1,7 @@
 -- The verdict on a run call, and its tables: what each of the checks in their order leaves.
 use Prim.Native.Nat.{ℕ, zero, suc, ◌+◌, ◌-◌, ◌*◌, ◌≤◌, ◌<◌}
-use mathlib.Core.Bool.{Bool, true, false, cond}
-use mathlib.Core.List.{List, [], ◌∷◌, ◌++◌}
+use mathlib.Core.Bool.{Bool, true, false}
+use mathlib.Core.List.{List, [], ◌∷◌}
 use mathlib.Core.Path.{◌≡◌, refl, sym, ◌∙◌, ap, subst}
 use native.Mathlib.Nat.{mul-le-mul_right}
 use native.Mathlib.Omega.{arith}
@@ -10,7 +10,7 @@ use borrow.Author.Tests.{ltb-false}
 use Rattle.model.specs.Lists.{sum, product}
 use Rattle.model.specs.Values.{sizes_of, ground_of, dims_of, trimmed, set_grid}
 use Rattle.model.specs.Iterations.{iterations_of, extents_of}
-use Rattle.model.specs.Answers.{Check, first_of}
+use Rattle.model.specs.Answers.{first_of}
 use Rattle.model.specs.Judging.{bad_grid, bad_count, value_checks, judged, judge_chain}
 use Rattle.model_run.specs.Store.{first_place}
 use Rattle.model_run.specs.Clock.{Counters}
@@ -19,12 +19,11 @@ use Rattle.model.specs.declared.Chain.{Chain}
 use Rattle.model.specs.declared.State.{State}
 use Rattle.model.specs.declared.Refusal.{Refusal}
 use Rattle.model.specs.declared.Refusal.TheVariants as refusal
-use Rattle.model.specs.declared.Verdict.{Verdict}
-use Rattle.model.specs.declared.Verdict.TheVariants as verdict
+use Rattle.std.specs.Prelude.{Result, Ok, Err}
 use Rattle.grid_laws.proofs.ListLaws.{tabulate_back}
 use Rattle.grid_laws.proofs.Iterations.{at_most_cells, iterations_product, extents_count}
 use Rattle.flow.specs.Machine.{Invariant}
-use Rattle.grid_laws.proofs.CheckLaws.{value_passes}
+use Rattle.grid_laws.proofs.CheckLaws.{then_checks, value_passes}
 use Rattle.run_laws.specs.Accepted.{Accepted}
 use Rattle.run_laws.proofs.Accepts.{first_append}
 use Rattle.geometry.specs.Parts.{part, Small}
@@ -33,40 +32,30 @@ use Rattle.geometry.proofs.PartLaws.{part_none, part_all, part_shift, part_same}
 use Rattle.shape.proofs.Answers.{centre_is}
 use Rattle.loop_laws.specs.Standings.{counting}
 use Rattle.run_prepare.specs.Prepared.{number_at, blank, Filled, Shaped, Capped, TakenUp}
-use Rattle.run_prepare.specs.Ready.{flattened, Prepared, Begins, Stored, Taken, Readied}
+use Rattle.run_prepare.specs.Ready.{flattened, Prepared, Begins, Stored, Taken, Begun, Readied}
 use Rattle.run_prepare.specs.declared.Ready.{Ready}
 use Rattle.run_prepare.proofs.GridLaws.{good_grid}
 use Rattle.run_prepare.proofs.PrepareGuards.{bases_are, counters_are, good_counters}
 
--- Where a check of the first ones holds, the others play no part.
-pub first_refused : (cs ds : List Check) (x : Refusal) → first_of cs ≡ verdict.Refused x → first_of (cs ++ ds) ≡ verdict.Refused x
-unfolding first_of
-first_refused [] ds x e = absurd (let z : ◌≡◌ {A = ℕ} 0 1 = cc in omega arith)
-first_refused (c ∷ cs) ds x e = go c.holds (first_refused cs ds x) e
-  where
-    go : (b : Bool) → (first_of cs ≡ verdict.Refused x → first_of (cs ++ ds) ≡ verdict.Refused x) → cond b (verdict.Refused c.refusal) (first_of cs) ≡ verdict.Refused x → cond b (verdict.Refused c.refusal) (first_of (cs ++ ds)) ≡ verdict.Refused x
-    go true rest e = e
-    go false rest e = rest e
-
 module _ (c : Chain) (rows : List ℕ) (s : State) (store : List ℕ) where
   -- 3 to 9 and 14 to 16.
-  pub judged_refused : (x : Refusal) → judge_chain c rows ≡ verdict.Refused x → judge_run (trimmed c rows) s store ≡ verdict.Refused x
+  pub judged_refused : (x : Refusal) → judge_chain c rows ≡ Err x → judge_run (trimmed c rows) s store ≡ Err x
   unfolding judge_chain judged judge_run
-  judged_refused x e = first_refused (value_checks (trimmed c rows)) _ x e
+  judged_refused x e = then_checks (value_checks (trimmed c rows)) _ ∙ rw e
 
   module _ (ok : Accepted (trimmed c rows)) where
     -- 10.
-    pub judged_short : short_store (trimmed c rows) store ≡ true → judge_run (trimmed c rows) s store ≡ verdict.Refused refusal.ShortStore
+    pub judged_short : short_store (trimmed c rows) store ≡ true → judge_run (trimmed c rows) s store ≡ Err refusal.ShortStore
     unfolding judge_run first_of
     judged_short e = first_append (value_checks (trimmed c rows)) _ ok.checks ∙ rw e
 
     module _ (long : short_store (trimmed c rows) store ≡ false) where
       -- 11.
-      pub judged_bad : bad_state (layout (trimmed c rows)) (counters_of c.window.count s) ≡ true → judge_run (trimmed c rows) s store ≡ verdict.Refused refusal.BadState
+      pub judged_bad : bad_state (layout (trimmed c rows)) (counters_of c.window.count s) ≡ true → judge_run (trimmed c rows) s store ≡ Err refusal.BadState
       unfolding judge_run first_of trimmed
       judged_bad e = first_append (value_checks (trimmed c rows)) _ ok.checks ∙ rw (long, e)
 
-      pub judged_fine : bad_state (layout (trimmed c rows)) (counters_of c.window.count s) ≡ false → judge_run (trimmed c rows) s store ≡ verdict.Accepted
+      pub judged_fine : bad_state (layout (trimmed c rows)) (counters_of c.window.count s) ≡ false → judge_run (trimmed c rows) s store ≡ Ok tt
       unfolding judge_run first_of trimmed
       judged_fine good = first_append (value_checks (trimmed c rows)) _ ok.checks ∙ rw (long, good)
 
@@ -198,15 +187,15 @@ module _ {c : Chain} {s : State} {cells iterations : ℕ} {es ss at wants caps b
   }
 
 -- A refusal says nothing of the tables.
-pub readied_refused : (c : Chain) (rows : List ℕ) (s : State) (r : Ready) (x : Refusal) (at wants caps bases tops spans strides passed store : List ℕ) → r.verdict ≡ verdict.Refused x
-    → judge_run (trimmed c rows) s store ≡ verdict.Refused x → Readied c rows s r at wants caps bases tops spans strides passed store
-readied_refused c rows s r x at wants caps bases tops spans strides passed store e j = record {
-  verdict_is = e ∙ sym j;
-  begun = λ a. absurd (let z : ◌≡◌ {A = Verdict} verdict.Accepted (verdict.Refused x) = sym a ∙ e in let y : ◌≡◌ {A = ℕ} 0 1 = cc in omega arith);
+pub readied_refused : (c : Chain) (rows : List ℕ) (s : State) (x : Refusal) (at wants caps bases tops spans strides passed store : List ℕ)
+    → judge_run (trimmed c rows) s store ≡ Err x → Readied c rows s (Err x) at wants caps bases tops spans strides passed store
+readied_refused c rows s x at wants caps bases tops spans strides passed store j = record {
+  verdict_is = sym j;
+  begun = λ b a. absurd (let y : ◌≡◌ {A = ℕ} 0 1 = cc in omega arith);
 }
 
 -- A chain on a rectangle is as it was.
-pub readied_flat : (c : Chain) → c.grid.skewed ≡ false → (s : State) (r : Ready) (at wants caps bases tops spans strides passed store : List ℕ)
+pub readied_flat : (c : Chain) → c.grid.skewed ≡ false → (s : State) (r : Result Ready Refusal) (at wants caps bases tops spans strides passed store : List ℕ)
     → Readied (flattened c) [] s r at wants caps bases tops spans strides passed store → Readied c [] s r at wants caps bases tops spans strides passed store
 readied_flat c flat s r at wants caps bases tops spans strides passed store d = subst (λ (c : Chain). Readied c [] s r at wants caps bases tops spans strides passed store) same d
   where
@@ -217,8 +206,14 @@ readied_flat c flat s r at wants caps bases tops spans strides passed store d = 
 pub readied : {c : Chain} {s : State} {cells iterations : ℕ} {es ss at wants caps bases tops passed store : List ℕ} → Taken c s cells iterations es ss at wants caps bases tops passed store
     → (spans : List ℕ) (row centre fired : ℕ) → ((d : ℕ) → d < c.grid.dims → number_at spans d ≡ product (part (number_at es) (d + 1) c.grid.dims))
     → row ≡ number_at es (c.grid.dims - 1) → centre ≡ centre_in c.grid.dims c.window → fired ≡ s.fired.0
-    → Readied (flattened c) [] s (record { verdict = verdict.Accepted; row = row; iterations = iterations; cells = cells; centre = centre; fired = fired }) at wants caps bases tops spans ss passed store
-readied {c} {s} {store = store} T spans row centre fired b r m f = record {
+    → Readied (flattened c) [] s (Ok (record { row = row; iterations = iterations; cells = cells; centre = centre; fired = fired })) at wants caps bases tops spans ss passed store
+readied {c} {s} {cells} {iterations} {es} {ss} {at} {wants} {caps} {bases} {tops} {passed} {store} T spans row centre fired b r m f = record {
   verdict_is = sym (judged_fine (flattened c) [] s store T.stored.capable.accepted T.stored.long T.good);
-  begun = λ _. record { tables = prepared T spans row centre b r m; begins = begins T fired f; fired_is = f; counters = T.counters };
+  begun = λ d e. subst (λ (r : Ready). Begun (flattened c) [] s r at wants caps bases tops spans ss passed store) (let y : made ≡ d = cc in y) there;
 }
+  where
+    made : Ready
+    made = record { row = row; iterations = iterations; cells = cells; centre = centre; fired = fired }
+
+    there : Begun (flattened c) [] s made at wants caps bases tops spans ss passed store
+    there = record { tables = prepared T spans row centre b r m; begins = begins T fired f; fired_is = f; counters = T.counters }

@@ -10,33 +10,33 @@ use Rattle.model.specs.Lists.{sum}
 use Rattle.model.specs.Grounds.{Row, cells_above}
 use Rattle.model.specs.Values.{Trimmed, rows_of, ground_of, dims_of, capacities_of, trimmed, set_grid, on_rows}
 use Rattle.model.specs.Iterations.{cells_of, position_of, course_of, iterations_of, iteration_of, reads_of}
-use Rattle.model.specs.Judging.{window_checks, value_checks, judged, judge_chain, judge_rows}
+use Rattle.model.specs.Judging.{judge_chain}
 use Rattle.model_run.specs.Clock.{Counters}
 use Rattle.model_run.specs.Running.{layout, short_store, judge_run}
 use Rattle.model.specs.declared.Chain.{Chain}
 use Rattle.model.specs.declared.State.{State}
 use Rattle.model.specs.declared.Refusal.{Refusal}
-use Rattle.model.specs.declared.Verdict.{Verdict}
-use Rattle.model.specs.declared.Verdict.TheVariants as verdict
-use Rattle.grid_laws.proofs.CheckLaws.{both_pass, window_passes}
+use Rattle.std.specs.Prelude.{Result, Ok, Err}
+use Rattle.model.specs.Answers.{verdict_of}
+use Rattle.grid_laws.proofs.CheckLaws.{window_passes}
 use Rattle.grid_laws.proofs.Iterations.{below_cells}
 use Rattle.flow.specs.Machine.{Invariant}
 use Rattle.run_laws.specs.Accepted.{Accepted}
 use Rattle.run_laws.proofs.Accepts.{trimmed_proper, fitting_of}
 use Rattle.geometry.specs.Parts as parts
 use Rattle.rows.specs.Courses.{row_length}
-use Rattle.rows.specs.Surveys.{row_survey_of, Surveyed}
+use Rattle.rows.specs.Surveys.{Surveyed}
 use Rattle.rows.specs.declared.RowCourse.{RowCourse}
 use Rattle.rows.specs.declared.RowSurvey.{RowSurvey}
-use Rattle.rows.proofs.SurveyLaws.{Answer, survey_verdict, survey_answer}
+use Rattle.rows.proofs.SurveyLaws.{Answer, survey_answer}
 use Rattle.row_courses.specs.CourseTables.{above_count, lengths_above, read_at}
 use Rattle.row_courses.proofs.TableLaws.{above_good}
 use Rattle.row_courses.proofs.RunLaws.{looked_is, few_rows_in, iterations_are, in_row, reads_row}
 use Rattle.judging.specs.Checks.{judged_behind, examined_rows}
-use Rattle.judging.proofs.JudgeLaws.{rows_examined}
+use Rattle.judging.proofs.JudgeLaws.{rows_examined, rows_survey}
 use Rattle.run_prepare.specs.Prepared.{number_at, blank, Counted, TakenUp}
 use Rattle.run_prepare.specs.Ready.{Stored}
-use Rattle.run_prepare.specs.RowsReady.{in_rows, RowReads, RowsFound, RowTables, RowsReadied}
+use Rattle.run_prepare.specs.RowsReady.{in_rows, RowReads, RowsFound, RowTables, RowsBegun, RowsReadied}
 use Rattle.run_prepare.proofs.PrepareGuards.{counters_are, good_counters}
 use Rattle.run_prepare.proofs.ReadyLaws.{judged_fine}
 
@@ -64,35 +64,24 @@ module _ (c : Chain) (skewed : c.grid.skewed ≡ true) (rows : List ℕ) where
 
 module _ (c : Chain) (rows : List ℕ) where
   -- What is found of a chain is what is found of it on rows.
-  module _ (s : RowSurvey) (e : s ≡ examined_rows c rows) where
-    as_rows : examined_rows c rows ≡ examined_rows (in_rows c) rows
-    unfolding examined_rows judged_behind capacities_of
-    as_rows = refl
+  as_rows : examined_rows c rows ≡ examined_rows (in_rows c) rows
+  unfolding examined_rows judged_behind capacities_of
+  as_rows = refl
 
-    pub found_verdict : (v : Verdict) → s.verdict ≡ v → judge_chain (in_rows c) rows ≡ v
-    found_verdict v d = sym (rows_examined (in_rows c) refl rows) ∙ sym (ap (λ (s : RowSurvey). s.verdict) (e ∙ as_rows)) ∙ d
+  pub found_verdict : (r : Result RowSurvey Refusal) → r ≡ examined_rows c rows → judge_chain (in_rows c) rows ≡ verdict_of r
+  found_verdict r e = sym (rows_examined (in_rows c) rows refl) ∙ sym (ap verdict_of (e ∙ as_rows))
 
-    module _ (d : s.verdict ≡ verdict.Accepted) where
-      clear : judge_rows c.grid.rows rows c.window c.bounds ≡ verdict.Accepted
-      unfolding judge_chain judged value_checks window_checks trimmed ground_of dims_of
-      clear = (both_pass (window_checks (trimmed (in_rows c) rows)) _ (found_verdict verdict.Accepted d)).0
-
+  pub rows_found : (s : RowSurvey) → Ok s ≡ examined_rows c rows → RowsFound (in_rows c) rows s
+  unfolding trimmed dims_of
+  rows_found s e = record {
+    surveyed = answer.surveyed;
+    iterations_are = answer.iterations ∙ sym (iterations_alike (in_rows c) refl rows);
+    cells_are = answer.cells ∙ sym (cells_alike (in_rows c) refl rows);
+    centre_is = answer.centre;
+  }
+    where
       answer : Answer c.grid.rows rows c.window c.bounds s
-      unfolding examined_rows
-      answer = subst (Answer c.grid.rows rows c.window c.bounds) (sym e) (record { surveyed = a.surveyed; centre = a.centre; cells = a.cells; iterations = a.iterations })
-        where
-          a : Answer c.grid.rows rows c.window c.bounds (row_survey_of c.grid.rows rows c.window c.bounds)
-          a = survey_answer c.grid.rows rows c.window c.bounds _ refl (survey_verdict c.grid.rows rows c.window c.bounds ∙ clear)
-
-      pub rows_found : RowsFound (in_rows c) rows s
-      unfolding trimmed dims_of
-      rows_found = record {
-        accepts = d;
-        surveyed = answer.surveyed;
-        iterations_are = answer.iterations ∙ sym (iterations_alike (in_rows c) refl rows);
-        cells_are = answer.cells ∙ sym (cells_alike (in_rows c) refl rows);
-        centre_is = answer.centre;
-      }
+      answer = survey_answer c.grid.rows rows c.window c.bounds s (rows_survey c rows s (sym e))
 
 -- Where the references read, by the tables.
 module _ (c : Chain) (skewed : c.grid.skewed ≡ true) (rows : List ℕ) (ok : Accepted (trimmed c rows)) (course : RowCourse)
@@ -180,32 +169,32 @@ module _ (c : Chain) (rows : List ℕ) (ok : Accepted (trimmed (in_rows c) rows)
       centre_is = found.centre_is;
     }
 
-    pub rows_readied : RowsReadied (in_rows c) rows state s above iterations caps bases tops passed store
+    pub rows_readied : RowsReadied (in_rows c) rows state (Ok s) above iterations caps bases tops passed store
     unfolding trimmed short_store
     rows_readied =
         let good = sym u.bad_is ∙ e in
         let now = counters_are c.window.count state blank passed (omega (arith, ok.few)) u.passed_are in
         record {
-          verdict_is = found.accepts ∙ sym (judged_fine (in_rows c) rows state store ok T.long good);
-          begun = λ _. record {
+          verdict_is = sym (judged_fine (in_rows c) rows state store ok T.long good);
+          begun = λ d e. subst (λ (s : RowSurvey). RowsBegun (in_rows c) rows state s above iterations caps bases tops passed store) (let y : s ≡ d = cc in y) (record {
             tables = row_tables;
             there = u.passed_are.long;
             room = ltb-false (length store) (sum (trimmed (in_rows c) rows).capacities) T.long;
             holds = subst (Invariant (layout (trimmed (in_rows c) rows))) (sym now) (good_counters (trimmed (in_rows c) rows) state good);
             counters = ap (λ (k : Counters). k.passed) now;
-          };
+          });
         }
 
 -- A refusal says nothing of the tables.
-pub rows_refused : (c : Chain) (rows : List ℕ) (state : State) (r : RowSurvey) (x : Refusal) (above iterations caps bases tops passed store : List ℕ) → r.verdict ≡ verdict.Refused x
-    → judge_run (trimmed c rows) state store ≡ verdict.Refused x → RowsReadied c rows state r above iterations caps bases tops passed store
-rows_refused c rows state r x above iterations caps bases tops passed store e j = record {
-  verdict_is = e ∙ sym j;
-  begun = λ a. absurd (let z : ◌≡◌ {A = Verdict} verdict.Accepted (verdict.Refused x) = sym a ∙ e in let y : ◌≡◌ {A = ℕ} 0 1 = cc in omega arith);
+pub rows_refused : (c : Chain) (rows : List ℕ) (state : State) (x : Refusal) (above iterations caps bases tops passed store : List ℕ)
+    → judge_run (trimmed c rows) state store ≡ Err x → RowsReadied c rows state (Err x) above iterations caps bases tops passed store
+rows_refused c rows state x above iterations caps bases tops passed store j = record {
+  verdict_is = sym j;
+  begun = λ s a. absurd (let y : ◌≡◌ {A = ℕ} 0 1 = cc in omega arith);
 }
 
 -- The call is of the chain as it was.
-pub readied_skewed : (c : Chain) → c.grid.skewed ≡ true → (rows : List ℕ) (state : State) (r : RowSurvey) (above iterations caps bases tops passed store : List ℕ)
+pub readied_skewed : (c : Chain) → c.grid.skewed ≡ true → (rows : List ℕ) (state : State) (r : Result RowSurvey Refusal) (above iterations caps bases tops passed store : List ℕ)
     → RowsReadied (in_rows c) rows state r above iterations caps bases tops passed store → RowsReadied c rows state r above iterations caps bases tops passed store
 readied_skewed c skewed rows state r above iterations caps bases tops passed store d =
     subst (λ (c : Chain). RowsReadied c rows state r above iterations caps bases tops passed store) (in_rows_lem c skewed) d

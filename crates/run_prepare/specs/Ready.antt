@@ -1,6 +1,7 @@
 -- What a run call finds before its clocks: the verdict on it, and where it is not refused the tables of the call.
-use Rattle.std.specs.Prelude.{ℕ, suc, ◌+◌, ◌-◌, ◌≤◌, ◌<◌, false, List, [], ◌≡◌, length, get_or, take, drop}
+use Rattle.std.specs.Prelude.{ℕ, suc, ◌+◌, ◌-◌, ◌≤◌, ◌<◌, false, List, [], ◌≡◌, length, get_or, take, drop, Result, Ok}
 use Rattle.model.specs.Lists.{sum, product}
+use Rattle.model.specs.Answers.{verdict_of}
 use Rattle.model.specs.Geometry.{cell_count}
 use Rattle.model.specs.Grounds.{ground_sizes}
 use Rattle.model.specs.Grounds.Ground.{rectangle}
@@ -10,8 +11,8 @@ use Rattle.model.specs.Iterations.{cells_of, iterations_of, extents_of, reads_of
 use Rattle.model_run.specs.Store.{first_place}
 use Rattle.model_run.specs.Running.{layout, counters_of, short_store, bad_state, judge_run}
 use Rattle.model.specs.declared.Chain.{Chain}
+use Rattle.model.specs.declared.Refusal.{Refusal}
 use Rattle.model.specs.declared.State.{State}
-use Rattle.model.specs.declared.Verdict.TheVariants as verdict
 use Rattle.flow.specs.Machine.{Invariant}
 use Rattle.run_laws.specs.Accepted.{Accepted}
 use Rattle.loop_laws.specs.Standings.{counting}
@@ -80,8 +81,8 @@ pub record Begun (c : Chain) (rows : List ℕ) (s : State) (r : Ready)
   pub fired_is : r.fired ≡ s.fired.0
   pub counters : take c.window.count passed ≡ (counters_of c.window.count s).passed
 
--- The verdict is the call's, whatever it is handed. After a refusal nothing is said of the tables and of the other numbers.
-pub record Readied (c : Chain) (rows : List ℕ) (s : State) (r : Ready)
+-- The verdict is the call's, whatever it is handed. After a refusal nothing is said of the tables.
+pub record Readied (c : Chain) (rows : List ℕ) (s : State) (r : Result Ready Refusal)
     (at wants caps bases tops spans strides passed store : List ℕ) : Type 0 where
-  pub verdict_is : r.verdict ≡ judge_run (trimmed c rows) s store
-  pub begun : r.verdict ≡ verdict.Accepted → Begun c rows s r at wants caps bases tops spans strides passed store
+  pub verdict_is : verdict_of r ≡ judge_run (trimmed c rows) s store
+  pub begun : (b : Ready) → r ≡ Ok b → Begun c rows s b at wants caps bases tops spans strides passed store

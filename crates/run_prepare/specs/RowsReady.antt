@@ -1,6 +1,7 @@
 -- What a run call on rows finds before its clocks: the verdict on it, and where it is not refused the tables of the call.
-use Rattle.std.specs.Prelude.{ℕ, suc, ◌+◌, ◌-◌, ◌≤◌, ◌<◌, true, List, ◌≡◌, length, get_or, take}
+use Rattle.std.specs.Prelude.{ℕ, suc, ◌+◌, ◌-◌, ◌≤◌, ◌<◌, true, List, ◌≡◌, length, get_or, take, Result, Ok}
 use Rattle.model.specs.Lists.{sum}
+use Rattle.model.specs.Answers.{verdict_of}
 use Rattle.model.specs.Grounds.{cells_above}
 use Rattle.model.specs.Windows.{centre_of}
 use Rattle.model.specs.Values.{Trimmed, rows_of, trimmed, set_grid}
@@ -9,8 +10,8 @@ use Rattle.model.specs.Judging.{most_cells}
 use Rattle.model_run.specs.Store.{first_place}
 use Rattle.model_run.specs.Running.{layout, counters_of, judge_run}
 use Rattle.model.specs.declared.Chain.{Chain}
+use Rattle.model.specs.declared.Refusal.{Refusal}
 use Rattle.model.specs.declared.State.{State}
-use Rattle.model.specs.declared.Verdict.TheVariants as verdict
 use Rattle.flow.specs.Machine.{Invariant}
 use Rattle.run_laws.specs.Accepted.{Accepted}
 use Rattle.loop_laws.specs.Standings.{counting}
@@ -40,7 +41,6 @@ pub record RowReads (t : Trimmed) (count : ℕ) (rows : List ℕ) (course : RowC
 
 -- What is found of an accepted chain on rows.
 pub record RowsFound (c : Chain) (rows : List ℕ) (s : RowSurvey) : Type 0 where
-  pub accepts : s.verdict ≡ verdict.Accepted
   pub surveyed : Surveyed c.grid.rows rows c.window c.bounds s.course
   pub iterations_are : s.iterations ≡ iterations_of (trimmed c rows)
   pub cells_are : s.cells ≡ cells_of (trimmed c rows)
@@ -72,8 +72,8 @@ pub record RowsBegun (c : Chain) (rows : List ℕ) (state : State) (s : RowSurve
   pub holds : Invariant (layout (trimmed c rows)) (counting state.fired.0 (take c.window.count passed))
   pub counters : take c.window.count passed ≡ (counters_of c.window.count state).passed
 
--- The verdict is the call's, whatever it is handed. After a refusal nothing is said of the tables and of what else was found.
-pub record RowsReadied (c : Chain) (rows : List ℕ) (state : State) (r : RowSurvey)
+-- The verdict is the call's, whatever it is handed. After a refusal nothing is said of the tables.
+pub record RowsReadied (c : Chain) (rows : List ℕ) (state : State) (r : Result RowSurvey Refusal)
     (above iterations caps bases tops passed store : List ℕ) : Type 0 where
-  pub verdict_is : r.verdict ≡ judge_run (trimmed c rows) state store
-  pub begun : r.verdict ≡ verdict.Accepted → RowsBegun c rows state r above iterations caps bases tops passed store
+  pub verdict_is : verdict_of r ≡ judge_run (trimmed c rows) state store
+  pub begun : (s : RowSurvey) → r ≡ Ok s → RowsBegun c rows state s above iterations caps bases tops passed store

@@ -5,7 +5,7 @@
 
 pub mod skewed;
 
-ghost use Rattle.std.specs.Prelude.{false, List, [], ◌≡◌, ℕ, suc, ◌+◌, ◌-◌, ◌≤◌, ◌<◌, ltb, length, take};
+ghost use Rattle.std.specs.Prelude.{false, List, [], ◌≡◌, ℕ, suc, ◌+◌, ◌-◌, ◌≤◌, ◌<◌, ltb, length, take, Ok};
 ghost use Rattle.std.proofs.Math.Seq.{slice};
 ghost use Rattle.model.specs.Lists.{product};
 ghost use Rattle.model_run.specs.Clock.{Layout};
@@ -13,7 +13,6 @@ ghost use Rattle.model_run.specs.Store.{first_place};
 ghost use Rattle.model.specs.Values.{Trimmed};
 ghost use Rattle.model.specs.Judging.{judge_chain};
 ghost use Rattle.model_run.specs.Running.{layout, bad_counter, bad_fifo, bad_state};
-ghost use Rattle.model.specs.declared.Verdict.TheVariants.{Accepted, Refused};
 ghost use Rattle.geometry.specs.Parts.{part, Small};
 ghost use Rattle.windows.specs.Windows.{centre_in};
 ghost use Rattle.shape.specs.Shapes.{chain_shape};
@@ -21,42 +20,19 @@ ghost use Rattle.run_prepare.specs.Prepared.{number_at, blank, Filled, Widened, 
 ghost use Rattle.run_prepare.specs.Prepared.{counter_at, Laid, TakenUp};
 ghost use Rattle.run_prepare.specs.Ready.{flattened, Capable, Stored, Readied};
 
-use model::{Chain, Refusal, State, Verdict};
-use numbers::wide_usize;
+use model::{Chain, Refusal, State};
 use shape::Shape;
 
-// Numbers of 32 bits as wider ones.
-fn widen4(from: &[u32; 4], to: &mut [usize; 4])
-    ensures { Widened 4 from.now 4 to.new }
+// N numbers of 32 bits as wider ones, and 0 in the rest of the M entries.
+fn widen<const N: usize, const M: usize>(from: &[u32; N]) -> [usize; M]
+    requires { N ≤ M }
+    ensures { Widened M from.now N result }
 {
-    *to = [0usize; 4];
-    let mut k: usize = 0;
-    while k < 4 {
-        to[k] = wide_usize(from[k]);
-        k += 1;
+    let mut to = [0usize; M];
+    for k in 0..N {
+        to[k] = from[k] as usize;
     }
-}
-
-fn widen31(from: &[u32; 31], to: &mut [usize; 32])
-    ensures { Widened 32 from.now 31 to.new }
-{
-    *to = [0usize; 32];
-    let mut k: usize = 0;
-    while k < 31 {
-        to[k] = wide_usize(from[k]);
-        k += 1;
-    }
-}
-
-fn widen32(from: &[u32; 32], to: &mut [usize; 32])
-    ensures { Widened 32 from.now 32 to.new }
-{
-    *to = [0usize; 32];
-    let mut k: usize = 0;
-    while k < 32 {
-        to[k] = wide_usize(from[k]);
-        k += 1;
-    }
+    to
 }
 
 // How many cells iteration j lies behind the first.
@@ -66,12 +42,10 @@ fn walk(dims: usize, extents: &[usize; 4], strides: &[usize; 4], j: usize) -> us
 {
     let mut cells: usize = 0;
     let mut rest = j;
-    let mut d = dims;
-    while 0 < d {
-        d -= 1;
+    for d in (0..dims).rev() {
         let extent = extents[d];
         cells += rest % extent * strides[d];
-        rest = rest / extent;
+        rest /= extent;
     }
     cells
 }
@@ -84,11 +58,9 @@ fn spans_of(dims: usize, extents: &[usize; 4], spans: &mut [usize; 4])
 {
     *spans = [0usize; 4];
     let mut behind: usize = 1;
-    let mut d = dims;
-    while 0 < d {
-        d -= 1;
+    for d in (0..dims).rev() {
         spans[d] = behind;
-        behind = behind * extents[d];
+        behind *= extents[d];
     }
 }
 
@@ -97,22 +69,8 @@ fn add_to_each(n: usize, from: &[usize; 32], x: usize, to: &mut [usize; 32])
     requires { (n ≤ 32) × (length to.old ≡ 32) × ((k : ℕ) → k < n → number_at from.now k + x < 18446744073709551616) }
     ensures { Filled to.old (λ k. number_at from.now k + x) n to.new }
 {
-    let mut k: usize = 0;
-    while k < n {
+    for k in 0..n {
         to[k] = from[k] + x;
-        k += 1;
-    }
-}
-
-// x in the first n places.
-fn set_each(n: usize, x: usize, to: &mut [usize; 32])
-    requires { (n ≤ 32) × (length to.old ≡ 32) }
-    ensures { Filled to.old (λ k. x) n to.new }
-{
-    let mut k: usize = 0;
-    while k < n {
-        to[k] = x;
-        k += 1;
     }
 }
 
@@ -138,7 +96,7 @@ fn wants_of(
         let way = walk(dims, extents, strides, j);
         add_to_each(n, at, way, to);
     } else {
-        set_each(n, cells, to);
+        to[..n].fill(cells);
     }
 }
 
@@ -153,12 +111,10 @@ fn bases_of(n: usize, caps: &[usize; 32], bases: &mut [usize; 32], tops: &mut [u
     *bases = [0usize; 32];
     *tops = [0usize; 32];
     let mut places: usize = 0;
-    let mut k: usize = 0;
-    while k + 1 < n {
+    for k in 0..n.saturating_sub(1) {
         bases[k] = places;
         places += caps[k];
         tops[k] = places;
-        k += 1;
     }
     places
 }
@@ -176,12 +132,8 @@ fn passed_of(state: State, n: usize, to: &mut [usize; 32])
     ensures { Filled to.old (counter_at state.passed) n to.new
         × ((k : ℕ) → k < n → number_at to.new k < 4294967296) }
 {
-    let passed = state.passed;
-    let mut k: usize = 0;
-    while k < n {
-        let p = passed[k];
-        to[k] = wide_usize(p.0);
-        k += 1;
+    for k in 0..n {
+        to[k] = state.passed[k].0 as usize;
     }
 }
 
@@ -193,10 +145,8 @@ fn bad_counter(cells: usize, fired: usize, wanted: usize, last: usize, passed: u
     if wanted < passed {
         return true;
     }
-    if 0 < fired {
-        if passed <= last {
-            return true;
-        }
+    if 0 < fired && passed <= last {
+        return true;
     }
     cells < passed
 }
@@ -213,10 +163,7 @@ fn bad_fifo(n: usize, k: usize, caps: &[usize; 32], passed: &[usize; 32]) -> boo
     }
     let here = passed[k];
     let next = passed[k + 1];
-    if here < next {
-        return true;
-    }
-    next + caps[k] < here
+    here < next || next + caps[k] < here
 }
 
 // 11, by the cells wanted next and those that were fired last.
@@ -238,27 +185,15 @@ fn bad_state(
     if iterations < fired {
         return true;
     }
-    let mut k: usize = 0;
-    while k < n {
+    for k in 0..n {
         if bad_counter(cells, fired, wants[k], last[k], passed[k]) {
             return true;
         }
         if bad_fifo(n, k, caps, passed) {
             return true;
         }
-        k += 1;
     }
     false
-}
-
-// The iteration before j, and 0 for the first.
-fn one_less(j: usize) -> usize
-    ensures { result ≡ j - 1 }
-{
-    if j == 0 {
-        return 0;
-    }
-    j - 1
 }
 
 // Takes up a state: its input counters, the cells that its filters want next, and whether 11 turns it back.
@@ -284,8 +219,7 @@ fn take_up(
 {
     *passed = [0usize; 32];
     *wants = [0usize; 32];
-    let made = state.fired;
-    let fired = wide_usize(made.0);
+    let fired = state.fired.0 as usize;
     passed_of(state, n, passed);
     wants_of(
         n, dims, cells, iterations, extents, strides, at, fired, wants,
@@ -299,7 +233,7 @@ fn take_up(
         extents,
         strides,
         at,
-        one_less(fired),
+        fired.saturating_sub(1),
         &mut last,
     );
     bad_state(n, cells, iterations, fired, caps, wants, &last, passed)
@@ -307,28 +241,14 @@ fn take_up(
 
 // ---- the whole
 
-// What is found before the clocks: the verdict on the call and, where it accepts, the numbers that the clocks go by.
+// The numbers that the clocks of a call go by.
 #[derive(Clone, Copy)]
 pub struct Ready {
-    pub verdict: Verdict,
     pub row: usize,
     pub iterations: usize,
     pub cells: usize,
     pub centre: u8,
     pub fired: usize,
-}
-
-fn refused(x: Refusal) -> Ready
-    ensures { result.verdict ≡ Refused x }
-{
-    Ready {
-        verdict: Verdict::Refused(x),
-        row: 0,
-        iterations: 0,
-        cells: 0,
-        centre: 0,
-        fired: 0,
-    }
 }
 
 // The state and the shape of an accepted chain on a rectangle whose capacities are in an array: 11, or the tables.
@@ -343,7 +263,7 @@ fn with_store(
     spans: &mut [usize; 4],
     strides: &mut [usize; 4],
     passed: &mut [usize; 32],
-) -> Ready
+) -> Result<Ready, Refusal>
     requires shape_value { (shape ≡ chain_shape (flattened chain)) × (centre ≡ centre_in chain.grid.dims chain.window) }
     requires capable { Capable (flattened chain) [] caps.now }
     ensures { (bases tops store : List ℕ) → Stored (flattened chain) [] caps.now bases tops store
@@ -352,30 +272,24 @@ fn with_store(
 {
     let n = chain.window.count as usize;
     let dims = chain.grid.dims as usize;
-    let mut extents = [0usize; 4];
-    let es = shape.extents;
-    widen4(&es, &mut extents);
-    let ss = shape.strides;
-    widen4(&ss, strides);
-    let reads = shape.at;
-    widen32(&reads, at);
+    let extents: [usize; 4] = widen(&shape.extents);
+    *strides = widen(&shape.strides);
+    *at = widen(&shape.at);
     let cells = shape.cells as usize;
     let iterations = shape.iterations as usize;
     if take_up(
         state, n, dims, cells, iterations, &extents, strides, at, caps, passed, wants,
     ) {
-        return refused(Refusal::BadState);
+        return Err(Refusal::BadState);
     }
     spans_of(dims, &extents, spans);
-    let made = state.fired;
-    Ready {
-        verdict: Verdict::Accepted,
+    Ok(Ready {
         row: extents[dims - 1],
         iterations,
         cells,
         centre,
-        fired: made.0 as usize,
-    }
+        fired: state.fired.0 as usize,
+    })
 }
 
 // A chain on a rectangle that no number from 3 to 9, 14 and 15 turns back: 10, 11, or the tables.
@@ -393,19 +307,18 @@ fn with_chain(
     spans: &mut [usize; 4],
     strides: &mut [usize; 4],
     passed: &mut [usize; 32],
-) -> Ready
-    requires chain_value { judge_chain (flattened chain) [] ≡ Accepted }
+) -> Result<Ready, Refusal>
+    requires chain_value { judge_chain (flattened chain) [] ≡ Ok tt }
     requires shape_value { (shape ≡ chain_shape (flattened chain)) × (centre ≡ centre_in chain.grid.dims chain.window) }
     ensures { Readied (flattened chain) [] state result at.new wants.new caps.new
         bases.new tops.new spans.new strides.new passed.new
         store.now }
 {
     let n = chain.window.count as usize;
-    let capacities = chain.capacities;
-    widen31(&capacities, caps);
+    *caps = widen(&chain.capacities);
     let places = bases_of(n, caps, bases, tops);
     if short(places, store) {
-        return refused(Refusal::ShortStore);
+        return Err(Refusal::ShortStore);
     }
     with_store(
         chain, shape, centre, state, caps, at, wants, spans, strides, passed,
@@ -413,7 +326,7 @@ fn with_chain(
 }
 
 // What a run call finds before its clocks, the chain's grid taken for a rectangle: the chain is looked at first, then 10,
-// then 11; then the tables are those of the call. After a refusal the tables hold anything, and so do the answer's numbers.
+// then 11; then the tables are those of the call. After a refusal the tables hold anything.
 pub fn prepare(
     chain: Chain,
     state: State,
@@ -426,32 +339,25 @@ pub fn prepare(
     spans: &mut [usize; 4],
     strides: &mut [usize; 4],
     passed: &mut [usize; 32],
-) -> Ready
+) -> Result<Ready, Refusal>
     ensures { Readied (flattened chain) [] state result at.new wants.new caps.new
         bases.new tops.new spans.new strides.new passed.new
         store.now }
 {
-    let found = judging::examine(chain);
-    let verdict = found.verdict;
-    match verdict {
-        Verdict::Refused(x) => refused(x),
-        Verdict::Accepted => {
-            let shape = found.shape;
-            with_chain(
-                chain,
-                shape,
-                found.centre,
-                state,
-                store,
-                at,
-                wants,
-                caps,
-                bases,
-                tops,
-                spans,
-                strides,
-                passed,
-            )
-        }
-    }
+    let found = judging::examine(chain)?;
+    with_chain(
+        chain,
+        found.shape,
+        found.centre,
+        state,
+        store,
+        at,
+        wants,
+        caps,
+        bases,
+        tops,
+        spans,
+        strides,
+        passed,
+    )
 }

@@ -1,18 +1,16 @@
 // What a run call on rows prepares before its clocks (document 02, request 5): the chain's numbers in arrays, and numbers 10
 // and 11.
-ghost use Rattle.std.specs.Prelude.{List, ◌≡◌, ℕ, ◌<◌, length};
+ghost use Rattle.std.specs.Prelude.{List, ◌≡◌, ℕ, ◌<◌, length, Ok};
 ghost use Rattle.model.specs.Values.{Trimmed};
 ghost use Rattle.model.specs.Iterations.{iterations_of, reads_of};
 ghost use Rattle.model.specs.Judging.{judge_chain};
 ghost use Rattle.model_run.specs.Running.{layout};
-ghost use Rattle.model.specs.declared.Verdict.TheVariants.{Accepted, Refused};
 ghost use Rattle.run_prepare.specs.Prepared.{number_at, Filled, Counted, Capped, TakenUp};
 ghost use Rattle.run_prepare.specs.Ready.{Capable, Stored};
 ghost use Rattle.run_prepare.specs.RowsReady.{in_rows, RowReads, RowsFound, RowsReadied};
 
-use super::{add_to_each, bad_state, bases_of, one_less, passed_of, set_each, short, widen31};
-use model::{Chain, Refusal, State, Verdict};
-use numbers::wide_usize;
+use super::{add_to_each, bad_state, bases_of, passed_of, short, widen};
+use model::{Chain, Refusal, State};
 use rows::{RowCourse, RowSurvey};
 
 // The cells that n references read in iteration j.
@@ -35,9 +33,8 @@ fn reads_at(
     let v = row_courses::row_of(iterations, course.height, j);
     let mut at = [0usize; 32];
     row_courses::reads(count, rows, above, course, v, &mut at);
-    let before = wide_usize(iterations[wide_usize(v)]);
-    let from = wide_usize(j);
-    add_to_each(n, &at, from - before, to);
+    let before = iterations[v as usize];
+    add_to_each(n, &at, (j - before) as usize, to);
 }
 
 // The cells that the filters want in iteration j; past the last of all that are covered, the cell count.
@@ -62,7 +59,7 @@ fn wants_in(
     if j < covered {
         reads_at(n, count, rows, course, above, iterations, j as u32, to);
     } else {
-        set_each(n, cells, to);
+        to[..n].fill(cells);
     }
 }
 
@@ -90,8 +87,7 @@ fn take_up_rows(
     *passed = [0usize; 32];
     let mut wants = [0usize; 32];
     let mut last = [0usize; 32];
-    let made = state.fired;
-    let fired = wide_usize(made.0);
+    let fired = state.fired.0 as usize;
     passed_of(state, n, passed);
     wants_in(
         n, cells, covered, count, rows, course, above, iterations, fired, &mut wants,
@@ -105,24 +101,10 @@ fn take_up_rows(
         course,
         above,
         iterations,
-        one_less(fired),
+        fired.saturating_sub(1),
         &mut last,
     );
     bad_state(n, cells, covered, fired, caps, &wants, &last, passed)
-}
-
-// What was found, with a refusal.
-fn refused(x: Refusal, found: RowSurvey) -> RowSurvey
-    ensures { result.verdict ≡ Refused x }
-{
-    let course = found.course;
-    RowSurvey {
-        verdict: Verdict::Refused(x),
-        centre: found.centre,
-        cells: found.cells,
-        iterations: found.iterations,
-        course,
-    }
 }
 
 // An accepted chain whose capacities are in an array, and what was found of it: 11, or the tables.
@@ -135,7 +117,7 @@ fn with_store(
     above: &mut [u32; 513],
     iterations: &mut [u32; 513],
     passed: &mut [usize; 32],
-) -> RowSurvey
+) -> Result<RowSurvey, Refusal>
     requires { RowsFound (in_rows chain) rows.now found × Capable (in_rows chain) rows.now caps.now }
     ensures { (bases tops store : List ℕ) → Stored (in_rows chain) rows.now caps.now bases tops store
         → RowsReadied (in_rows chain) rows.now state result above.new iterations.new
@@ -151,9 +133,9 @@ fn with_store(
     if take_up_rows(
         state, n, cells, covered, count, rows, course, above, iterations, caps, passed,
     ) {
-        return refused(Refusal::BadState, found);
+        return Err(Refusal::BadState);
     }
-    found
+    Ok(found)
 }
 
 // An accepted chain, and what was found of it: 10, 11, or the tables.
@@ -169,23 +151,22 @@ fn with_chain(
     bases: &mut [usize; 32],
     tops: &mut [usize; 32],
     passed: &mut [usize; 32],
-) -> RowSurvey
-    requires { (judge_chain (in_rows chain) rows.now ≡ Accepted) × RowsFound (in_rows chain) rows.now found }
+) -> Result<RowSurvey, Refusal>
+    requires { (judge_chain (in_rows chain) rows.now ≡ Ok tt) × RowsFound (in_rows chain) rows.now found }
     ensures { RowsReadied (in_rows chain) rows.now state result above.new iterations.new
         caps.new bases.new tops.new passed.new store.now }
 {
     let n = chain.window.count as usize;
-    let capacities = chain.capacities;
-    widen31(&capacities, caps);
+    *caps = widen(&chain.capacities);
     let places = bases_of(n, caps, bases, tops);
     if short(places, store) {
-        return refused(Refusal::ShortStore, found);
+        return Err(Refusal::ShortStore);
     }
     with_store(chain, rows, found, state, caps, above, iterations, passed)
 }
 
 // What a run call finds before its clocks, the chain's grid taken for rows: the chain is looked at first, then 10, then 11;
-// then the tables are those of the call. After a refusal the tables hold anything, and so do the answer's numbers.
+// then the tables are those of the call. After a refusal the tables hold anything.
 pub fn prepare_rows(
     chain: Chain,
     rows: &[u32],
@@ -197,16 +178,12 @@ pub fn prepare_rows(
     bases: &mut [usize; 32],
     tops: &mut [usize; 32],
     passed: &mut [usize; 32],
-) -> RowSurvey
+) -> Result<RowSurvey, Refusal>
     ensures { RowsReadied (in_rows chain) rows.now state result above.new iterations.new
         caps.new bases.new tops.new passed.new store.now }
 {
-    let found = judging::examine_rows(chain, rows);
-    let verdict = found.verdict;
-    match verdict {
-        Verdict::Refused(_) => found,
-        Verdict::Accepted => with_chain(
-            chain, rows, found, state, store, above, iterations, caps, bases, tops, passed,
-        ),
-    }
+    let found = judging::examine_rows(chain, rows)?;
+    with_chain(
+        chain, rows, found, state, store, above, iterations, caps, bases, tops, passed,
+    )
 }

@@ -3,12 +3,10 @@ use Prim.Native.Nat.{ℕ, ◌+◌, ◌≤◌, ◌<◌, ◌^◌}
 use mathlib.Core.Bool.{false}
 use mathlib.Core.List.{List, []}
 use mathlib.Core.Path.{◌≡◌, refl, sym, ◌∙◌, ap, subst}
-use native.Mathlib.Nat.{zero-add, sub-zero, zero-mul}
+use native.Mathlib.Nat.{zero-add, add-zero, sub-zero, zero-mul}
 use native.Mathlib.Omega.{arith}
 use lib.ListN.{length, get_or, take, drop}
 use lib.Seq.{get_or-take}
-use mir.Syntax.{w32, w64}
-use mir.Val.{Fits}
 use Rattle.model.specs.Lists.{up_to}
 use Rattle.model_run.specs.Kernels.{terms, written, width}
 use Rattle.model.specs.Values.{Trimmed, trimmed}
@@ -17,7 +15,6 @@ use Rattle.model_run.specs.Clock.{Layout}
 use Rattle.model_run.specs.Running.{Ending, Done, Spent, Ended, outcome_of, layout, filters_of, written_by, width_of}
 use Rattle.model.specs.declared.Order.{Order}
 use Rattle.model.specs.declared.Chain.{Chain}
-use Rattle.model.specs.declared.Counts.{Counts}
 use Rattle.model.specs.declared.Outcome.{Outcome}
 use Rattle.grid_laws.proofs.Iterations.{at_most_cells}
 use Rattle.kernel_terms.specs.FilterTables.{filters_for}
@@ -36,8 +33,19 @@ use Rattle.run_prepare.specs.Ready.{Prepared, Begins}
 use Rattle.runner.specs.Stretching.{Stretching, ending_of, StretchedTo}
 use Rattle.runner.specs.Clocks.{call_of, Ends}
 use Rattle.runner.specs.declared.Stretched.{Stretched}
-use Rattle.runner.proofs.FitLaws.{small_fits, small_fits_32}
+use Rattle.runner.specs.declared.Stopped.{Stopped}
+use Rattle.runner.specs.declared.End.{End}
+use Rattle.runner.specs.declared.End.TheVariants as end
 use Rattle.runner.proofs.PreparedLaws.{walks, rows, tables, stands, writes_are}
+
+abbrev pub no_clocks : End → Stretched
+no_clocks x = record { end = x; taken = 0; clocks = 0; firings = 0 }
+
+abbrev pub stopped_of : (fired : ℕ) → Stretched → Stopped
+stopped_of fired r = record {
+  outcome = outcome_of (ending_of r.end) (record { cells = r.taken; firings = r.firings; clocks = r.clocks });
+  fired = record { 0 = fired + r.firings };
+}
 
 -- A call that ended there.
 ends_there : (o : Outcome) (f : ℕ) (e : Ended) (x : Ending) (n taken made firings : ℕ) (passed passed' store out : List ℕ)
@@ -59,19 +67,13 @@ ends_there o f e x n taken made firings passed passed' store out h eo er et es =
 module _ (t : Trimmed) {n fired : ℕ} {passed passed' store store' lent out out' : List ℕ} {allowance : ℕ} {r : Stretched} (few : iterations_of t ≤ 1048576)
     (E : StretchedTo r (layout t) (written_by t) (width_of t) n (iterations_of t) fired passed passed' store store' out out' lent allowance) where
   -- The counts are at most the allowance, a 32-bit number.
-  pub counts_small : allowance < 2 ^ 32 → (r.taken < 4294967296) × (r.firings < 4294967296) × (r.clocks < 4294967296)
-  counts_small l = (omega (arith, E.taken_fewer, E.allowed), omega (arith, E.firings_fewer, E.allowed), omega (arith, E.allowed))
+  pub counts_small : allowance < 2 ^ 32 → (r.taken < 4294967296) × (r.clocks < 4294967296) × (fired + r.firings < 4294967296)
+  counts_small l = (omega (arith, E.taken_fewer, E.allowed), omega (arith, E.allowed), omega (arith, E.most))
 
-  pub all_fits : Fits w64 (fired + r.firings)
-  all_fits = small_fits (fired + r.firings) (omega (arith, E.most))
-
-  pub all_fits_32 : Fits w32 (fired + r.firings)
-  all_fits_32 = small_fits_32 (fired + r.firings) (omega (arith, E.most))
-
-  pub ends_stretched : {o : Outcome} {d : Counts} → d ≡ record { cells = r.taken; firings = r.firings; clocks = r.clocks } → o ≡ outcome_of (ending_of r.end) d
-      → Ends (record { outcome = o; fired = record { 0 = fired + r.firings } }) (call_of t n fired passed store lent out allowance) n passed passed' store' out'
-  ends_stretched {o} ed eo =
-      ends_there o (fired + r.firings) _ (ending_of r.end) n r.taken r.clocks r.firings passed passed' store' out' E.ends (rw ed at eo) E.rest E.there E.small
+  pub ends_stretched : {s : Stopped} → s ≡ stopped_of fired r → Ends s (call_of t n fired passed store lent out allowance) n passed passed' store' out'
+  ends_stretched e =
+      rw e
+      (ends_there _ (fired + r.firings) _ (ending_of r.end) n r.taken r.clocks r.firings passed passed' store' out' E.ends refl E.rest E.there E.small)
 
 module _ (c : Chain) (flat : c.grid.skewed ≡ false) (row iterations cells centre : ℕ) (at caps bases tops spans strides : List ℕ)
     (P : Prepared (trimmed c []) row iterations cells centre at caps bases tops spans strides) (fired : ℕ) (wants passed store : List ℕ) (B : Begins (trimmed c []) fired wants passed store) where
@@ -91,30 +93,32 @@ module _ (c : Chain) (flat : c.grid.skewed ≡ false) (row iterations cells cent
   pub iterations_small : iterations_of (trimmed c []) ≤ 1048576
   iterations_small = omega (arith, at_most_cells (trimmed c []) (fitting_of (trimmed c []) (trimmed_proper c []) P.accepted), P.accepted.cells)
 
-  pub fired_fits : Fits w32 fired
+  pub none_small : {x : End} {r : Stretched} → r ≡ no_clocks x → (r.taken < 4294967296) × (r.clocks < 4294967296) × (fired + r.firings < 4294967296)
   unfolding layout
-  fired_fits = small_fits_32 fired (omega (arith, B.holds.most, iterations_small))
+  none_small e = rw e (omega arith, omega arith, omega (arith, B.holds.most, iterations_small))
 
   counters_small : (f : ℕ) (ps : List ℕ) → Invariant (layout (trimmed c [])) (counting f (take n ps)) → (k : ℕ) → k < n → get_or ps k 0 ≤ cells
   counters_small f ps i k h = omega (arith, get_or-take n ps k 0 h, holds_below (layout (trimmed c [])) f 0 (layout (trimmed c [])).cells k (take n ps) i.all, T.cells_are)
 
   -- Every firing is made already.
-  pub ends_done : (lent out : List ℕ) (allowance : ℕ) (o : Outcome) (d : Counts) → iterations ≤ fired → d ≡ record { cells = 0; firings = 0; clocks = 0 } → o ≡ outcome_of Done d
-      → Ends (record { outcome = o; fired = record { 0 = fired } }) (call_of (trimmed c []) n fired passed store lent out allowance) n passed passed store out
+  pub ends_done : (lent out : List ℕ) (allowance : ℕ) (s : Stopped) → iterations ≤ fired → s ≡ stopped_of fired (no_clocks end.Done)
+      → Ends s (call_of (trimmed c []) n fired passed store lent out allowance) n passed passed store out
   unfolding trimmed
-  ends_done lent out allowance o d h ed eo =
-      ends_there o fired _ Done n 0 0 0 passed passed store out
+  ends_done lent out allowance s h e =
+      rw (e, add-zero)
+      (ends_there _ fired _ Done n 0 0 0 passed passed store out
       (sym (call_done (layout (trimmed c [])) (written_by (trimmed c [])) (width_of (trimmed c [])) lent allowance (stand fired (take n passed) store out 0 0 0) (omega (arith, T.iterations_are))))
-      (rw ed at eo) refl B.there (λ k g. omega (arith, counters_small fired passed B.holds k g, T.most))
+      refl refl B.there (λ k g. omega (arith, counters_small fired passed B.holds k g, T.most)))
 
   -- No clock is allowed.
-  pub ends_none : (lent out : List ℕ) (allowance : ℕ) (o : Outcome) (d : Counts) → fired < iterations → allowance ≡ 0 → d ≡ record { cells = 0; firings = 0; clocks = 0 }
-      → o ≡ outcome_of Spent d → Ends (record { outcome = o; fired = record { 0 = fired } }) (call_of (trimmed c []) n fired passed store lent out allowance) n passed passed store out
+  pub ends_none : (lent out : List ℕ) (allowance : ℕ) (s : Stopped) → fired < iterations → allowance ≡ 0 → s ≡ stopped_of fired (no_clocks end.Spent)
+      → Ends s (call_of (trimmed c []) n fired passed store lent out allowance) n passed passed store out
   unfolding trimmed
-  ends_none lent out allowance o d h e ed eo =
-      ends_there o fired _ Spent n 0 0 0 passed passed store out
+  ends_none lent out allowance s h e es =
+      rw (es, add-zero)
+      (ends_there _ fired _ Spent n 0 0 0 passed passed store out
       (sym (call_spent (layout (trimmed c [])) (written_by (trimmed c [])) (width_of (trimmed c [])) lent allowance (stand fired (take n passed) store out 0 0 0) e (omega (arith, T.iterations_are))))
-      (rw ed at eo) refl B.there (λ k g. omega (arith, counters_small fired passed B.holds k g, T.most))
+      refl refl B.there (λ k g. omega (arith, counters_small fired passed B.holds k g, T.most)))
 
   -- All iterations.
   abbrev all : Layout

@@ -18,9 +18,6 @@ counter p = record { 0 = p }
 abbrev pub put_back : (k : ℕ) → List ℕ → List CellsPassed → List CellsPassed
 put_back k ps qs = map counter (take k ps) ++ drop k qs
 
-pub put_none : (ps : List ℕ) (qs : List CellsPassed) → qs ≡ put_back 0 ps qs
-put_none ps qs = refl
-
 put_suc : (k : ℕ) (ps : List ℕ) (qs : List CellsPassed) → k < length ps → k < length qs → set (put_back k ps qs) k (counter (number_at ps k)) ≡ put_back (suc k) ps qs
 put_suc zero [] qs h g = absurd (omega arith)
 put_suc zero (p ∷ ps) [] h g = absurd (omega arith)

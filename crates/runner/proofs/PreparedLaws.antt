@@ -111,10 +111,6 @@ module _ (t : Trimmed) (proper : Proper t) (row iterations cells centre : ℕ) (
       last_some [] h p = absurd (omega arith)
       last_some (x ∷ xs) h p = pos_of_dvd_of_pos (divides x xs) p
 
-  pub tops_low : (k : ℕ) → suc k < t.count → get_or tops k 0 ≤ 16384
-  unfolding layout
-  tops_low k h = omega (arith, P.tops_are k h, P.bases_are k h, P.caps_are k h, top t proper P.accepted k h, P.accepted.places)
-
   pub tables : Tables (layout t) (walked spans strides t.dims 0) t.count cells iterations at caps bases
   unfolding layout
   tables = record {

@@ -2,7 +2,7 @@
 use Prim.Native.Nat.{ℕ, ◌+◌, ◌-◌, ◌*◌, ◌≤◌, ◌<◌}
 use mathlib.Core.List.{List, ◌++◌, append-nil}
 use mathlib.Core.Path.{◌≡◌, refl, sym, ◌∙◌, ap}
-use native.Mathlib.Nat.{add-zero, sub-zero, zero-mul, add-mul}
+use native.Mathlib.Nat.{add-zero, zero-mul, add-mul}
 use native.Mathlib.Omega.{arith}
 use lib.ListN.{length, get_or, take, drop, length-drop, length-append}
 use lib.Seq.{drop-length, length-take-le}
@@ -10,11 +10,9 @@ use Rattle.model_run.specs.Kernels.{width}
 use Rattle.model.specs.Values.{Trimmed}
 use Rattle.model.specs.Iterations.{iterations_of}
 use Rattle.model_run.specs.Clock.{Layout}
-use Rattle.model_run.specs.Running.{Standing, Ending, Done, Spent, Starved, Stalled, Full, Ended, outcome_of, layout, written_by, width_of, call}
-use Rattle.model.specs.declared.Counts.{Counts}
+use Rattle.model_run.specs.Running.{Standing, Ending, Done, Spent, Starved, Stalled, Full, Ended, layout, written_by, width_of, call}
 use Rattle.model.specs.declared.Kernel.{Kernel}
 use Rattle.model.specs.declared.Order.{Order}
-use Rattle.model.specs.declared.Outcome.{Outcome}
 use Rattle.flow.specs.Machine.{Invariant}
 use Rattle.run_laws.proofs.Layouts.{lawful}
 use Rattle.rows.specs.declared.RowCourse.{RowCourse}
@@ -27,11 +25,9 @@ use Rattle.loop_laws.proofs.StretchLaws.{all_fired, done_so, goes_on_lem, keeps_
 use Rattle.run_glide.specs.Glides.{calls}
 use Rattle.run_glide.proofs.FireLaws.{part_all}
 use Rattle.runner.specs.Stretching.{ending_of, StretchedTo}
-use Rattle.runner.specs.Clocks.{call_of, Ends}
 use Rattle.runner.specs.ByRows.{RowTables, iterations_above, row_of, AtRow, RowCall, RowsGone}
 use Rattle.runner.specs.declared.End.TheVariants as end
 use Rattle.runner.specs.declared.Stretched.{Stretched}
-use Rattle.runner.proofs.ClocksLaws.{ends_stretched}
 use Rattle.runner.proofs.RowTableLaws.{all_rows, few_rows, iterations_few, width_is, counters_small, row_ends, row_inside}
 
 -- What is lent of a list from place o on, and the list where that part comes back.
@@ -73,10 +69,6 @@ module _ {t : Trimmed} {kernel : Kernel} {order : Order} {n count cells centre :
   entry_is : (v : ℕ) → v ≤ c.height → get_or iterations v 0 ≡ ahead v
   entry_is v h = R.iterations_are.done v (omega arith)
 
-  pub fired_few : fired ≤ 1048576
-  unfolding layout
-  fired_few = omega (arith, R.counted.holds.most, iterations_few T)
-
   -- Every firing is made already.
   pub rows_none : (lent out : List ℕ) (allowance : ℕ) → get_or iterations c.height 0 ≤ fired
       → StretchedTo (record { end = end.Done; taken = 0; clocks = 0; firings = 0 }) L (written_by t) (width_of t) n (iterations_of t) fired passed₀ passed₀ store₀ store₀ out out lent allowance
@@ -95,13 +87,6 @@ module _ {t : Trimmed} {kernel : Kernel} {order : Order} {n count cells centre :
     room = omega (arith, zero-mul (width_of t));
   }
 
-  -- What the call's clocks leave is what the call leaves.
-  pub rows_end : {r : Stretched} {passed store lent out₀ out : List ℕ} {allowance : ℕ} {o : Outcome} {d : Counts}
-      → StretchedTo r L (written_by t) (width_of t) n (iterations_of t) fired passed₀ passed store₀ store out₀ out lent allowance
-      → d ≡ record { cells = r.taken; firings = r.firings; clocks = r.clocks } → o ≡ outcome_of (ending_of r.end) d
-      → Ends (record { outcome = o; fired = record { 0 = fired + r.firings } }) (call_of t n fired passed₀ store₀ lent out₀ allowance) n passed₀ passed store out
-  rows_end E = ends_stretched t (iterations_few T) E
-
   -- Some are left: the row of the next.
   pub row_found : {v : ℕ} → fired < get_or iterations c.height 0 → RowOf iterations c.height fired v → LiesIn iterations c.height fired v
   unfolding lengths_above
@@ -112,29 +97,8 @@ module _ {t : Trimmed} {kernel : Kernel} {order : Order} {n count cells centre :
     size_is : size ≡ width_of t
     size_is = E ∙ sym (width_is T)
 
-    pub rows_start : {lent out₀ : List ℕ} {allowance v : ℕ} → LiesIn iterations c.height fired v → RowsGone t n count rows c size fired passed₀ store₀ lent out₀ allowance v 0 0 0 passed₀ store₀ out₀
-    rows_start {allowance = allowance} {v} l = record {
-      goes = rw (add-zero fired, sub-zero allowance) refl;
-      most = omega (arith, l.below);
-      from = omega (arith, l.from, entry_is v (omega (arith, l.below)));
-      upto = λ h. omega (arith, l.to, entry_is (v + 1) (omega (arith, l.below)));
-      counted = rw (add-zero fired) R.counted;
-      rest = refl;
-      had = omega arith;
-      allowed = omega arith;
-      taken_fewer = omega arith;
-      firings_fewer = omega arith;
-      room = omega (arith, zero-mul size);
-      same_store = refl;
-      same_out = refl;
-    }
-
     module _ {lent out₀ : List ℕ} {allowance v taken made firings : ℕ} {passed store out : List ℕ}
         (G : RowsGone t n count rows c size fired passed₀ store₀ lent out₀ allowance v taken made firings passed store out) where
-      pub so_far : fired + firings ≤ 1048576
-      unfolding layout
-      so_far = omega (arith, G.counted.holds.most, iterations_few T)
-
       -- Behind the last row.
       pub rows_done : c.height ≤ v → StretchedTo (record { end = end.Done; taken = taken; clocks = made; firings = firings }) L (written_by t) (width_of t) n (iterations_of t) fired passed₀ passed store₀ store out₀ out lent allowance
       unfolding layout
@@ -154,7 +118,7 @@ module _ {t : Trimmed} {kernel : Kernel} {order : Order} {n count cells centre :
           all : iterations_of t ≤ fired + firings
           all = let e : v ≡ c.height = omega (arith, G.most) in omega (arith, all_rows T, rw e at G.from)
 
-      pub out_so : (out' : List ℕ) → length out' ≡ length (behind (firings * size) out) → length (back (firings * size) out out') ≡ length out₀
+      out_so : (out' : List ℕ) → length out' ≡ length (behind (firings * size) out) → length (back (firings * size) out out') ≡ length out₀
       out_so out' lo = back_length (firings * size) out out' G.room lo ∙ G.same_out
 
       -- In row v.
@@ -165,10 +129,10 @@ module _ {t : Trimmed} {kernel : Kernel} {order : Order} {n count cells centre :
         upto_is : upto ≡ ahead (v + 1)
         upto_is = eu ∙ entry_is (v + 1) (omega arith)
 
-        pub row_order : from ≤ upto
+        row_order : from ≤ upto
         row_order = omega (arith, from_is, upto_is, row_ends T below)
 
-        pub row_begun : from ≤ fired + firings
+        row_begun : from ≤ fired + firings
         row_begun = omega (arith, from_is, G.from)
 
         abbrev j : ℕ

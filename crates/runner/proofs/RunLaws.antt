@@ -12,8 +12,7 @@ use Rattle.model.specs.declared.Chain.{Chain}
 use Rattle.model.specs.declared.State.{State}
 use Rattle.model.specs.declared.Refusal.{Refusal}
 use Rattle.model.specs.declared.Refusal.TheVariants as refusal
-use Rattle.model.specs.declared.Verdict.TheVariants as verdict
-use Rattle.model.specs.declared.Answer.TheVariants as answer
+use Rattle.std.specs.Prelude.{Ok, Err}
 use Rattle.run_laws.specs.Accepted.{Accepted}
 use Rattle.loop_laws.specs.Standings.{counting}
 use Rattle.model.specs.Grounds.{Ground}
@@ -42,27 +41,27 @@ run_none_lent c flat rows s store lent output allowance = ap (λ (g : Ground). r
 module _ (c : Chain) (rows : List ℕ) (s : State) (store lent output : List ℕ) (allowance : ℕ) where
   -- What a refusal leaves.
   abbrev refused_run : Refusal → Run
-  refused_run x = record { answer = answer.Refused x; state = s; store = store; output = output }
+  refused_run x = record { answer = Err x; state = s; store = store; output = output }
 
   -- What a call that ends leaves.
   abbrev ended_run : Ended → Run
   ended_run e = record {
-    answer = answer.Ended (outcome_of e.ending e.standing.done);
+    answer = Ok (outcome_of e.ending e.standing.done);
     state = with_counters s e.standing.counters;
     store = e.standing.store;
     output = e.standing.output;
   }
 
-  pub by_refusal : (x : Refusal) → judge_run (trimmed c rows) s store ≡ verdict.Refused x → refused_run x ≡ run_of c rows s store lent output allowance
+  pub by_refusal : (x : Refusal) → judge_run (trimmed c rows) s store ≡ Err x → refused_run x ≡ run_of c rows s store lent output allowance
   unfolding run_of run_trimmed
   by_refusal x e = rw e
 
-  by_end : judge_run (trimmed c rows) s store ≡ verdict.Accepted → ended_run (ended (trimmed c rows) s store lent output allowance) ≡ run_of c rows s store lent output allowance
+  by_end : judge_run (trimmed c rows) s store ≡ Ok tt → ended_run (ended (trimmed c rows) s store lent output allowance) ≡ run_of c rows s store lent output allowance
   unfolding run_of run_trimmed
   by_end e = rw e
 
   -- 3 to 9 and 14 to 16.
-  pub run_refused : (x : Refusal) → judge_chain c rows ≡ verdict.Refused x → refused_run x ≡ run_of c rows s store lent output allowance
+  pub run_refused : (x : Refusal) → judge_chain c rows ≡ Err x → refused_run x ≡ run_of c rows s store lent output allowance
   run_refused x e = by_refusal x (judged_refused c rows s store x e)
 
   module _ (ok : Accepted (trimmed c rows)) where
@@ -94,10 +93,10 @@ module _ (c : Chain) (rows : List ℕ) (s : State) (store lent output : List ℕ
         (record { counters = k; store = store; output = output; done = record { cells = 0; firings = 0; clocks = 0 } })) counters_there
 
     -- What the clocks leave is what the call leaves.
-    pub run_ended : judge_run (trimmed c rows) s store ≡ verdict.Accepted → (r : Stopped) (passed' store' output' : List ℕ) (after : State)
+    pub run_ended : judge_run (trimmed c rows) s store ≡ Ok tt → (r : Stopped) (passed' store' output' : List ℕ) (after : State)
         → Ends r (call_of (trimmed c rows) c.window.count fired passed store lent output allowance) c.window.count passed passed' store' output'
         → after ≡ with_counters s (record { fired = r.fired.0; passed = take c.window.count passed' })
-        → ran_of (record { answer = answer.Ended r.outcome; state = after }) store' output' ≡ run_of c rows s store lent output allowance
+        → ran_of (record { answer = Ok r.outcome; state = after }) store' output' ≡ run_of c rows s store lent output allowance
     run_ended j r passed' store' output' after E a = left ∙ ap ended_run same_call ∙ by_end j
       where
         made : Ended
@@ -106,5 +105,5 @@ module _ (c : Chain) (rows : List ℕ) (s : State) (store lent output : List ℕ
         counted : ◌≡◌ {A = Counters} (record { fired = r.fired.0; passed = take c.window.count passed' }) made.standing.counters
         counted = λ i. record { fired = E.fired i; passed = E.counters i }
 
-        left : ran_of (record { answer = answer.Ended r.outcome; state = after }) store' output' ≡ ended_run made
-        left = λ i. record { answer = answer.Ended (E.outcome i); state = (a ∙ ap (with_counters s) counted) i; store = E.store i; output = E.output i }
+        left : ran_of (record { answer = Ok r.outcome; state = after }) store' output' ≡ ended_run made
+        left = λ i. record { answer = Ok (E.outcome i); state = (a ∙ ap (with_counters s) counted) i; store = E.store i; output = E.output i }

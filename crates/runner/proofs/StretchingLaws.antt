@@ -1,5 +1,5 @@
 -- The clocks of a stretch: what their parts are handed, and what their two ways out leave.
-use Prim.Native.Nat.{ℕ, zero, suc, ◌+◌, ◌-◌, ◌*◌, ◌≤◌, ◌<◌, ◌^◌}
+use Prim.Native.Nat.{ℕ, zero, suc, ◌+◌, ◌-◌, ◌*◌, ◌≤◌, ◌<◌}
 use mathlib.Core.List.{List, [], ◌∷◌}
 use mathlib.Core.Path.{◌≡◌, refl, sym, ◌∙◌, ap, subst}
 use native.Mathlib.Nat.{zero-add, add-zero, zero-mul}
@@ -7,8 +7,6 @@ use native.Mathlib.Numerals.{add-one}
 use native.Mathlib.Omega.{arith}
 use lib.ListN.{length, get_or, take, drop, length-drop}
 use lib.Seq.{get_or-take, length-take-le}
-use mir.Syntax.{w64}
-use mir.Val.{Fits}
 use types.Run.{OneOf}
 use denote.Enum.Declared.{tag_of}
 use Rattle.model_run.specs.Kernels.{width}
@@ -158,12 +156,6 @@ module _ (L : Layout) (write : List ℕ → List ℕ) (kernel : Kernel) (ts : Li
 
         pub slid_fits : (k : ℕ) → k < n → get_or passed' k 0 + s.clocks < 18446744073709551616
         slid_fits k h = omega (arith, slid_small k h)
-
-        pub taken_fits : allowance < 2 ^ 64 → Fits w64 (r.taken + s.clocks)
-        taken_fits l = record { fits = omega (arith, F.fewer, G.allowed, F.allowed) }
-
-        pub clocks_fit : allowance < 2 ^ 64 → Fits w64 (r.clocks + s.clocks)
-        clocks_fit l = record { fits = omega (arith, G.allowed, F.allowed) }
 
         pub stretched_slid : (passed'' : List ℕ) (x : End) → x ≡ way_end s.how → Advanced n s.clocks passed' passed''
             → StretchedTo (record { end = x; taken = r.taken + s.clocks; clocks = r.clocks + s.clocks; firings = s.firings }) L write size n iterations fired passed passed'' store store'' out out'' lent allowance

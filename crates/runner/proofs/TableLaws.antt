@@ -1,28 +1,13 @@
 -- Counters by the index.
 use Prim.Native.Nat.{ℕ, zero, suc, ◌+◌, ◌≤◌, ◌<◌}
 use mathlib.Core.List.{List, [], ◌∷◌, map}
-use mathlib.Core.Path.{◌≡◌, refl, sym, ◌∙◌, ap}
+use mathlib.Core.Path.{◌≡◌, refl, sym, ◌∙◌}
 use native.Mathlib.Omega.{arith}
-use native.Mathlib.Decide.{ℕ_discrete}
-use lib.ListN.{length, get_or, take, drop, set, length-set, length-drop}
-use lib.Seq.{get_or-set_same, get_or-set_other, ext_get_or, get_or-take, get_or-drop, length-take-le}
+use lib.ListN.{length, get_or, take, drop, length-drop}
+use lib.Seq.{ext_get_or, get_or-take, get_or-drop, length-take-le}
 use Rattle.loop_laws.specs.Passes.{ahead}
 use Rattle.loop_laws.proofs.GlideLaws.{length_ahead}
 use Rattle.runner.specs.Loops.{Advanced}
-
-pub advancing_start : (m : ℕ) (ps : List ℕ) → length ps ≡ 32 → Advanced 0 m ps ps
-advancing_start m ps l = record { there = l; on = λ k h. absurd (omega arith); rest = λ k h. refl }
-
-pub advancing_again : (m k : ℕ) (ps₀ ps : List ℕ) → k < 32 → Advanced k m ps₀ ps → Advanced (k + 1) m ps₀ (set ps k (get_or ps k 0 + m))
-advancing_again m k ps₀ ps h a = record {
-  there = length-set ps k (get_or ps k 0 + m) ∙ a.there;
-  on = λ j g. go j g (ℕ_discrete j k);
-  rest = λ j g. get_or-set_other ps k j (get_or ps k 0 + m) 0 (omega arith) ∙ a.rest j (omega arith);
-}
-  where
-    go : (j : ℕ) → j < k + 1 → Dec (j ≡ k) → get_or (set ps k (get_or ps k 0 + m)) j 0 ≡ get_or ps₀ j 0 + m
-    go j g (yes d) = rw d (get_or-set_same ps k (get_or ps k 0 + m) 0 (omega (arith, a.there)) ∙ ap (λ (x : ℕ). x + m) (a.rest k (omega arith)))
-    go j g (no d) = get_or-set_other ps k j (get_or ps k 0 + m) 0 d ∙ a.on j (omega arith)
 
 -- ---- to lists
 

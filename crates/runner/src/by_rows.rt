@@ -8,9 +8,8 @@ ghost use Rattle.row_courses.specs.CourseTables.{LiesIn};
 ghost use Rattle.runner.specs.Stretching.{StretchedTo};
 ghost use Rattle.runner.specs.ByRows.{RowTables, AtRow, RowCall, row_of};
 
-use crate::{End, Stretched, advance, stretch_clocks};
+use crate::{End, Stretched, advance, no_clocks, stretch_clocks};
 use model::{Kernel, Order};
-use numbers::wide_usize;
 use rows::RowCourse;
 
 // Entry i of a table.
@@ -18,8 +17,7 @@ fn entry(table: &[u32; 513], i: u32) -> usize
     requires { i < 513 }
     ensures { result ≡ get_or table.now i 0 }
 {
-    let at = wide_usize(i);
-    wide_usize(table[at])
+    table[i as usize] as usize
 }
 
 // The clocks of the course's row v, which has `length` iterations, `fired` of them made.
@@ -57,12 +55,7 @@ fn of_row(
         out.new cells.now allowance }
 {
     if length <= fired {
-        return Stretched {
-            end: End::Done,
-            taken: 0,
-            clocks: 0,
-            firings: 0,
-        };
+        return no_clocks(End::Done);
     }
     let ones = [1usize; 4];
     let mut at = [0usize; 32];
@@ -109,13 +102,11 @@ fn rows_from(
         passed.new store.old store.new out.old out.new
         cells.now allowance }
 {
-    let height = course.height;
     let width = kernel_terms::width(kernel, n);
     let mut taken: usize = 0;
     let mut made: usize = 0;
     let mut firings: usize = 0;
-    let mut v = v0;
-    while v < height {
+    for v in v0..course.height {
         let from = entry(iterations, v);
         let upto = entry(iterations, v + 1);
         let o = firings * width;
@@ -145,15 +136,13 @@ fn rows_from(
         made += s.clocks;
         firings += s.firings;
         if fired0 + firings < upto {
-            let end = s.end;
             return Stretched {
-                end,
+                end: s.end,
                 taken,
                 clocks: made,
                 firings,
             };
         }
-        v += 1;
     }
     Stretched {
         end: End::Done,
@@ -195,16 +184,10 @@ pub(crate) fn row_clocks(
         passed.new store.old store.new out.old out.new
         cells.now allowance }
 {
-    let height = course.height;
-    if entry(iterations, height) <= fired0 {
-        return Stretched {
-            end: End::Done,
-            taken: 0,
-            clocks: 0,
-            firings: 0,
-        };
+    if entry(iterations, course.height) <= fired0 {
+        return no_clocks(End::Done);
     }
-    let v = row_courses::row_of(iterations, height, fired0 as u32);
+    let v = row_courses::row_of(iterations, course.height, fired0 as u32);
     rows_from(
         kernel, centre, order, n, count, rows, above, iterations, course, v, caps, bases, tops,
         size, fired0, passed, store, cells, out, allowance,

@@ -4,12 +4,11 @@
 
 mod by_rows;
 
-ghost use Rattle.std.specs.Prelude.{true, false, List, [], ◌≡◌, ℕ, ◌+◌, ◌-◌, ◌*◌, ◌<◌, ◌≤◌, length, get_or, take};
+ghost use Rattle.std.specs.Prelude.{true, false, List, [], ◌≡◌, ℕ, ◌+◌, ◌-◌, ◌*◌, ◌<◌, ◌≤◌, length, get_or, take, Ok, Err};
 ghost use Rattle.model_run.specs.Clock.{Layout};
 ghost use Rattle.model_run.specs.Kernels.{width as width_for, terms as terms_of};
 ghost use Rattle.model.specs.Values.{Trimmed, trimmed};
 ghost use Rattle.model_run.specs.Running.{outcome_of, with_counters, judge_run, run_of};
-ghost use Rattle.model.specs.declared.Verdict.TheVariants.{Accepted};
 ghost use Rattle.kernel_terms.specs.FilterTables.{filters_for};
 ghost use Rattle.run_prepare.specs.Prepared.{number_at};
 ghost use Rattle.run_prepare.specs.Ready.{Prepared, Begins, Begun};
@@ -20,9 +19,7 @@ ghost use Rattle.runner.specs.ByRows.{RowCall};
 ghost use Rattle.runner.specs.Clocks.{call_of, Ends};
 ghost use Rattle.runner.specs.Runs.{ran_of};
 
-use model::{
-    Answer, CellsPassed, Chain, Counts, FiringsMade, Kernel, Order, Outcome, Ran, State, Verdict,
-};
+use model::{CellsPassed, Chain, Counts, FiringsMade, Kernel, Order, Outcome, Ran, Refusal, State};
 use rows::{RowCourse, RowSurvey};
 use run_fill::Stop;
 use run_glide::Way;
@@ -34,11 +31,8 @@ fn advance(n: usize, m: usize, ps: &mut [usize; 32])
     requires by_index { (k : ℕ) → k < n → get_or ps.old k 0 + m < 18446744073709551616 }
     ensures { Advanced n m ps.old ps.new }
 {
-    let mut k = 0;
-    while k < n {
-        let p = ps[k];
-        ps[k] = p + m;
-        k += 1;
+    for k in 0..n {
+        ps[k] += m;
     }
 }
 
@@ -61,6 +55,18 @@ struct Stretched {
     taken: usize,
     clocks: usize,
     firings: usize,
+}
+
+// No clock was made.
+fn no_clocks(end: End) -> Stretched
+    ensures { result ≡ record { end = end; taken = 0; clocks = 0; firings = 0 } }
+{
+    Stretched {
+        end,
+        taken: 0,
+        clocks: 0,
+        firings: 0,
+    }
 }
 
 fn stop_end(how: Stop) -> End
@@ -121,20 +127,17 @@ fn stretch_clocks(
 {
     let mut puts = [0usize; 32];
     let mut gets = [0usize; 32];
-    let before = *passed;
-    let f = run_fill::fill(
-        n, at, wants, caps, bases, tops, size, before, &mut puts, &mut gets, store, cells,
+    let Some(f) = run_fill::fill(
+        n, at, wants, caps, bases, tops, size, *passed, &mut puts, &mut gets, store, cells,
         allowance,
-    );
-    let taken = f.taken;
-    let made = f.clocks;
-    let how = f.how;
-    let full = f.full;
+    ) else {
+        return no_clocks(End::Stalled);
+    };
     let after = f.passed;
     *passed = after;
-    if let Stop::Aligned = how {
-        let g = run_glide::glide(
-            full,
+    if let Stop::Aligned = f.how {
+        let Some(g) = run_glide::glide(
+            f.full,
             kernel,
             centre,
             n,
@@ -152,45 +155,30 @@ fn stretch_clocks(
             puts,
             gets,
             store,
-            &cells[taken..],
+            &cells[f.taken..],
             out,
-            allowance - made,
+            allowance - f.clocks,
             order,
-        );
-        let slid = g.clocks;
-        let firings = g.firings;
-        let way = g.how;
-        advance(n, slid, passed);
-        let took = taken + slid;
-        let ran = made + slid;
+        ) else {
+            return no_clocks(End::Stalled);
+        };
+        advance(n, g.clocks, passed);
         return Stretched {
-            end: way_end(way),
-            taken: took,
-            clocks: ran,
-            firings,
+            end: way_end(g.how),
+            taken: f.taken + g.clocks,
+            clocks: f.clocks + g.clocks,
+            firings: g.firings,
         };
     }
     Stretched {
-        end: stop_end(how),
-        taken,
-        clocks: made,
+        end: stop_end(f.how),
+        taken: f.taken,
+        clocks: f.clocks,
         firings: 0,
     }
 }
 
 // ---- the clocks of a call
-
-// Of this call: `taken` cells, `firings` and `clocks`.
-fn counted(taken: usize, firings: usize, clocks: usize) -> Counts
-    requires { (taken < 4294967296) × (firings < 4294967296) × (clocks < 4294967296) }
-    ensures { result ≡ record { cells = taken; firings = firings; clocks = clocks } }
-{
-    Counts {
-        cells: taken as u32,
-        firings: firings as u32,
-        clocks: clocks as u32,
-    }
-}
 
 fn outcome_of(end: End, c: Counts) -> Outcome
     ensures { result ≡ outcome_of (ending_of end) c }
@@ -209,6 +197,25 @@ fn outcome_of(end: End, c: Counts) -> Outcome
 struct Stopped {
     outcome: Outcome,
     fired: FiringsMade,
+}
+
+// The call ended as its clocks `s`, before which `fired` firings were made.
+fn ended(fired: usize, s: Stretched) -> Stopped
+    requires { (s.taken < 4294967296) × (s.clocks < 4294967296) × (fired + s.firings < 4294967296) }
+    ensures { result ≡ record {
+      outcome = outcome_of (ending_of s.end) (record { cells = s.taken; firings = s.firings; clocks = s.clocks });
+      fired = record { 0 = fired + s.firings };
+    } }
+{
+    let c = Counts {
+        cells: s.taken as u32,
+        firings: s.firings as u32,
+        clocks: s.clocks as u32,
+    };
+    Stopped {
+        outcome: outcome_of(s.end, c),
+        fired: FiringsMade((fired + s.firings) as u32),
+    }
 }
 
 // The clocks of a call that is not refused: all iterations are one stretch.
@@ -243,16 +250,10 @@ fn clocks(
         passed.old passed.new store.new out.new }
 {
     if iterations <= fired {
-        return Stopped {
-            outcome: Outcome::Done(counted(0, 0, 0)),
-            fired: FiringsMade(fired as u32),
-        };
+        return ended(fired, no_clocks(End::Done));
     }
     if allowance == 0 {
-        return Stopped {
-            outcome: Outcome::Spent(counted(0, 0, 0)),
-            fired: FiringsMade(fired as u32),
-        };
+        return ended(fired, no_clocks(End::Spent));
     }
     let n = chain.window.count as usize;
     let dims = chain.grid.dims as usize;
@@ -280,16 +281,7 @@ fn clocks(
         out,
         allowance as usize,
     );
-    let end = s.end;
-    let taken = s.taken;
-    let made = s.clocks;
-    let firings = s.firings;
-    let c = counted(taken, firings, made);
-    let all = fired + firings;
-    Stopped {
-        outcome: outcome_of(end, c),
-        fired: FiringsMade(all as u32),
-    }
+    ended(fired, s)
 }
 
 // The clocks of a call on rows that is not refused.
@@ -344,23 +336,7 @@ fn clocks_on_rows(
         out,
         allowance as usize,
     );
-    let end = s.end;
-    let taken = s.taken;
-    let made = s.clocks;
-    let firings = s.firings;
-    let c = counted(taken, firings, made);
-    let all = fired + firings;
-    Stopped {
-        outcome: outcome_of(end, c),
-        fired: FiringsMade(all as u32),
-    }
-}
-
-fn narrow(x: usize) -> u32
-    requires { x < 4294967296 }
-    ensures { result ≡ x }
-{
-    x as u32
+    ended(fired, s)
 }
 
 // The state with other counters.
@@ -369,10 +345,8 @@ fn state_of(state: State, n: usize, passed: &[usize; 32], fired: u32) -> State
     ensures { result ≡ with_counters state (record { fired = fired; passed = take n passed.now }) }
 {
     let mut to = state.passed;
-    let mut k: usize = 0;
-    while k < n {
-        to[k] = CellsPassed(narrow(passed[k]));
-        k += 1;
+    for k in 0..n {
+        to[k] = CellsPassed(passed[k] as u32);
     }
     State {
         passed: to,
@@ -399,7 +373,7 @@ fn run_ready(
     out: &mut [u32],
     allowance: u32,
 ) -> Ran
-    requires { (chain.grid.skewed ≡ false) × (judge_run (trimmed chain []) state store.old ≡ Accepted)
+    requires { (chain.grid.skewed ≡ false) × (judge_run (trimmed chain []) state store.old ≡ Ok tt)
         × Begun chain [] state ready at.now wants.now caps.now bases.now tops.now spans.now strides.now
         passed.old store.old
         × (order ≡ chain.order) }
@@ -428,11 +402,9 @@ fn run_ready(
         out,
         allowance,
     );
-    let outcome = stopped.outcome;
-    let all = stopped.fired;
     Ran {
-        answer: Answer::Ended(outcome),
-        state: state_of(state, n, passed, all.0),
+        answer: Ok(stopped.outcome),
+        state: state_of(state, n, passed, stopped.fired.0),
     }
 }
 
@@ -459,7 +431,7 @@ fn run_flat(
     let mut spans = [0usize; 4];
     let mut strides = [0usize; 4];
     let mut passed = [0usize; 32];
-    let ready = run_prepare::prepare(
+    let prepared = run_prepare::prepare(
         chain,
         state,
         store,
@@ -472,13 +444,12 @@ fn run_flat(
         &mut strides,
         &mut passed,
     );
-    let verdict = ready.verdict;
-    match verdict {
-        Verdict::Refused(x) => Ran {
-            answer: Answer::Refused(x),
+    match prepared {
+        Err(x) => Ran {
+            answer: Err(x),
             state,
         },
-        Verdict::Accepted => run_ready(
+        Ok(ready) => run_ready(
             chain,
             order,
             state,
@@ -518,43 +489,37 @@ fn rows_ready(
     out: &mut [u32],
     allowance: u32,
 ) -> Ran
-    requires { (judge_run (trimmed chain rows.now) state store.old ≡ Accepted)
+    requires { (judge_run (trimmed chain rows.now) state store.old ≡ Ok tt)
         × RowsBegun chain rows.now state found above.now iterations.now caps.now bases.now tops.now passed.old
         store.old }
     ensures { ran_of result store.new out.new
         ≡ run_of chain rows.now state store.old cells.now out.old allowance }
 {
     let n = chain.window.count as usize;
-    let made = state.fired;
-    let kernel = chain.kernel;
-    let order = chain.order;
-    let course = found.course;
     let stopped = clocks_on_rows(
-        kernel,
+        chain.kernel,
         found.centre,
-        order,
+        chain.order,
         n,
         chain.grid.rows,
         rows,
         above,
         iterations,
-        course,
+        found.course,
         caps,
         bases,
         tops,
         found.cells as usize,
-        made.0 as usize,
+        state.fired.0 as usize,
         passed,
         store,
         cells,
         out,
         allowance,
     );
-    let outcome = stopped.outcome;
-    let all = stopped.fired;
     Ran {
-        answer: Answer::Ended(outcome),
-        state: state_of(state, n, passed, all.0),
+        answer: Ok(stopped.outcome),
+        state: state_of(state, n, passed, stopped.fired.0),
     }
 }
 
@@ -578,7 +543,7 @@ fn run_rows(
     let mut bases = [0usize; 32];
     let mut tops = [0usize; 32];
     let mut passed = [0usize; 32];
-    let found = run_prepare::skewed::prepare_rows(
+    let prepared = run_prepare::skewed::prepare_rows(
         chain,
         rows,
         state,
@@ -590,13 +555,12 @@ fn run_rows(
         &mut tops,
         &mut passed,
     );
-    let verdict = found.verdict;
-    match verdict {
-        Verdict::Refused(x) => Ran {
-            answer: Answer::Refused(x),
+    match prepared {
+        Err(x) => Ran {
+            answer: Err(x),
             state,
         },
-        Verdict::Accepted => rows_ready(
+        Ok(found) => rows_ready(
             chain,
             rows,
             state,
@@ -630,8 +594,7 @@ pub fn run(
     ensures { ran_of result store.new out.new
         ≡ run_of chain rows.now state store.old cells.now out.old allowance }
 {
-    let grid = chain.grid;
-    if grid.skewed {
+    if chain.grid.skewed {
         return run_rows(chain, rows, state, store, cells, out, allowance);
     }
     run_flat(chain, state, store, cells, out, allowance)

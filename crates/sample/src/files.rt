@@ -11,6 +11,7 @@ fn read_full(file: &mut impl Read, into: &mut [u8]) -> usize
     ensures { Within result into.new }
 {
     let mut done = 0;
+    // A read may put fewer bytes there than there is room for.
     while done < into.len() {
         match file.read(&mut into[done..]) {
             Ok(0) => break,

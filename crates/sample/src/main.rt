@@ -12,16 +12,10 @@ use std::rt::Files;
 
 // Where the last line of the text starts.
 fn last_line(text: &[u8]) -> usize {
-    let mut i = text.len();
-    if i == 0 {
-        return 0;
-    }
-    i -= 1;
-    while 0 < i {
+    for i in (1..text.len()).rev() {
         if text[i - 1] == b'\n' {
             return i;
         }
-        i -= 1;
     }
     0
 }
@@ -44,8 +38,7 @@ fn show(rt: &(impl Files + Print), name: [u8; 5], piece: usize) -> io::Result<bo
     rt.write_all(&name)?;
     print!(rt; " ")?;
     show_last(rt, &text[..t])?;
-    let same = text[..t] == expected[..m];
-    if same {
+    if text[..t] == expected[..m] {
         println!(rt; " same")?;
         return Ok(true);
     }
@@ -56,13 +49,10 @@ fn show(rt: &(impl Files + Print), name: [u8; 5], piece: usize) -> io::Result<bo
 fn main(rt: HostRuntime) -> io::Result<()> {
     let mut list = [0u8; 4096];
     let n = files::read_path(&rt, b"list", &mut list);
-    let mut i: usize = 0;
-    let mut differ: u64 = 0;
-    while i < 600 {
+    let sheets = (n / 6).min(600);
+    let mut differ: usize = 0;
+    for i in 0..sheets {
         let at = 6 * i;
-        if n < at + 6 {
-            break;
-        }
         let name = [
             list[at],
             list[at + 1],
@@ -73,7 +63,6 @@ fn main(rt: HostRuntime) -> io::Result<()> {
         if !show(&rt, name, i * 5 % 23 + 1)? {
             differ += 1;
         }
-        i += 1;
     }
-    println!(rt; "{i} sheets, {differ} differ")
+    println!(rt; "{sheets} sheets, {differ} differ")
 }

@@ -2,7 +2,6 @@
 ghost use Rattle.std.specs.Prelude.{◌≤◌, length};
 ghost use Rattle.program_writer.specs.Texts.{Within};
 
-use numbers::lesser;
 use program_jobs::Job;
 
 // Where the piece ends that starts at `at`.
@@ -10,10 +9,7 @@ fn piece_end(at: usize, piece: usize, len: usize) -> usize
     requires { at ≤ len }
     ensures { (at ≤ result) × (result ≤ len) }
 {
-    if len - at < piece {
-        return len;
-    }
-    at + piece
+    at + piece.min(len - at)
 }
 
 fn plan_text(input: &[u8], piece: usize, text: &mut [u8]) -> usize
@@ -21,13 +17,8 @@ fn plan_text(input: &[u8], piece: usize, text: &mut [u8]) -> usize
 {
     let mut arriving = program_intake::open();
     let mut rows = [0u32; 1024];
-    let mut at: usize = 0;
-    let mut turns = input.len();
-    while 0 < turns {
-        turns -= 1;
-        let end = piece_end(at, piece, input.len());
-        arriving = program_intake::take_block(false, arriving, &mut rows, &input[at..end]);
-        at = end;
+    for block in input.chunks(piece.max(1)) {
+        arriving = program_intake::take_block(false, arriving, &mut rows, block);
     }
     program_answer::plan_answer(arriving, &rows, text)
 }
@@ -37,31 +28,17 @@ fn append(part: &[u8], text: &mut [u8], done: usize) -> usize
     requires { done ≤ length text.old }
     ensures { Within result text.new }
 {
-    let mut i: usize = 0;
-    let mut p = done;
-    while i < part.len() {
-        if text.len() <= p {
-            return p;
-        }
-        text[p] = part[i];
-        p += 1;
-        i += 1;
-    }
-    p
+    let n = part.len().min(text.len() - done);
+    text[done..done + n].copy_from_slice(&part[..n]);
+    done + n
 }
 
 // The job, told of the end of the input where that is due.
 fn supply(job: Job, at: usize, len: usize) -> Job {
-    if at != len {
-        return job;
+    if at == len && program_stages::wants_input(job.stage, job.line.verdict) {
+        return program_jobs::close_input(job);
     }
-    let stage = job.stage;
-    let line = job.line;
-    let v = line.verdict;
-    if !program_stages::wants_input(stage, v) {
-        return job;
-    }
-    program_jobs::close_input(job)
+    job
 }
 
 fn run_text(input: &[u8], piece: usize, text: &mut [u8]) -> usize
@@ -73,13 +50,10 @@ fn run_text(input: &[u8], piece: usize, text: &mut [u8]) -> usize
     let mut words = [0u32; 40];
     let mut part = [0u8; 300];
     let mut job = program_jobs::begin();
-    let mut at: usize = 0;
-    let mut done: usize = 0;
-    let mut turns: u32 = 100000;
-    while 0 < turns {
-        turns -= 1;
-        let stage = job.stage;
-        if program_stages::is_over(stage) {
+    let mut at = 0;
+    let mut done = 0;
+    for _ in 0..100000u32 {
+        if program_stages::is_over(job.stage) {
             return done;
         }
         let ready = supply(job, at, input.len());
@@ -94,11 +68,9 @@ fn run_text(input: &[u8], piece: usize, text: &mut [u8]) -> usize
             &mut words,
             &mut part,
         );
-        at = lesser(s.at, input.len());
-        let bytes = s.bytes;
-        done = append(&part[..bytes], text, done);
-        let next = s.job;
-        job = next;
+        at = s.at.min(input.len());
+        done = append(&part[..s.bytes], text, done);
+        job = s.job;
     }
     done
 }

@@ -26,7 +26,7 @@ use Rattle.model.specs.Judging.{most_cells, bad_grid, bad_count, no_iteration, w
 use Rattle.model.specs.declared.Bounds.{Bounds}
 use Rattle.model.specs.declared.Grid.{Grid}
 use Rattle.model.specs.declared.Refusal.TheVariants as refusal
-use Rattle.model.specs.declared.Verdict.TheVariants as verdict
+use Rattle.std.specs.Prelude.{Ok, Err}
 use Rattle.model.specs.declared.Window.{Window}
 use Rattle.model.specs.Sized.{Bounded, Suits}
 use Rattle.grid_laws.proofs.Rectangles as rectangle
@@ -45,10 +45,9 @@ use Rattle.geometry.proofs.PartLaws.{part_all}
 use Rattle.geometry.proofs.FillLaws.{filled_all}
 use Rattle.geometry.proofs.GridLaws.{few_dimensions, few_cells, some_references, few_references}
 use Rattle.windows.proofs.IndexLaws.{index_inside, inside_index}
-use Rattle.shape.specs.Shapes.{stride, shape_for, unsurveyed_of, survey_of, Whole}
-use Rattle.shape.specs.Boxing.{first_at, last_at, LiesIn, PlacedIn}
+use Rattle.shape.specs.Shapes.{stride, shape_for, survey_of, Whole}
+use Rattle.shape.specs.Boxing.{first_at, last_at, LiesIn, Outside, PlacedIn}
 use Rattle.shape.specs.declared.Shape.{Shape}
-use Rattle.shape.specs.declared.Survey.{Survey}
 use Rattle.shape.specs.declared.boxed.Placed.{Placed}
 use Rattle.shape.proofs.PlacingLaws.{part_at_most, stride_behind, place_by_strides}
 use Rattle.shape.proofs.ShapeLaws.{extents_by_dimension, lows_by_dimension, relative_by_dimension, small_sizes, nothing_read}
@@ -196,21 +195,21 @@ module _ (g : Grid) (w : Window) (x : Bounds) (a : bad_grid g.dims (sizes_of g) 
   stands t = rw t
 
   -- 15.
-  pub refused_box : (m : ℕ) (s : Shape) (p : Placed) → Whole g w m s → x.stood ≡ true → PlacedIn x.lowest x.highest ls xs g.dims p → p.fits ≡ false → unsurveyed_of refusal.BadBox ≡ survey_of g w x
+  pub refused_box : (m : ℕ) (s : Shape) → Whole g w m s → x.stood ≡ true → Outside x.lowest x.highest ls xs g.dims → Err refusal.BadBox ≡ survey_of g w x
   unfolding survey_of window_checks first_of
-  refused_box m s p k t r n = rw (k.grid, k.count, k.distinct, k.iterates, stands t, go (bad_box (rectangle sizes) offsets (box lowest highest)) refl)
+  refused_box m s k t (d, h, out) = rw (k.grid, k.count, k.distinct, k.iterates, stands t, go (bad_box (rectangle sizes) offsets (box lowest highest)) refl)
     where
       go : (u : Bool) → bad_box (rectangle sizes) offsets (box lowest highest) ≡ u → bad_box (rectangle sizes) offsets (box lowest highest) ≡ true
       go true f = f
-      go false f = let (d, h, out) = r.outside n in absurd (out (fits_lies f d h))
+      go false f = absurd (out (fits_lies f d h))
 
   -- A box that lies among the iterations.
-  module _ (m : ℕ) (s : Shape) (p : Placed) (k : Whole g w m s) (t : x.stood ≡ true) (r : PlacedIn x.lowest x.highest ls xs g.dims p) (y : p.fits ≡ true) where
+  module _ (m : ℕ) (s : Shape) (p : Placed) (k : Whole g w m s) (t : x.stood ≡ true) (r : PlacedIn x.lowest x.highest ls xs g.dims p) where
     abbrev c : Course
     c = box_course (rectangle sizes) lowest highest
 
     fits : bad_box (rectangle sizes) offsets (box lowest highest) ≡ false
-    fits = lies_fits (r.inside y)
+    fits = lies_fits r.inside
 
     listed : 0 < count c
     unfolding course no_iteration
@@ -221,13 +220,13 @@ module _ (g : Grid) (w : Window) (x : Bounds) (a : bad_grid g.dims (sizes_of g) 
 
     -- Its widths in an array.
     width_is : (d : ℕ) → d < g.dims → number_at p.widths d ≡ index_count (lowest_in d) (highest_in d)
-    width_is d h = (r.widths y).done d h ∙ (lies d h (r.inside y d h)).width
+    width_is d h = r.widths.done d h ∙ (lies d h (r.inside d h)).width
 
     pub small_widths : Small p.widths g.dims
     unfolding extent
     small_widths d =
         le_trans (part_at_most (number_at p.widths) (number_at g.sizes) d g.dims
-        (λ i h. let z = lies i h (r.inside y i h) in omega (arith, width_is i h, index_count_lem (lowest_in i) (highest_in i) z.rises, above_chain (highest_in i) (lowest_in i) (neg_ℤ (low_in i)) z.low z.rises, z.high)))
+        (λ i h. let z = lies i h (r.inside i h) in omega (arith, width_is i h, index_count_lem (lowest_in i) (highest_in i) z.rises, above_chain (highest_in i) (lowest_in i) (neg_ℤ (low_in i)) z.low z.rises, z.high)))
         (small_sizes g w a b d)
 
     count_is : product (part (number_at p.widths) 0 g.dims) ≡ count c
@@ -239,8 +238,8 @@ module _ (g : Grid) (w : Window) (x : Bounds) (a : bad_grid g.dims (sizes_of g) 
     unfolding box_course box_shape
     widths_are =
         filled_all 4 0 (λ d. last_at x.lowest x.highest ls xs d - first_at x.lowest x.highest ls xs d + 1) (λ d. get_or (widths lowest highest) d 0) g.dims p.widths
-        (λ d h. (lies d h (r.inside y d h)).width ∙ sym (ap (λ (ws : List ℕ). get_or ws d 0) by_dimension ∙ get_d_tabulate g.dims wide d 0 h))
-        (λ d h. get_or-eq_default (widths lowest highest) 0 (rw (by_dimension, length_tabulate g.dims wide) h)) (r.widths y)
+        (λ d h. (lies d h (r.inside d h)).width ∙ sym (ap (λ (ws : List ℕ). get_or ws d 0) by_dimension ∙ get_d_tabulate g.dims wide d 0 h))
+        (λ d h. get_or-eq_default (widths lowest highest) 0 (rw (by_dimension, length_tabulate g.dims wide) h)) r.widths
       where
         wide : ℕ → ℕ
         wide d = index_count (lowest_in d) (highest_in d)
@@ -256,7 +255,7 @@ module _ (g : Grid) (w : Window) (x : Bounds) (a : bad_grid g.dims (sizes_of g) 
     unfolding sizes_of shape_for
     behind_is =
         ap sum (tabulate_same g.dims _ (λ d. above (lowest_in d) (neg_ℤ (low_in d)) * product (part (number_at g.sizes) (d + 1) g.dims))
-        (λ d h. ap₂ ◌*◌ ((r.firsts y).done d h ∙ (lies d h (r.inside y d h)).first) (stride_there d h)))
+        (λ d h. ap₂ ◌*◌ (r.firsts.done d h ∙ (lies d h (r.inside d h)).first) (stride_there d h)))
         ∙ sym (place_by_strides g.dims (number_at g.sizes) (λ d. above (lowest_in d) (neg_ℤ (low_in d)))) ∙ ap (place sizes) (sym (counted_from_lem lowest_in))
       where
         stride_there : (d : ℕ) → d < g.dims → number_at s.strides d ≡ product (part (number_at g.sizes) (d + 1) g.dims)
@@ -281,7 +280,7 @@ module _ (g : Grid) (w : Window) (x : Bounds) (a : bad_grid g.dims (sizes_of g) 
     behind_small = omega (arith, reads_small 0 (some_references w b))
 
     pub accepted_box : (n : ℕ) (at : List ℕ) → n ≡ product (part (number_at p.widths) 0 g.dims) → Filled 32 0 (λ i. number_at s.at i + behind) w.count at
-        → ◌≡◌ {A = Survey} (record { verdict = verdict.Accepted; centre = m; shape = record { cells = s.cells; iterations = n; extents = p.widths; strides = s.strides; at = at } }) (survey_of g w x)
+        → Ok (record { centre = m; shape = record { cells = s.cells; iterations = n; extents = p.widths; strides = s.strides; at = at } }) ≡ survey_of g w x
     unfolding survey_of window_checks first_of course_of course shape_for
     accepted_box n at q f =
         rw (k.grid, k.count, k.distinct, k.iterates, stands t, fits, k.centre_is, k.shape_is, q ∙ count_is, widths_are, positions)

@@ -1,5 +1,5 @@
 -- Laws of finding 3 to 6, the centre and the shape together.
-use Prim.Native.Nat.{ℕ, zero, suc, ◌+◌, ◌-◌, ◌≤◌, ◌<◌}
+use Prim.Native.Nat.{ℕ, zero, suc, ◌+◌, ◌≤◌, ◌<◌}
 use mathlib.Core.Bool.{Bool, true, false}
 use mathlib.Core.List.{List, []}
 use mathlib.Core.Path.{◌≡◌, refl, sym, ◌∙◌, ap}
@@ -21,16 +21,15 @@ use Rattle.model.specs.Judging.{bad_grid, bad_count, repeats, no_iteration, wind
 use Rattle.model.specs.declared.Bounds.{Bounds}
 use Rattle.model.specs.declared.Grid.{Grid}
 use Rattle.model.specs.declared.Refusal.TheVariants as refusal
-use Rattle.model.specs.declared.Verdict.TheVariants as verdict
+use Rattle.std.specs.Prelude.{Ok, Err}
 use Rattle.model.specs.declared.Window.{Window}
 use Rattle.grid_laws.proofs.Rectangles.{iteration_count}
 use Rattle.grid_laws.proofs.ListLaws.{get_d_tabulate}
 use Rattle.grid_laws.proofs.OrderLaws.{equal_is}
 use Rattle.grid_laws.proofs.WholeLaws.{rectangle_count}
 use Rattle.geometry.specs.Parts.{part, number_at, offset_at, Falls}
-use Rattle.shape.specs.Shapes.{shape_for, whole_shape, blank_shape, shape_of, unsurveyed_of, survey_of, Whole}
+use Rattle.shape.specs.Shapes.{shape_for, whole_shape, blank_shape, shape_of, survey_of, Whole}
 use Rattle.shape.specs.declared.Shape.{Shape}
-use Rattle.shape.specs.declared.Survey.{Survey}
 use Rattle.windows.specs.Windows.{repeats_in, centre_in}
 use Rattle.geometry.proofs.PartLaws.{part_none, part_more, part_all}
 use Rattle.windows.proofs.OffsetLaws.{repeats_held}
@@ -40,16 +39,6 @@ use Rattle.shape.proofs.Answers.{repeats_is, centre_is}
 
 -- Numbers of which each is above the next.
 module _ (f : ℕ → ℕ) where
-  pub falls_none : Falls f 1
-  falls_none k h = absurd (omega arith)
-
-  pub falls_more : (n : ℕ) → 1 ≤ n → f n < f (n - 1) → Falls f n → Falls f (n + 1)
-  falls_more n some h r k b = at (ℕ_discrete (k + 1) n)
-    where
-      at : Dec (k + 1 ≡ n) → f (k + 1) < f k
-      at (yes e) = let d : n - 1 ≡ k = omega arith in rw e (rw d at h)
-      at (no e) = r k (omega arith)
-
   pub falls_to : (n m : ℕ) → m ≤ n → Falls f n → Falls f m
   falls_to n m h r k b = r k (omega arith)
 
@@ -137,17 +126,17 @@ module _ (g : Grid) (w : Window) (a : bad_grid g.dims (sizes_of g) ≡ false) (b
 
 -- What is answered at each check, where those before it pass.
 module _ (g : Grid) (w : Window) (x : Bounds) where
-  pub survey_grid : bad_grid g.dims (sizes_of g) ≡ true → unsurveyed_of refusal.BadGrid ≡ survey_of g w x
+  pub survey_grid : bad_grid g.dims (sizes_of g) ≡ true → Err refusal.BadGrid ≡ survey_of g w x
   unfolding survey_of window_checks first_of
   survey_grid e = rw e
 
   module _ (a : bad_grid g.dims (sizes_of g) ≡ false) where
-    pub survey_count : bad_count w.count ≡ true → unsurveyed_of refusal.BadCount ≡ survey_of g w x
+    pub survey_count : bad_count w.count ≡ true → Err refusal.BadCount ≡ survey_of g w x
     unfolding survey_of window_checks first_of
     survey_count e = rw (a, e)
 
     module _ (b : bad_count w.count ≡ false) where
-      pub survey_repeats : repeats_in g.dims w ≡ true → unsurveyed_of refusal.EqualOffsets ≡ survey_of g w x
+      pub survey_repeats : repeats_in g.dims w ≡ true → Err refusal.EqualOffsets ≡ survey_of g w x
       unfolding survey_of window_checks first_of
       survey_repeats e = rw (a, b, sym (repeats_is g w a b) ∙ e)
 
@@ -164,7 +153,7 @@ module _ (g : Grid) (w : Window) (x : Bounds) where
           distinct : repeats (offsets_of g.dims w) ≡ false
           distinct = sym (repeats_is g w a b) ∙ c
 
-          pub survey_iterations : s.iterations ≡ 0 → unsurveyed_of refusal.NoIteration ≡ survey_of g w x
+          pub survey_iterations : s.iterations ≡ 0 → Err refusal.NoIteration ≡ survey_of g w x
           unfolding survey_of window_checks first_of no_iteration
           survey_iterations z = rw (a, b, distinct, eq-eqb _ 0 (rectangle_count (sizes_of g) (offsets_of g.dims w) ∙ sym count_is ∙ z))
 
@@ -177,6 +166,6 @@ module _ (g : Grid) (w : Window) (x : Bounds) where
 
 -- Where no box stood, that is the survey.
 pub surveyed : (g : Grid) (w : Window) (x : Bounds) (m : ℕ) (s : Shape) → Whole g w m s → x.stood ≡ false
-    → ◌≡◌ {A = Survey} (record { verdict = verdict.Accepted; centre = m; shape = s }) (survey_of g w x)
+    → Ok (record { centre = m; shape = s }) ≡ survey_of g w x
 unfolding survey_of window_checks first_of course_of course part_of bad_box
 surveyed g w x m s k e = rw (k.grid, k.count, k.distinct, k.iterates, e, k.centre_is, k.shape_is)

@@ -1,6 +1,6 @@
 -- What this crate's public functions answer, on any value: the model's definitions where 3 and 4 let the value pass, and a
 -- fixed answer elsewhere.
-use Rattle.std.specs.Prelude.{ℕ, zero, suc, Bool, false, not, cond, ◌&&◌, List, [], ◌∷◌, ◌≡◌, ℤ, get_or}
+use Rattle.std.specs.Prelude.{ℕ, zero, suc, Bool, false, not, cond, ◌&&◌, List, [], ◌∷◌, ◌≡◌, ℤ, get_or, Result, Ok, Err}
 use Rattle.model.specs.Lists.{tabulate}
 use Rattle.model.specs.Vectors.{plus}
 use Rattle.model.specs.Geometry.{cell_count}
@@ -16,7 +16,6 @@ use Rattle.model.specs.declared.Bounds.{Bounds}
 use Rattle.model.specs.declared.Chain.{Chain}
 use Rattle.model.specs.declared.Grid.{Grid}
 use Rattle.model.specs.declared.Refusal.{Refusal}
-use Rattle.model.specs.declared.Verdict.TheVariants as verdict
 use Rattle.model.specs.declared.Window.{Window}
 use Rattle.shape.specs.declared.Shape.{Shape}
 use Rattle.shape.specs.declared.Survey.{Survey}
@@ -57,21 +56,16 @@ shape_of g w =
     let whole = whole_shape sizes offsets in
     cond (sound g w && not (no_iteration (rectangle sizes) offsets)) whole blank_shape
 
-abbrev pub unsurveyed_of : Refusal → Survey
-unsurveyed_of x = record { verdict = verdict.Refused x; centre = 0; shape = blank_shape }
-
 -- What judging and running ask of a window on a grid, found together: the first of 3 to 6 and 15 that turns them back, else
 -- the centre and the shape of the course that a run takes.
-unfoldable pub survey_of : Grid → Window → Bounds → Survey
+unfoldable pub survey_of : Grid → Window → Bounds → Result Survey Refusal
 survey_of g w b =
     let offsets = offsets_of g.dims w in
-    by_verdict (judge_rectangle g w b)
-    (record {
-      verdict = verdict.Accepted;
+    let found : Survey = record {
       centre = centre_of offsets;
       shape = shape_for (sizes_of g) offsets (course_of (on_rectangle g w b));
-    })
-    unsurveyed_of
+    } in
+    by_verdict (judge_rectangle g w b) (Ok found) Err
 
 -- The shape of an accepted chain.
 unfoldable pub chain_shape : Chain → Shape

@@ -12,10 +12,9 @@ ghost use Rattle.model.specs.Values.{sizes_of};
 ghost use Rattle.model.specs.Judging.{most_cells, bad_grid, bad_count};
 ghost use Rattle.geometry.specs.Parts.{part, number_at, entries_in, Filled, Lows, place_by, Small, Falls};
 ghost use Rattle.windows.specs.Windows.{repeats_in};
-ghost use Rattle.shape.specs.Shapes.{blank_shape, shape_of, unsurveyed_of, survey_of, Whole};
+ghost use Rattle.shape.specs.Shapes.{blank_shape, shape_of, survey_of, Whole};
 
-use model::{Bounds, Grid, Refusal, Verdict, Window};
-use numbers::less_u32;
+use model::{Bounds, Grid, Refusal, Window};
 use windows::lows::{height, lows_of, span_in};
 
 // A window on a grid as numbers. All are 0 where 3, 4 or 6 turns the two back.
@@ -43,12 +42,10 @@ fn extents_of(
         dims result }
 {
     let mut extents = [0u32; 4];
-    let mut d: usize = 0;
-    while d < dims {
+    for d in 0..dims {
         let low = lows[d];
         let span = span_in(offsets, count, d, low);
-        extents[d] = less_u32(sizes[d], span);
-        d += 1;
+        extents[d] = sizes[d].saturating_sub(span);
     }
     extents
 }
@@ -59,10 +56,8 @@ fn product(xs: &[u32; 4], from: usize, to: usize) -> u32
     ensures { result ≡ product_of (part (number_at xs.now) from to) }
 {
     let mut p: u32 = 1;
-    let mut d = to;
-    while from < d {
-        d -= 1;
-        p = p * xs[d];
+    for d in (from..to).rev() {
+        p *= xs[d];
     }
     p
 }
@@ -73,10 +68,8 @@ fn strides_of(sizes: &[u32; 4], dims: usize) -> [u32; 4]
     ensures { Filled 4 0 (λ d. product_of (part (number_at sizes.now) (d + 1) dims)) dims result }
 {
     let mut strides = [0u32; 4];
-    let mut d: usize = 0;
-    while d < dims {
+    for d in 0..dims {
         strides[d] = product(sizes, d + 1, dims);
-        d += 1;
     }
     strides
 }
@@ -87,12 +80,10 @@ fn place_of(offsets: &[i16; 128], lows: &[i16; 4], strides: &[u32; 4], k: usize,
     ensures { result ≡ place_by dims lows.now strides.now offsets.now k }
 {
     let mut at: u32 = 0;
-    let mut d: usize = 0;
-    while d < dims {
+    for d in 0..dims {
         let x = offsets[4 * k + d];
         let low = lows[d];
-        at = at + height(x, low) * strides[d];
-        d += 1;
+        at += height(x, low) * strides[d];
     }
     at
 }
@@ -110,10 +101,8 @@ fn places_of(
     ensures { Filled 32 0 (place_by dims lows.now strides.now offsets.now) count result }
 {
     let mut at = [0u32; 32];
-    let mut k: usize = 0;
-    while k < count {
+    for k in 0..count {
         at[k] = place_of(offsets, lows, strides, k, dims);
-        k += 1;
     }
     at
 }
@@ -161,12 +150,10 @@ fn falls(at: &[u32; 32], count: usize) -> bool
     requires { count ≤ 32 }
     ensures { result ≡ true → Falls (number_at at.now) count }
 {
-    let mut k: usize = 1;
-    while k < count {
+    for k in 1..count {
         if at[k - 1] <= at[k] {
             return false;
         }
-        k += 1;
     }
     true
 }
@@ -182,86 +169,65 @@ fn repeats_at(dims: u8, window: Window, at: &[u32; 32]) -> bool
     windows::repeats(dims, window)
 }
 
-// What judging and running ask of a window on a grid: the first of 3 to 6 and 15 that turns them back, else the centre and
-// the shape of the iterations that a run covers.
+// What judging and running ask of a window on a grid that 3 to 6 and 15 let pass: the centre and the shape of the iterations
+// that a run covers.
 #[derive(Clone, Copy)]
 pub struct Survey {
-    pub verdict: Verdict,
     pub centre: u8,
     pub shape: Shape,
 }
 
-fn unsurveyed(x: Refusal) -> Survey
-    ensures { result ≡ unsurveyed_of x }
-{
-    let shape = blank();
-    Survey {
-        verdict: Verdict::Refused(x),
-        centre: 0,
-        shape,
-    }
-}
-
 // 15, and the shape of a box, of a grid and a window that 3 to 6 let pass and whose own shape is known.
-fn survey_box(grid: Grid, window: Window, bounds: Bounds, centre: u8, whole: Shape) -> Survey
+fn survey_box(
+    grid: Grid,
+    window: Window,
+    bounds: Bounds,
+    centre: u8,
+    whole: Shape,
+) -> Result<Survey, Refusal>
     requires { (bounds.stood ≡ true) × Whole grid window centre whole }
     ensures { result ≡ survey_of grid window bounds }
 {
     let dims = grid.dims as usize;
     let n = window.count as usize;
-    let offsets = window.offsets;
-    let lows = lows_of(&offsets, n, dims);
-    let extents = whole.extents;
-    let place = boxed::place_box(bounds, &lows, &extents, dims);
-    if !place.fits {
-        return unsurveyed(Refusal::BadBox);
-    }
-    let firsts = place.firsts;
-    let widths = place.widths;
-    let strides = whole.strides;
-    let cells = boxed::cells_behind(&firsts, &strides, dims);
-    let first = whole.at;
-    let at = boxed::further(&first, cells, n);
-    let iterations = product(&widths, 0, dims);
-    Survey {
-        verdict: Verdict::Accepted,
+    let lows = lows_of(&window.offsets, n, dims);
+    let Some(place) = boxed::place_box(bounds, &lows, &whole.extents, dims) else {
+        return Err(Refusal::BadBox);
+    };
+    let cells = boxed::cells_behind(&place.firsts, &whole.strides, dims);
+    let at = boxed::further(&whole.at, cells, n);
+    let iterations = product(&place.widths, 0, dims);
+    Ok(Survey {
         centre,
         shape: Shape {
-            cells: whole.cells,
             iterations,
-            extents: widths,
-            strides,
+            extents: place.widths,
             at,
+            ..whole
         },
-    }
+    })
 }
 
-// 3 to 6 and 15, the centre and the shape, found together.
-pub fn survey_of(grid: Grid, window: Window, bounds: Bounds) -> Survey
+// The survey, or the first of 3 to 6 and 15 that turns grid, window and box back.
+pub fn survey_of(grid: Grid, window: Window, bounds: Bounds) -> Result<Survey, Refusal>
     ensures { result ≡ survey_of grid window bounds }
 {
     if limits::bad_grid(grid) {
-        return unsurveyed(Refusal::BadGrid);
+        return Err(Refusal::BadGrid);
     }
     if limits::bad_count(window.count) {
-        return unsurveyed(Refusal::BadCount);
+        return Err(Refusal::BadCount);
     }
-    let offsets = window.offsets;
-    let shape = shape_in(grid, window.count, &offsets);
-    let at = shape.at;
-    if repeats_at(grid.dims, window, &at) {
-        return unsurveyed(Refusal::EqualOffsets);
+    let shape = shape_in(grid, window.count, &window.offsets);
+    if repeats_at(grid.dims, window, &shape.at) {
+        return Err(Refusal::EqualOffsets);
     }
     if shape.iterations == 0 {
-        return unsurveyed(Refusal::NoIteration);
+        return Err(Refusal::NoIteration);
     }
     let centre = windows::centre(grid.dims, window);
     if bounds.stood {
         return survey_box(grid, window, bounds, centre, shape);
     }
-    Survey {
-        verdict: Verdict::Accepted,
-        centre,
-        shape,
-    }
+    Ok(Survey { centre, shape })
 }

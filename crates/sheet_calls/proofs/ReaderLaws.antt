@@ -8,10 +8,9 @@ use Rattle.model.specs.declared.Chain.{Chain}
 use Rattle.model.specs.declared.LineStep.{LineStep}
 use Rattle.model.specs.declared.Refusal.{Refusal}
 use Rattle.model.specs.declared.Refusal.TheVariants as refusal
-use Rattle.model.specs.declared.Verdict.{Verdict}
-use Rattle.model.specs.declared.Verdict.TheVariants as verdict
-use Rattle.model.specs.Values.{blank_chain, request_of}
-use Rattle.model.specs.Answers.{by_verdict}
+use Rattle.std.specs.Prelude.{Ok, Err}
+use Rattle.model.specs.Values.{request_of}
+use Rattle.model.specs.Answers.{Verdict, by_verdict}
 use Rattle.model.specs.Judging.{judge_chain}
 use Rattle.model.specs.Planning.{judge_request}
 use Rattle.model_sheet.specs.Lines.{line_of, lines_of}
@@ -27,12 +26,12 @@ first_numbers_lem [] = refl
 first_numbers_lem (b ∷ bs) = ap first_numbers (sym (first_line_lem (b ∷ bs) (omega arith)))
 
 module _ (s : LineStep) (judged : Verdict) where
-  pub end_refused : (x : Refusal) → s.verdict ≡ verdict.Refused x → end_verdict s judged ≡ verdict.Refused x
+  pub end_refused : (x : Refusal) → s.verdict ≡ Err x → end_verdict s judged ≡ Err x
   unfolding end_verdict
   end_refused x e = rw e
 
-  module _ (lines : s.verdict ≡ verdict.Accepted) where
-    pub end_missing : complete s.reading ≡ false → end_verdict s judged ≡ verdict.Refused refusal.Misplaced
+  module _ (lines : s.verdict ≡ Ok tt) where
+    pub end_missing : complete s.reading ≡ false → end_verdict s judged ≡ Err refusal.Misplaced
     unfolding end_verdict
     end_missing n = rw (lines, n)
 
@@ -42,16 +41,16 @@ module _ (s : LineStep) (judged : Verdict) where
 
 module _ (sheet rows : List ℕ) (s : LineStep) (v : Verdict) (told : rows ≡ numbers_in sheet) where
   pub chain_read : s ≡ read_lines true rows start (lines_of sheet) → end_verdict s (judge_chain s.reading.chain rows) ≡ v
-      → record { verdict = v; chain = by_verdict v s.reading.chain (λ x. blank_chain) } ≡ read_chain sheet
+      → by_verdict v (Ok s.reading.chain) Err ≡ read_chain sheet
   unfolding read_chain
   chain_read e q = rw (← told, ← e, q)
 
   pub request_read : s ≡ read_lines false rows start (lines_of sheet) → end_verdict s (judge_request (request_of s.reading.chain) rows) ≡ v
-      → record { verdict = v; request = request_of (by_verdict v s.reading.chain (λ x. blank_chain)) } ≡ read_request sheet
+      → by_verdict v (Ok (request_of s.reading.chain)) Err ≡ read_request sheet
   unfolding read_request
   request_read e q = rw (← told, ← e, q)
 
 module _ (c : Chain) (rows out : List ℕ) where
-  pub write_refused : (x : Refusal) → judge_chain c rows ≡ verdict.Refused x → written (record { verdict = verdict.Refused x; bytes = 0 }) out ≡ write_of c rows out
+  pub write_refused : (x : Refusal) → judge_chain c rows ≡ Err x → written (Err x) out ≡ write_of c rows out
   unfolding write_of write_verdict
   write_refused x e = rw e

@@ -10,7 +10,6 @@ ghost use Rattle.model_sheet.specs.Numbers.{half_at, word_at, signed, pattern, s
 ghost use Rattle.model_sheet.specs.Reading.{sizes_in, entries_in, lowest_in, highest_in, filters_in, kernel_in};
 
 use model::{Factors, KEPT, Kernel};
-use numbers::lesser;
 
 // Four bytes, most significant first.
 fn word(a: u8, b: u8, c: u8, d: u8) -> u32
@@ -123,13 +122,9 @@ pub fn word_in(x: [u8; KEPT]) -> u32
 pub fn filters_in(x: [u8; KEPT], n: u8) -> [u8; 32]
     ensures { result ≡ filters_in n x }
 {
-    let terms = lesser(n as usize, 32);
+    let terms = (n as usize).min(32);
     let mut filters = [0u8; 32];
-    let mut t: usize = 0;
-    while t < terms {
-        filters[t] = x[1 + t];
-        t += 1;
-    }
+    filters[..terms].copy_from_slice(&x[1..1 + terms]);
     filters
 }
 

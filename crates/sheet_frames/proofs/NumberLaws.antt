@@ -19,6 +19,7 @@ use Rattle.model_sheet.proofs.NumberLaws.{numbers_table}
 use Rattle.sheet_laws.proofs.Cases.{by_bool, by_eq, by_lt}
 use Rattle.sheet_laws.proofs.NumbersLaws.{set_table, zero_table}
 use Rattle.sheet_frames.proofs.FeedLaws.{joined}
+use Rattle.std.specs.Prelude.{Option, None, Some}
 
 -- One byte more.
 abbrev pub with_byte : List ℕ → (len b : ℕ) → List ℕ
@@ -46,44 +47,44 @@ module _ (numbers : List ℕ) (len b : ℕ) where
     byte_lower e v is = rw (le-leb _ _ behind, ne_eqb _ _ e, is)
 
 -- What of a frame the numbers hang on.
-abbrev made : List ℕ → (len : ℕ) → (sound half : Bool) → (high : ℕ) → Frame
-made first len sound half high = record { first = first; len = len; sound = sound; half = half; high = high }
+abbrev made : List ℕ → (len : ℕ) → (sound : Bool) → (upper : Option ℕ) → Frame
+made first len sound upper = record { first = first; len = len; sound = sound; upper = upper }
 
-abbrev pub bare : (len : ℕ) → (half : Bool) → (high : ℕ) → Frame
-bare len half high = made [] len true half high
+abbrev pub bare : (len : ℕ) → (upper : Option ℕ) → Frame
+bare len upper = made [] len true upper
 
-same_numbers : (ds numbers x y : List ℕ) (len : ℕ) (s t half : Bool) (high : ℕ) → numbers_feeds numbers (made x len s half high) ds ≡ numbers_feeds numbers (made y len t half high) ds
+same_numbers : (ds numbers x y : List ℕ) (len : ℕ) (s t : Bool) (upper : Option ℕ) → numbers_feeds numbers (made x len s upper) ds ≡ numbers_feeds numbers (made y len t upper) ds
 unfolding numbers_feeds numbers_fed fed pushed
-same_numbers [] numbers x y len s t half high = refl
-same_numbers (d ∷ ds) numbers x y len s t true high =
+same_numbers [] numbers x y len s t upper = refl
+same_numbers (d ∷ ds) numbers x y len s t (Some high) =
     by_bool (is_digit d)
-    (λ e. rw e (same_numbers ds _ _ _ _ s t false 0))
-    (λ e. rw e (same_numbers ds _ x y len false false true high))
-same_numbers (d ∷ ds) numbers x y len s t false high =
+    (λ e. rw e (same_numbers ds _ _ _ _ s t None))
+    (λ e. rw e (same_numbers ds _ x y len false false (Some high)))
+same_numbers (d ∷ ds) numbers x y len s t None =
     by_bool (is_digit d)
-    (λ e. rw e (same_numbers ds numbers x y len s t true (value_of d)))
-    (λ e. rw e (same_numbers ds numbers x y len false false false high))
+    (λ e. rw e (same_numbers ds numbers x y len s t (Some (value_of d))))
+    (λ e. rw e (same_numbers ds numbers x y len false false None))
 
-pub bare_numbers : (numbers : List ℕ) (f : Frame) (ds : List ℕ) → numbers_feeds numbers (bare f.len f.half f.high) ds ≡ numbers_feeds numbers f ds
-bare_numbers numbers f ds = same_numbers ds numbers [] f.first f.len true f.sound f.half f.high
+pub bare_numbers : (numbers : List ℕ) (f : Frame) (ds : List ℕ) → numbers_feeds numbers (bare f.len f.upper) ds ≡ numbers_feeds numbers f ds
+bare_numbers numbers f ds = same_numbers ds numbers [] f.first f.len true f.sound f.upper
 
 -- One character more.
 module _ (numbers : List ℕ) (c : ℕ) (cs : List ℕ) where
-  other_more : is_digit c ≡ false → (len : ℕ) (half : Bool) (high : ℕ) → numbers_feeds numbers (bare len half high) cs ≡ numbers_feeds numbers (bare len half high) (c ∷ cs)
+  other_more : is_digit c ≡ false → (len : ℕ) (upper : Option ℕ) → numbers_feeds numbers (bare len upper) cs ≡ numbers_feeds numbers (bare len upper) (c ∷ cs)
   unfolding numbers_feeds numbers_fed fed
-  other_more e len true high = rw e (same_numbers cs numbers [] [] len true false true high)
-  other_more e len false high = rw e (same_numbers cs numbers [] [] len true false false high)
+  other_more e len (Some high) = rw e (same_numbers cs numbers [] [] len true false (Some high))
+  other_more e len None = rw e (same_numbers cs numbers [] [] len true false None)
 
-  upper_more : is_digit c ≡ true → (v : ℕ) → v ≡ value_of c → (len high : ℕ) → numbers_feeds numbers (bare len true v) cs ≡ numbers_feeds numbers (bare len false high) (c ∷ cs)
+  upper_more : is_digit c ≡ true → (v : ℕ) → v ≡ value_of c → (len : ℕ) → numbers_feeds numbers (bare len (Some v)) cs ≡ numbers_feeds numbers (bare len None) (c ∷ cs)
   unfolding numbers_feeds numbers_fed fed
-  upper_more e v value len high = rw (e, value)
+  upper_more e v value len = rw (e, value)
 
   byte_more : is_digit c ≡ true → (v : ℕ) → v ≡ value_of c → (len high b : ℕ) → b ≡ high % 16 * 16 + v % 16
       → (after : List ℕ) → after ≡ with_byte numbers len b → (next : ℕ) → next ≡ cond (ltb len counted) (len + 1) len
-      → numbers_feeds after (bare next false 0) cs ≡ numbers_feeds numbers (bare len true high) (c ∷ cs)
+      → numbers_feeds after (bare next None) cs ≡ numbers_feeds numbers (bare len (Some high)) (c ∷ cs)
   unfolding numbers_feeds numbers_fed fed pushed
   byte_more e v value len high b join after is next step =
-      rw (e, is, joined high c e v value b join, step) (same_numbers cs _ [] _ _ true true false 0)
+      rw (e, is, joined high c e v value b join, step) (same_numbers cs _ [] _ _ true true None)
 
 module _ (numbers s : List ℕ) (i : ℕ) (more : i < length s) where
   abbrev c : ℕ
@@ -92,21 +93,21 @@ module _ (numbers s : List ℕ) (i : ℕ) (more : i < length s) where
   at_character : (f : Frame) → numbers_feeds numbers f (c ∷ drop (i + 1) s) ≡ numbers_feeds numbers f (drop i s)
   at_character f = ap (numbers_feeds numbers f) (rw add-one (sym (drop-cons s i 0 more)))
 
-  pub past_other : is_digit c ≡ false → (len : ℕ) (half : Bool) (high : ℕ) → numbers_feeds numbers (bare len half high) (drop (i + 1) s) ≡ numbers_feeds numbers (bare len half high) (drop i s)
-  past_other e len half high = other_more numbers c (drop (i + 1) s) e len half high ∙ at_character (bare len half high)
+  pub past_other : is_digit c ≡ false → (len : ℕ) (upper : Option ℕ) → numbers_feeds numbers (bare len upper) (drop (i + 1) s) ≡ numbers_feeds numbers (bare len upper) (drop i s)
+  past_other e len upper = other_more numbers c (drop (i + 1) s) e len upper ∙ at_character (bare len upper)
 
-  module _ (digit : is_digit c ≡ true) (v : ℕ) (value : v ≡ value_of c) (len : ℕ) (half : Bool) (high : ℕ) where
-    pub past_upper : half ≡ false → numbers_feeds numbers (bare len true v) (drop (i + 1) s) ≡ numbers_feeds numbers (bare len half high) (drop i s)
-    past_upper e = rw e (upper_more numbers c (drop (i + 1) s) digit v value len high ∙ at_character (bare len false high))
+  module _ (digit : is_digit c ≡ true) (v : ℕ) (value : v ≡ value_of c) (len : ℕ) (upper : Option ℕ) where
+    pub past_upper : upper ≡ None → numbers_feeds numbers (bare len (Some v)) (drop (i + 1) s) ≡ numbers_feeds numbers (bare len upper) (drop i s)
+    past_upper e = rw e (upper_more numbers c (drop (i + 1) s) digit v value len ∙ at_character (bare len None))
 
-    module _ (e : half ≡ true) (b : ℕ) (join : b ≡ high % 16 * 16 + v % 16) (after : List ℕ) (is : after ≡ with_byte numbers len b) where
-      pub past_counted : len < counted → numbers_feeds after (bare (len + 1) false 0) (drop (i + 1) s) ≡ numbers_feeds numbers (bare len half high) (drop i s)
+    module _ (high : ℕ) (e : upper ≡ Some high) (b : ℕ) (join : b ≡ high % 16 * 16 + v % 16) (after : List ℕ) (is : after ≡ with_byte numbers len b) where
+      pub past_counted : len < counted → numbers_feeds after (bare (len + 1) None) (drop (i + 1) s) ≡ numbers_feeds numbers (bare len upper) (drop i s)
       past_counted h =
-          rw e (byte_more numbers c (drop (i + 1) s) digit v value len high b join after is (len + 1) (rw (lt-ltb _ _ h)) ∙ at_character (bare len true high))
+          rw e (byte_more numbers c (drop (i + 1) s) digit v value len high b join after is (len + 1) (rw (lt-ltb _ _ h)) ∙ at_character (bare len (Some high)))
 
-      pub past_uncounted : counted ≤ len → numbers_feeds after (bare len false 0) (drop (i + 1) s) ≡ numbers_feeds numbers (bare len half high) (drop i s)
+      pub past_uncounted : counted ≤ len → numbers_feeds after (bare len None) (drop (i + 1) s) ≡ numbers_feeds numbers (bare len upper) (drop i s)
       past_uncounted h =
-          rw e (byte_more numbers c (drop (i + 1) s) digit v value len high b join after is len (rw (le-ltb _ _ h)) ∙ at_character (bare len true high))
+          rw e (byte_more numbers c (drop (i + 1) s) digit v value len high b join after is len (rw (le-ltb _ _ h)) ∙ at_character (bare len (Some high)))
 
 pub numbers_end : (numbers : List ℕ) (f : Frame) (s : List ℕ) (i : ℕ) → length s ≤ i → numbers ≡ numbers_feeds numbers f (drop i s)
 unfolding numbers_feeds

@@ -21,14 +21,12 @@ fn line_end(sheet: &[u8], at: usize) -> usize
     requires { at ≤ length sheet.now }
     ensures { result ≡ at + length (line_of (drop at sheet.now)) }
 {
-    let mut i = at;
-    while i < sheet.len() {
+    for i in at..sheet.len() {
         if sheet[i] == LINE_FEED {
             return i;
         }
-        i += 1;
     }
-    i
+    sheet.len()
 }
 
 // The line that starts at `at`, without its LF. Past the sheet's end it is empty.
@@ -51,8 +49,7 @@ pub fn empty_frame() -> Frame
         first: [0u8; KEPT],
         len: 0,
         sound: true,
-        half: false,
-        high: 0,
+        upper: None,
     }
 }
 
@@ -63,37 +60,30 @@ pub fn more(f: Frame, piece: &[u8]) -> Frame
     let mut first = f.first;
     let mut len = f.len;
     let mut sound = f.sound;
-    let mut half = f.half;
-    let mut high = f.high;
-    let mut i: usize = 0;
-    while i < piece.len() {
-        let c = piece[i];
-        i += 1;
+    let mut upper = f.upper;
+    for &c in piece {
         if !is_digit(c) {
             sound = false;
             continue;
         }
         let v = value_of(c);
-        if !half {
-            half = true;
-            high = v;
+        let Some(high) = upper else {
+            upper = Some(v);
             continue;
-        }
-        half = false;
+        };
+        upper = None;
         if len < KEPT {
             first[len] = byte_of(high, v);
             len += 1;
         } else if len < COUNTED {
             len += 1;
         }
-        high = 0;
     }
     Frame {
         first,
         len,
         sound,
-        half,
-        high,
+        upper,
     }
 }
 
@@ -136,27 +126,21 @@ pub fn more_numbers(f: Frame, piece: &[u8], numbers: &mut [u32])
     ensures { numbers.new ≡ numbers_feeds numbers.old f piece.now }
 {
     let mut len = f.len;
-    let mut second = f.half;
-    let mut upper = f.high;
-    let mut i: usize = 0;
-    while i < piece.len() {
-        let c = piece[i];
-        i += 1;
+    let mut half = f.upper;
+    for &c in piece {
         if !is_digit(c) {
             continue;
         }
         let v = value_of(c);
-        if !second {
-            second = true;
-            upper = v;
+        let Some(high) = half else {
+            half = Some(v);
             continue;
-        }
-        second = false;
-        put_byte(numbers, len, byte_of(upper, v));
+        };
+        half = None;
+        put_byte(numbers, len, byte_of(high, v));
         if len < COUNTED {
             len += 1;
         }
-        upper = 0;
     }
 }
 
@@ -177,15 +161,13 @@ pub fn numbers_on(line: &[u8]) -> [u32; ROW_NUMBERS]
     ensures { result ≡ numbers_on (bytes_of line.now) }
 {
     let mut numbers = [0u32; ROW_NUMBERS];
-    let mut k: usize = 0;
-    while k < ROW_NUMBERS {
+    for k in 0..ROW_NUMBERS {
         let i = 3 + 2 * k;
         if line.len() <= 2 * i + 1 {
             return numbers;
         }
         let high = byte(line, i);
         numbers[k] = high * 256 + byte(line, i + 1);
-        k += 1;
     }
     numbers
 }

@@ -9,7 +9,7 @@ use lib.ListN.{get_or}
 use borrow.Author.Tests.{eqb-false, ltb-false}
 use Rattle.model.specs.declared.Chain.{Chain}
 use Rattle.model.specs.declared.Grid.{Grid}
-use Rattle.model.specs.declared.Verdict.TheVariants as verdict
+use Rattle.std.specs.Prelude.{Ok}
 use Rattle.model.specs.Lists.{tabulate, any}
 use Rattle.model.specs.Grounds.Ground.{rectangle}
 use Rattle.model.specs.Values.{sizes_of, rows_of, ground_of, dims_of, order_of, trimmed}
@@ -94,7 +94,7 @@ pub record Accepted (c : Chain) (rows : List ℕ) : Type 0 where
   pub factors : bad_factor c.kernel ≡ false
   pub once : bad_order c.window.count (order_of c.window.count c.order) ≡ false
 
-pub accepted_chain : (c : Chain) (rows : List ℕ) → judge_chain c rows ≡ verdict.Accepted → Accepted c rows
+pub accepted_chain : (c : Chain) (rows : List ℕ) → judge_chain c rows ≡ Ok tt → Accepted c rows
 unfolding judge_chain judged trimmed bad_count
 accepted_chain c rows h =
     let p = value_passes (trimmed c rows) h in

@@ -12,10 +12,10 @@ use Rattle.model.specs.declared.Last.{Last}
 use Rattle.model.specs.declared.Last.TheVariants as stood
 use Rattle.model.specs.declared.Reading.{Reading}
 use Rattle.model.specs.declared.Refusal.{Refusal}
-use Rattle.model.specs.declared.Verdict.TheVariants as verdict
+use Rattle.std.specs.Prelude.{Ok, Err}
 use Rattle.model.specs.Lists.{any}
 use Rattle.model.specs.Values.{rows_of, dims_of}
-use Rattle.model.specs.Answers.{Check, check, first_of, by_verdict}
+use Rattle.model.specs.Answers.{Verdict, Check, check, first_of, by_verdict}
 use Rattle.model.specs.Judging.{bad_dims, bad_sizes, bad_row, bad_row_count}
 use Rattle.model_sheet.specs.Frames.{Seen}
 use Rattle.model_sheet.specs.Numbers.{byte_at}
@@ -26,11 +26,11 @@ use Rattle.model_sheet.specs.Reading.{taken, with_grid, with_rows, with_offset, 
 use Rattle.sheet_laws.proofs.Cases.{by_eq, never, of_kind, both, neither, or-false}
 
 -- A refusal is no acceptance.
-pub refused_accepted : {r : Refusal} → verdict.Refused r ≡ verdict.Accepted → ⊥
+pub refused_accepted : {r : Refusal} → ◌≡◌ {A = Verdict} (Err r) (Ok tt) → ⊥
 refused_accepted h = never (ap (λ v. by_verdict v false (λ x. true)) h)
 
 -- Where nothing is answered, the first condition does not hold, nor does any other.
-pub clear : (b : Bool) (r : Refusal) (cs : List Check) → first_of (check b r ∷ cs) ≡ verdict.Accepted → (b ≡ false) × (first_of cs ≡ verdict.Accepted)
+pub clear : (b : Bool) (r : Refusal) (cs : List Check) → first_of (check b r ∷ cs) ≡ Ok tt → (b ≡ false) × (first_of cs ≡ Ok tt)
 unfolding first_of
 clear true r cs h = absurd (refused_accepted h)
 clear false r cs h = (refl, h)
@@ -293,7 +293,7 @@ module _ (len kind second row_count dims count : ℕ) (h : bad_length len kind s
   unfolding bad_length
   box_length e = eqb-true len _ (not-false _ (rw e at h))
 
-pub admitted : (chain_sheet : Bool) (rows : List ℕ) (r : Reading) (l : Seen) → line_verdict chain_sheet rows r l ≡ verdict.Accepted → (l.sound ≡ true) × Admitted chain_sheet rows r l
+pub admitted : (chain_sheet : Bool) (rows : List ℕ) (r : Reading) (l : Seen) → line_verdict chain_sheet rows r l ≡ Ok tt → (l.sound ≡ true) × Admitted chain_sheet rows r l
 unfolding line_verdict line_checks
 admitted chain_sheet rows r l h =
     let form = clear _ _ _ h in

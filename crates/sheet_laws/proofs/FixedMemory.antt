@@ -9,10 +9,9 @@ use borrow.Author.Tests.{eq-eqb, ne_eqb, le-ltb}
 use Rattle.model.specs.declared.Reading.{Reading}
 use Rattle.model.specs.declared.Refusal.{Refusal}
 use Rattle.model.specs.declared.Refusal.TheVariants as refusal
-use Rattle.model.specs.declared.Verdict.{Verdict}
-use Rattle.model.specs.declared.Verdict.TheVariants as verdict
+use Rattle.std.specs.Prelude.{Ok, Err}
 use Rattle.model.specs.Values.{dims_of}
-use Rattle.model.specs.Answers.{Check, check, first_of, by_verdict}
+use Rattle.model.specs.Answers.{Verdict, Check, check, first_of, by_verdict}
 use Rattle.model.specs.Judging.{bad_dims, bad_row_count}
 use Rattle.model_sheet.specs.Frames.{counted, Seen, seen_of, empty_frame, feeds, shown}
 use Rattle.model_sheet.specs.Numbers.{byte_at, half_at}
@@ -89,11 +88,11 @@ cap_verdict chain_sheet rows r n x h =
     (λ c. rw (cap_malformed true n kind second, c) (behind_fourth _ _ _ refusal.BadRows _ _))
     (λ c. rw (cap_malformed true n kind second, cap_length n kind second row_count (dims_of r.chain.grid) r.chain.window.count h.dims h.count b c)))
 
-pub unsound_verdict : (chain_sheet : Bool) (rows : List ℕ) (r : Reading) (l : Seen) → l.sound ≡ false → line_verdict chain_sheet rows r l ≡ verdict.Refused refusal.Malformed
+pub unsound_verdict : (chain_sheet : Bool) (rows : List ℕ) (r : Reading) (l : Seen) → l.sound ≡ false → line_verdict chain_sheet rows r l ≡ Err refusal.Malformed
 unfolding line_verdict line_checks malformed first_of
 unsound_verdict chain_sheet rows r l h = rw h
 
-pub unsound_cell : (l : Seen) → l.sound ≡ false → cell_verdict l ≡ verdict.Refused refusal.Malformed
+pub unsound_cell : (l : Seen) → l.sound ≡ false → cell_verdict l ≡ Err refusal.Malformed
 unfolding cell_verdict malformed first_of
 unsound_cell l h = rw h
 
@@ -116,7 +115,7 @@ fixed_memory_cell ds =
 
 -- A line without its LF is turned back by 1.
 pub no_line_feed : (chain_sheet : Bool) (rows : List ℕ) (r : Reading) (ds : List ℕ)
-    → step_of chain_sheet rows r (seen_of false ds) ≡ record { verdict = verdict.Refused refusal.Malformed; reading = r }
+    → step_of chain_sheet rows r (seen_of false ds) ≡ record { verdict = Err refusal.Malformed; reading = r }
 unfolding step_of
 no_line_feed chain_sheet rows r ds = rw (unsound_verdict chain_sheet rows r (seen_of false ds) refl)
 
@@ -136,5 +135,5 @@ keeps_bounded chain_sheet rows r l h = go (line_verdict chain_sheet rows r l) re
     by (name e last request len ok) = rw (taken_name _ _ e) (record { dims = h.dims; count = few_references (byte_at l.first 1) })
 
     go : (v : Verdict) → line_verdict chain_sheet rows r l ≡ v → Bounded (by_verdict v (taken r l.first) (λ x. r))
-    go verdict.Accepted e = by (admitted chain_sheet rows r l e).1
-    go (verdict.Refused x) e = h
+    go (Ok _) e = by (admitted chain_sheet rows r l e).1
+    go (Err x) e = h

@@ -10,8 +10,9 @@ use lib.ListN.{length, take, set, replicate, length-append}
 use lib.Seq.{take-set-lt, set_at, take-append-add, take-append-le}
 use borrow.Author.Tests.{lt-ltb, le-ltb, le-leb, lt-leb}
 use Rattle.model.specs.declared.Frame.{Frame}
-use Rattle.model_sheet.specs.Frames.{is_digit, value_of, whole, bytes_of, kept, counted, padded, Seen, seen_of, empty_frame, pushed, fed, feeds, shown}
+use Rattle.model_sheet.specs.Frames.{with_digit, is_digit, value_of, whole, bytes_of, kept, counted, padded, Seen, seen_of, empty_frame, pushed, fed, feeds, shown}
 use Rattle.sheet_laws.proofs.Cases.{by_bool, by_lt, never, and_true}
+use Rattle.std.specs.Prelude.{Option, None, Some}
 
 -- A number of bytes, counted no further than a frame does.
 unfoldable pub capped : ℕ → ℕ
@@ -27,7 +28,7 @@ capped_many n h = rw (le-ltb _ _ h)
 
 -- The frame that has taken these bytes.
 abbrev pub standing : List ℕ → Frame
-standing bs = record { first = padded bs; len = capped (length bs); sound = true; half = false; high = 0 }
+standing bs = record { first = padded bs; len = capped (length bs); sound = true; upper = None }
 
 pub none_taken_lem : standing [] ≡ empty_frame
 unfolding padded capped
@@ -61,10 +62,9 @@ pad_full bs b h =
     ∙ sym (take-append-le kept bs ((b ∷ []) ++ zeros kept) h)
     ∙ ap (take kept) (sym (append_assoc bs (b ∷ []) (zeros kept)))
 
-push : (bs : List ℕ) (b : ℕ) (half : Bool) (high : ℕ)
-    → pushed (record { first = padded bs; len = capped (length bs); sound = true; half = half; high = high }) b ≡ standing (bs ++ (b ∷ []))
+push : (bs : List ℕ) (b : ℕ) (upper : Option ℕ) → pushed (record { first = padded bs; len = capped (length bs); sound = true; upper = upper }) b ≡ standing (bs ++ (b ∷ []))
 unfolding pushed
-push bs b half high =
+push bs b upper =
     let more : length (bs ++ (b ∷ [])) ≡ length bs + 1 = length-append bs (b ∷ []) in
     by_lt (length bs) kept
     (λ s. let f : length bs < counted = omega arith in
@@ -88,7 +88,7 @@ value_small d h =
 -- Two digits are a byte.
 pub two_digits : (bs : List ℕ) (a b : ℕ) → is_digit a ≡ true → is_digit b ≡ true → fed (fed (standing bs) a) b ≡ standing (bs ++ ((value_of a * 16 + value_of b) ∷ []))
 unfolding fed
-two_digits bs a b p q = rw (p, q, mod-eq_of_lt (value_small a p)) (push bs _ true (value_of a))
+two_digits bs a b p q = rw (p, q, mod-eq_of_lt (value_small a p)) (push bs _ (Some (value_of a)))
 
 -- A frame that is not sound stays so, and another character makes it so.
 either : (t : Bool) (f g : Frame) → f.sound ≡ false → g.sound ≡ false → (cond t f g).sound ≡ false
@@ -97,7 +97,11 @@ either false f g p q = q
 
 stays_unsound : (f : Frame) (d : ℕ) → f.sound ≡ false → (fed f d).sound ≡ false
 unfolding fed pushed
-stays_unsound f d h = either (is_digit d) _ _ (either f.half _ _ h h) refl
+stays_unsound f d h = either (is_digit d) _ _ (digit f.upper) refl
+  where
+    digit : (upper : Option ℕ) → (with_digit f upper (value_of d)).sound ≡ false
+    digit None = h
+    digit (Some high) = h
 
 unsound : (f : Frame) (ds : List ℕ) → f.sound ≡ false → (feeds f ds).sound ≡ false
 unfolding feeds
@@ -129,7 +133,7 @@ unsound_unwhole : (f : Frame) → f.sound ≡ false → Unwhole f
 unfolding Unwhole
 unsound_unwhole f h = rw h
 
-half_unwhole : (f : Frame) (d : ℕ) → is_digit d ≡ true → f.half ≡ false → Unwhole (fed f d)
+half_unwhole : (f : Frame) (d : ℕ) → is_digit d ≡ true → f.upper ≡ None → Unwhole (fed f d)
 unfolding fed Unwhole
 half_unwhole f d p h = rw (p, h) (and-false f.sound)
   where

@@ -11,7 +11,7 @@ use lib.Seq.{set_out, get_or-set_same, get_or-set_other, get_or-append_seam}
 use borrow.Author.Tests.{le-leb, lt-leb, eq-eqb, ne_eqb}
 use Rattle.model.specs.declared.Frame.{Frame}
 use Rattle.model.specs.declared.Reading.{Reading}
-use Rattle.model.specs.declared.Verdict.TheVariants as verdict
+use Rattle.std.specs.Prelude.{Ok}
 use Rattle.model.specs.Lists.{tabulate}
 use Rattle.model_sheet.specs.Frames.{is_digit, value_of, whole, bytes_of, counted, Seen, seen_of, empty_frame, fed, feeds, shown, row_numbers, with_half, numbers_fed, numbers_feeds}
 use Rattle.model_sheet.specs.Numbers.{byte_at, half_at}
@@ -154,7 +154,7 @@ numbers_step chain_sheet r ds few =
 
 -- Where it is accepted, they are its own.
 pub numbers_accepted : (chain_sheet : Bool) (numbers : List ℕ) (r : Reading) (ds : List ℕ)
-    → line_verdict chain_sheet numbers r (shown (feeds empty_frame ds)) ≡ verdict.Accepted
+    → line_verdict chain_sheet numbers r (shown (feeds empty_frame ds)) ≡ Ok tt
     → numbers_feeds (replicate row_numbers 0) empty_frame ds ≡ numbers_on (bytes_of ds)
 numbers_accepted chain_sheet numbers r ds e =
     by_bool (whole ds)

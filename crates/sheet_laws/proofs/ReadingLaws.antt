@@ -12,7 +12,7 @@ use Rattle.model.specs.declared.Reading.{Reading}
 use Rattle.model.specs.declared.LineStep.{LineStep}
 use Rattle.model.specs.declared.Refusal.{Refusal}
 use Rattle.model.specs.declared.Refusal.TheVariants as refusal
-use Rattle.model.specs.declared.Verdict.TheVariants as verdict
+use Rattle.std.specs.Prelude.{Ok, Err}
 use Rattle.model_sheet.specs.Lines.{Line, line_of, lines_of}
 use Rattle.model_sheet.specs.Frames.{seen_of, empty_frame, feeds, shown}
 use Rattle.model_sheet.specs.Reading.{step_of, read_lines}
@@ -25,11 +25,11 @@ step_at chain_sheet rows r l = step_of chain_sheet rows r (seen_of l.ended l.cha
 
 -- A line that is turned back, and one that is not.
 module _ (chain_sheet : Bool) (rows : List ℕ) (r : Reading) (l : Line) (ls : List Line) where
-  pub line_stops : (x : Refusal) → (step_at chain_sheet rows r l).verdict ≡ verdict.Refused x → step_at chain_sheet rows r l ≡ read_lines chain_sheet rows r (l ∷ ls)
+  pub line_stops : (x : Refusal) → (step_at chain_sheet rows r l).verdict ≡ Err x → step_at chain_sheet rows r l ≡ read_lines chain_sheet rows r (l ∷ ls)
   unfolding read_lines
   line_stops x e = rw e
 
-  pub line_goes : (step_at chain_sheet rows r l).verdict ≡ verdict.Accepted → read_lines chain_sheet rows (step_at chain_sheet rows r l).reading ls ≡ read_lines chain_sheet rows r (l ∷ ls)
+  pub line_goes : (step_at chain_sheet rows r l).verdict ≡ Ok tt → read_lines chain_sheet rows (step_at chain_sheet rows r l).reading ls ≡ read_lines chain_sheet rows r (l ∷ ls)
   unfolding read_lines
   line_goes e = rw e
 
@@ -38,7 +38,7 @@ abbrev pub read_from : Bool → (rows : List ℕ) → (sheet : List ℕ) → Rea
 read_from chain_sheet rows sheet r at = read_lines chain_sheet rows r (lines_of (drop at sheet))
 
 module _ (chain_sheet : Bool) (rows : List ℕ) (s : List ℕ) (r : Reading) (at : ℕ) where
-  pub read_to_end : length s ≤ at → record { verdict = verdict.Accepted; reading = r } ≡ read_from chain_sheet rows s r at
+  pub read_to_end : length s ≤ at → record { verdict = Ok tt; reading = r } ≡ read_from chain_sheet rows s r at
   unfolding read_lines lines_of
   read_to_end h = rw (drop_of_length-le s {i = at} h)
 
@@ -56,10 +56,10 @@ module _ (chain_sheet : Bool) (rows : List ℕ) (s : List ℕ) (r : Reading) (at
         ∙ ap (λ t. first_line rest ∷ lines_of t) (drop-drop (suc (length (line_of rest))) at s ∙ ap (λ i. drop i s) e)
 
     -- The line has no LF.
-    pub last_unended : at + length (line_of rest) ≡ length s → record { verdict = verdict.Refused refusal.Malformed; reading = r } ≡ read_from chain_sheet rows s r at
+    pub last_unended : at + length (line_of rest) ≡ length s → record { verdict = Err refusal.Malformed; reading = r } ≡ read_from chain_sheet rows s r at
     last_unended e =
         let q : ltb (length (line_of rest)) (length rest) ≡ false = le-ltb (length (line_of rest)) (length rest) (omega (arith, length-drop at s)) in
-        let t : step_at chain_sheet rows r (first_line rest) ≡ record { verdict = verdict.Refused refusal.Malformed; reading = r } =
+        let t : step_at chain_sheet rows r (first_line rest) ≡ record { verdict = Err refusal.Malformed; reading = r } =
         ap (λ b. step_of chain_sheet rows r (seen_of b (line_of rest))) q ∙ no_line_feed chain_sheet rows r (line_of rest) in
         sym t
         ∙ line_stops chain_sheet rows r (first_line rest) (lines_of (drop next s)) refusal.Malformed (ap (λ u. u.verdict) t)
@@ -73,13 +73,13 @@ module _ (chain_sheet : Bool) (rows : List ℕ) (s : List ℕ) (r : Reading) (at
           let q : ltb (length (line_of rest)) (length rest) ≡ true = lt-ltb (length (line_of rest)) (length rest) (omega (arith, length-drop at s)) in
           is ∙ fixed_memory chain_sheet rows r (line_of rest) few ∙ ap (λ b. step_of chain_sheet rows r (seen_of b (line_of rest))) (sym q)
 
-      pub turned_back_lem : (x : Refusal) → st.verdict ≡ verdict.Refused x → st ≡ read_from chain_sheet rows s r at
+      pub turned_back_lem : (x : Refusal) → st.verdict ≡ Err x → st ≡ read_from chain_sheet rows s r at
       turned_back_lem x e =
           same
           ∙ line_stops chain_sheet rows r (first_line rest) (lines_of (drop next s)) x (ap (λ t. t.verdict) (sym same) ∙ e)
           ∙ ap (read_lines chain_sheet rows r) (sym split)
 
-      pub onward : st.verdict ≡ verdict.Accepted → read_from chain_sheet rows s st.reading next ≡ read_from chain_sheet rows s r at
+      pub onward : st.verdict ≡ Ok tt → read_from chain_sheet rows s st.reading next ≡ read_from chain_sheet rows s r at
       onward e =
           ap (λ t. read_from chain_sheet rows s t.reading next) same
           ∙ line_goes chain_sheet rows r (first_line rest) (lines_of (drop next s)) (ap (λ t. t.verdict) (sym same) ∙ e)

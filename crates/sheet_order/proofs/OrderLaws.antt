@@ -2,13 +2,14 @@
 use Prim.Native.Nat.{ℕ}
 use mathlib.Core.Bool.{Bool, true, false, not, ◌||◌}
 use mathlib.Core.List.{List, [], ◌∷◌}
-use mathlib.Core.Path.{◌≡◌, refl, sym, ap, ◌∙◌}
+use mathlib.Core.Path.{◌≡◌, refl, sym, ap, ap₂, ◌∙◌}
 use lib.Dec.{eqb}
+use Rattle.std.specs.List.{list_any}
 use borrow.Author.Tests.{eq-eqb, ne_eqb}
 use Rattle.model.specs.declared.Last.{Last}
 use Rattle.model.specs.Lists.{any}
 use Rattle.model_sheet.specs.Reading.{next_in_request, next_in_chain, miscounted, among, misplaced}
-use Rattle.sheet_laws.proofs.Cases.{never}
+use Rattle.sheet_laws.proofs.Cases.{by_eq, never}
 
 module _ (kind k : ℕ) where
   pub one_left : eqb kind k ≡ among kind (k ∷ [])
@@ -19,13 +20,13 @@ module _ (kind k : ℕ) where
       go true = refl
       go false = refl
 
-  pub is_first : (ks : List ℕ) → kind ≡ k → true ≡ among kind (k ∷ ks)
-  unfolding among any
-  is_first ks e = rw (eq-eqb _ _ e)
+  same_test : eqb k kind ≡ eqb kind k
+  same_test = by_eq k kind (λ e. rw (eq-eqb k kind e, eq-eqb kind k (sym e))) (λ n. rw (ne_eqb k kind n, ne_eqb kind k (λ e. n (sym e))))
 
-  pub not_first : (ks : List ℕ) {b : Bool} → (kind ≡ k → ⊥) → b ≡ among kind ks → b ≡ among kind (k ∷ ks)
-  unfolding among any
-  not_first ks n e = rw (ne_eqb _ _ n) e
+pub any_left : (kind : ℕ) (ks : List ℕ) → list_any (λ (k : ℕ). eqb k kind) ks ≡ among kind ks
+unfolding among any
+any_left kind [] = refl
+any_left kind (k ∷ ks) = ap₂ ◌||◌ (same_test kind k) (any_left kind ks)
 
 module _ (last : Last) (given count kind : ℕ) where
   pub in_request : (chained : Bool) {b : Bool} → chained ≡ false → b ≡ among kind (next_in_request last) → not b ≡ misplaced chained last given count kind

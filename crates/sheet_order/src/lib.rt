@@ -2,28 +2,16 @@
 
 #![tactic(auto)]
 
-ghost use Rattle.std.specs.Prelude.{◌≡◌, [], ◌∷◌};
+ghost use Rattle.std.specs.Prelude.{◌≡◌};
 ghost use Rattle.model_sheet.specs.Reading.{next_in_request, next_in_chain, miscounted, among, misplaced};
 
 use model::Last;
 
-// A line's kind is one of two, and one of three.
-fn of_two(kind: u8, a: u8, b: u8) -> bool
-    ensures { result ≡ among kind (a ∷ b ∷ []) }
+// A line's kind is one of these.
+fn among(kind: u8, kinds: &[u8]) -> bool
+    ensures { result ≡ among kind kinds.now }
 {
-    if kind == a {
-        return true;
-    }
-    kind == b
-}
-
-fn of_three(kind: u8, a: u8, b: u8, c: u8) -> bool
-    ensures { result ≡ among kind (a ∷ b ∷ c ∷ []) }
-{
-    if kind == a {
-        return true;
-    }
-    of_two(kind, b, c)
+    kinds.contains(&kind)
 }
 
 // What may come next, by what stood last: in a request sheet,
@@ -31,10 +19,10 @@ fn comes_in_request(last: Last, kind: u8) -> bool
     ensures { result ≡ among kind (next_in_request last) }
 {
     match last {
-        Last::Nothing => of_two(kind, 1, 9),
-        Last::Grid => of_two(kind, 2, 7),
-        Last::Offset => of_three(kind, 2, 8, 4),
-        Last::Name => of_two(kind, 8, 4),
+        Last::Nothing => among(kind, &[1, 9]),
+        Last::Grid => among(kind, &[2, 7]),
+        Last::Offset => among(kind, &[2, 8, 4]),
+        Last::Name => among(kind, &[8, 4]),
         Last::Box => kind == 4,
         Last::Capacity => false,
         Last::Order => false,
@@ -47,20 +35,12 @@ fn comes_in_chain(last: Last, kind: u8) -> bool
     ensures { result ≡ among kind (next_in_chain last) }
 {
     match last {
-        Last::Nothing => of_two(kind, 1, 9),
+        Last::Nothing => among(kind, &[1, 9]),
         Last::Grid => kind == 2,
-        Last::Offset => {
-            if kind == 2 {
-                return true;
-            }
-            if kind == 8 {
-                return true;
-            }
-            of_three(kind, 3, 6, 4)
-        }
+        Last::Offset => among(kind, &[2, 8, 3, 6, 4]),
         Last::Name => false,
-        Last::Box => of_three(kind, 3, 6, 4),
-        Last::Capacity => of_three(kind, 3, 6, 4),
+        Last::Box => among(kind, &[3, 6, 4]),
+        Last::Capacity => among(kind, &[3, 6, 4]),
         Last::Order => kind == 4,
         Last::Kernel => false,
     }

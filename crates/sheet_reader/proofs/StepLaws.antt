@@ -6,14 +6,14 @@ use mathlib.Core.Path.{◌≡◌, sym, ◌∙◌}
 use native.Mathlib.Omega.{arith}
 use Rattle.model.specs.declared.Reading.{Reading}
 use Rattle.model.specs.declared.Refusal.{Refusal}
-use Rattle.model.specs.declared.Verdict.TheVariants as verdict
+use Rattle.std.specs.Prelude.{Ok, Err}
 use Rattle.model_sheet.specs.Frames.{Seen}
 use Rattle.model_sheet.specs.Reading.{line_verdict, taken, step_of}
 use Rattle.sheet_laws.proofs.AcceptedLines.{Admitted, admitted}
 use Rattle.sheet_laws.proofs.AcceptedLines.Admitted.{grid, skewed_grid, offset, capacity, order, kernel, name, box}
 use Rattle.sheet_reader.specs.Room.{Room}
 
-pub accepted_room : (chained : Bool) (rows : List ℕ) (r : Reading) (l : Seen) → line_verdict chained rows r l ≡ verdict.Accepted → Room r l.first
+pub accepted_room : (chained : Bool) (rows : List ℕ) (r : Reading) (l : Seen) → line_verdict chained rows r l ≡ Ok tt → Room r l.first
 accepted_room chained rows r l h = go (admitted chained rows r l h).1
   where
     other : {kind a b : ℕ} → kind ≡ a → kind ≡ b → (a ≡ b → ⊥) → ⊥
@@ -30,11 +30,11 @@ accepted_room chained rows r l h = go (admitted chained rows r l h).1
     go (kernel e last given form) = record { offset = λ z. absurd (other e z (λ y. omega arith)); capacity = λ z. absurd (other e z (λ y. omega arith)) }
 
 module _ (chained : Bool) (rows : List ℕ) (r : Reading) (l : Seen) where
-  pub step_accepted : (t : Reading) → line_verdict chained rows r l ≡ verdict.Accepted → t ≡ taken r l.first
-      → record { verdict = verdict.Accepted; reading = t } ≡ step_of chained rows r l
+  pub step_accepted : (t : Reading) → line_verdict chained rows r l ≡ Ok tt → t ≡ taken r l.first
+      → record { verdict = Ok tt; reading = t } ≡ step_of chained rows r l
   unfolding step_of
   step_accepted t e q = rw (e, q)
 
-  pub step_refused : (x : Refusal) → line_verdict chained rows r l ≡ verdict.Refused x → record { verdict = verdict.Refused x; reading = r } ≡ step_of chained rows r l
+  pub step_refused : (x : Refusal) → line_verdict chained rows r l ≡ Err x → record { verdict = Err x; reading = r } ≡ step_of chained rows r l
   unfolding step_of
   step_refused x e = rw e

@@ -9,7 +9,7 @@ ghost use Rattle.model_sheet.specs.Reading.{with_grid, with_rows, with_offset, w
 ghost use Rattle.model_sheet.specs.Reading.{with_kernel, taken, step_of, start, complete, read_lines};
 ghost use Rattle.sheet_reader.specs.Room.{Room};
 
-use model::{Bounds, Frame, Grid, KEPT, Last, LineStep, Order, Reading, Refusal, Verdict, Window};
+use model::{Bounds, Frame, Grid, KEPT, Last, LineStep, Order, Reading, Refusal, Window};
 use values::blank_chain;
 
 // Before the first line.
@@ -62,20 +62,16 @@ fn with_offset(r: Reading, x: [u8; KEPT]) -> Reading
     requires { r.chain.window.count < 32 }
     ensures { result ≡ with_offset r x }
 {
-    let c = r.chain;
-    let w = c.window;
-    let count = w.count;
-    let old = w.offsets;
-    let offsets = sheet_windows::set_offset(old, count, sheet_fields::entries_in(x));
-    let next = count + 1;
+    let w = r.chain.window;
+    let offsets = sheet_windows::set_offset(w.offsets, w.count, sheet_fields::entries_in(x));
     let window = Window {
-        count: next,
+        count: w.count + 1,
         offsets,
     };
     Reading {
         last: Last::Offset,
         given: r.given,
-        chain: values::set_window(c, window),
+        chain: values::set_window(r.chain, window),
     }
 }
 
@@ -121,22 +117,22 @@ fn with_capacity(r: Reading, x: [u8; KEPT]) -> Reading
     requires { r.given + 1 < r.chain.window.count }
     ensures { result ≡ with_capacity r x }
 {
-    let c = r.chain;
-    let old = c.capacities;
-    let capacities = set_capacity(old, r.given as usize, sheet_fields::word_in(x));
+    let capacities = set_capacity(
+        r.chain.capacities,
+        r.given as usize,
+        sheet_fields::word_in(x),
+    );
     Reading {
         last: Last::Capacity,
         given: r.given + 1,
-        chain: values::set_capacities(c, capacities),
+        chain: values::set_capacities(r.chain, capacities),
     }
 }
 
 fn with_order(r: Reading, x: [u8; KEPT]) -> Reading
     ensures { result ≡ with_order r x }
 {
-    let c = r.chain;
-    let window = c.window;
-    let filters = sheet_fields::filters_in(x, window.count);
+    let filters = sheet_fields::filters_in(x, r.chain.window.count);
     let order = Order {
         stood: true,
         filters,
@@ -144,7 +140,7 @@ fn with_order(r: Reading, x: [u8; KEPT]) -> Reading
     Reading {
         last: Last::Order,
         given: r.given,
-        chain: values::set_order(c, order),
+        chain: values::set_order(r.chain, order),
     }
 }
 
@@ -164,29 +160,16 @@ fn accept_line(r: Reading, x: [u8; KEPT]) -> Reading
     requires { Room r x }
     ensures { result ≡ taken r x }
 {
-    let kind = x[0];
-    if kind == 1 {
-        return with_grid(r, x);
+    match x[0] {
+        1 => with_grid(r, x),
+        2 => with_offset(r, x),
+        3 => with_capacity(r, x),
+        6 => with_order(r, x),
+        7 => with_name(r, x),
+        8 => with_box(r, x),
+        9 => with_rows(r, x),
+        _ => with_kernel(r, x),
     }
-    if kind == 2 {
-        return with_offset(r, x);
-    }
-    if kind == 3 {
-        return with_capacity(r, x);
-    }
-    if kind == 6 {
-        return with_order(r, x);
-    }
-    if kind == 7 {
-        return with_name(r, x);
-    }
-    if kind == 8 {
-        return with_box(r, x);
-    }
-    if kind == 9 {
-        return with_rows(r, x);
-    }
-    with_kernel(r, x)
 }
 
 // One line, read. `rows`: the numbers on the sheet's first line, behind its row count.
@@ -195,15 +178,15 @@ pub fn step(chained: bool, rows: &[u32], r: Reading, f: Frame) -> LineStep
 {
     let v = sheet_verdicts::line_verdict(chained, rows, r, f);
     match v {
-        Verdict::Accepted => {
+        Ok(()) => {
             let x = f.first;
             LineStep {
-                verdict: Verdict::Accepted,
+                verdict: Ok(()),
                 reading: accept_line(r, x),
             }
         }
-        Verdict::Refused(n) => LineStep {
-            verdict: Verdict::Refused(n),
+        Err(n) => LineStep {
+            verdict: Err(n),
             reading: r,
         },
     }
@@ -213,17 +196,7 @@ pub fn step(chained: bool, rows: &[u32], r: Reading, f: Frame) -> LineStep
 pub fn is_complete(r: Reading) -> bool
     ensures { result ≡ complete r }
 {
-    let last = r.last;
-    match last {
-        Last::Kernel => true,
-        Last::Nothing => false,
-        Last::Grid => false,
-        Last::Offset => false,
-        Last::Name => false,
-        Last::Box => false,
-        Last::Capacity => false,
-        Last::Order => false,
-    }
+    matches!(r.last, Last::Kernel)
 }
 
 // The lines of a sheet from the top, up to the first that is turned back.
@@ -232,12 +205,13 @@ pub fn read_lines(chained: bool, rows: &[u32], sheet: &[u8]) -> LineStep
 {
     let mut r = begin();
     let mut at: usize = 0;
+    // A line's end says where the next one begins.
     while at < sheet.len() {
         let line = sheet_frames::line(sheet, at);
         let end = at + line.len();
         if end == sheet.len() {
             return LineStep {
-                verdict: Verdict::Refused(Refusal::Malformed),
+                verdict: Err(Refusal::Malformed),
                 reading: r,
             };
         }
@@ -245,21 +219,20 @@ pub fn read_lines(chained: bool, rows: &[u32], sheet: &[u8]) -> LineStep
         let f = sheet_frames::frame(line);
         let v = sheet_verdicts::line_verdict(chained, rows, r, f);
         match v {
-            Verdict::Accepted => {}
-            Verdict::Refused(n) => {
+            Ok(()) => {}
+            Err(n) => {
                 return LineStep {
-                    verdict: Verdict::Refused(n),
+                    verdict: Err(n),
                     reading: r,
                 };
             }
         }
-        let x = f.first;
-        let next = accept_line(r, x);
+        let next = accept_line(r, f.first);
         r = next;
         at = end + 1;
     }
     LineStep {
-        verdict: Verdict::Accepted,
+        verdict: Ok(()),
         reading: r,
     }
 }

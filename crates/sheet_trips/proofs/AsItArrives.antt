@@ -11,11 +11,10 @@ use Rattle.model.specs.declared.LineStep.{LineStep}
 use Rattle.model.specs.declared.Reading.{Reading}
 use Rattle.model.specs.declared.Refusal.{Refusal}
 use Rattle.model.specs.declared.Refusal.TheVariants as refusal
-use Rattle.model.specs.declared.Verdict.{Verdict}
-use Rattle.model.specs.declared.Verdict.TheVariants as verdict
-use Rattle.model.specs.Answers.{by_verdict}
+use Rattle.std.specs.Prelude.{Ok, Err}
+use Rattle.model.specs.Answers.{Verdict, by_verdict}
 use Rattle.model_sheet.specs.Lines.{Line, line_feed, lines_of, into}
-use Rattle.model_sheet.specs.Frames.{is_digit, whole, bytes_of, Seen, seen_of, empty_frame, fed, feeds, shown, row_numbers, numbers_fed, numbers_feeds}
+use Rattle.model_sheet.specs.Frames.{with_character, is_digit, whole, bytes_of, Seen, seen_of, empty_frame, fed, feeds, shown, row_numbers, numbers_fed, numbers_feeds}
 use Rattle.model_sheet.specs.Reading.{numbers_on, taken, with_grid, with_rows, with_offset, with_name, with_box, with_capacity, with_order, with_kernel, step_of, start, read_lines, first_numbers, numbers_in}
 use Rattle.model_sheet.specs.Arriving.{closed, arrives, stood_first, numbers_arrive, Arrived, arrive, finished}
 use Rattle.sheet_laws.proofs.Cases.{by_bool, by_eq, never}
@@ -25,6 +24,7 @@ use Rattle.sheet_laws.proofs.FixedMemory.{Bounded, start_bounded, unsound_verdic
 use Rattle.sheet_laws.proofs.NumbersLaws.{numbers_whole, numbers_pieces, numbers_step}
 use Rattle.sheet_laws.proofs.ReadingLaws.{line_stops, line_goes}
 use Rattle.sheet_trips.specs.Arriving.{AsItArrives, InPieces}
+use Rattle.std.specs.Prelude.{Option, None, Some}
 
 -- One character more.
 abbrev pub more : Bool → Arrived → ℕ → Arrived
@@ -36,21 +36,21 @@ in_pieces chained a [] ys = refl
 in_pieces chained a (x ∷ xs) ys = in_pieces chained (more chained a x) xs ys
 
 -- After a refusal all stays as it is.
-by_refused : {A : Type 0} (v : Verdict) (a : A) (f : Refusal → A) (x : Refusal) → v ≡ verdict.Refused x → by_verdict v a f ≡ f x
+by_refused : {A : Type 0} (v : Verdict) (a : A) (f : Refusal → A) (x : Refusal) → v ≡ Err x → by_verdict v a f ≡ f x
 by_refused v a f x e = rw e
 
-sheet_unmoved : (chained : Bool) (rows : List ℕ) (a : Arriving) (x : Refusal) (b : ℕ) → a.verdict ≡ verdict.Refused x → arrives chained rows a b ≡ a
+sheet_unmoved : (chained : Bool) (rows : List ℕ) (a : Arriving) (x : Refusal) (b : ℕ) → a.verdict ≡ Err x → arrives chained rows a b ≡ a
 unfolding arrives
 sheet_unmoved chained rows a x b e = by_refused a.verdict _ (λ y. a) x e
 
-numbers_unmoved : (rows : List ℕ) (a : Arriving) (x : Refusal) (b : ℕ) → a.verdict ≡ verdict.Refused x → numbers_arrive rows a b ≡ rows
+numbers_unmoved : (rows : List ℕ) (a : Arriving) (x : Refusal) (b : ℕ) → a.verdict ≡ Err x → numbers_arrive rows a b ≡ rows
 unfolding numbers_arrive
 numbers_unmoved rows a x b e = by_refused a.verdict _ (λ y. rows) x e
 
-unmoved : (chained : Bool) (a : Arrived) (x : Refusal) (b : ℕ) → a.sheet.verdict ≡ verdict.Refused x → more chained a b ≡ a
+unmoved : (chained : Bool) (a : Arrived) (x : Refusal) (b : ℕ) → a.sheet.verdict ≡ Err x → more chained a b ≡ a
 unmoved chained a x b e = λ i. record { sheet = sheet_unmoved chained a.rows a.sheet x b e i; rows = numbers_unmoved a.rows a.sheet x b e i }
 
-pub stays : (chained : Bool) (a : Arrived) (x : Refusal) (bs : List ℕ) → a.sheet.verdict ≡ verdict.Refused x → arrive chained a bs ≡ a
+pub stays : (chained : Bool) (a : Arrived) (x : Refusal) (bs : List ℕ) → a.sheet.verdict ≡ Err x → arrive chained a bs ≡ a
 unfolding arrive
 stays chained a x [] e = refl
 stays chained a x (b ∷ bs) e = ap (λ t. arrive chained t bs) (unmoved chained a x b e) ∙ stays chained a x bs e
@@ -91,7 +91,7 @@ some_more (x ∷ p) b = refl
 
 -- In the middle of a line, of which the characters p have arrived.
 abbrev pub midway : Reading → List ℕ → Arriving
-midway r p = record { verdict = verdict.Accepted; reading = r; frame = feeds empty_frame p; begun = some p }
+midway r p = record { verdict = Ok tt; reading = r; frame = feeds empty_frame p; begun = some p }
 
 -- With the numbers that are held there: on the first line those of p; behind it `all`, those of that line.
 abbrev pub held : (all : List ℕ) → Reading → List ℕ → List ℕ
@@ -126,12 +126,12 @@ arrives_feed chained rows r p b e = rw e
 
 numbers_feed : (rows : List ℕ) (r : Reading) (p : List ℕ) (b : ℕ) → b ≡ line_feed → numbers_arrive rows (midway r p) b ≡ rows
 unfolding numbers_arrive numbers_fed is_digit
-numbers_feed rows r p b e = rw e (either (stood_first r.last) (feeds empty_frame p).half _)
+numbers_feed rows r p b e = rw e (either (stood_first r.last) (feeds empty_frame p).upper)
   where
-    either : (first half : Bool) (xs : List ℕ) → cond first (cond (half && false) xs rows) rows ≡ rows
-    either true true xs = refl
-    either true false xs = refl
-    either false half xs = refl
+    either : (first : Bool) (upper : Option ℕ) → cond first (with_character rows (feeds empty_frame p).len upper line_feed) rows ≡ rows
+    either true None = refl
+    either true (Some high) = refl
+    either false upper = refl
 
 step_own : (chained : Bool) (all : List ℕ) (r : Reading) (p : List ℕ) → Bounded r → Own all r p
     → step_of chained (held all r p) r (shown (feeds empty_frame p)) ≡ step_of chained all r (seen_of true p)
@@ -147,7 +147,7 @@ more_feed chained all r p b e few own =
     λ i. record { sheet = s i; rows = numbers_feed (held all r p) r p b e i }
 
 -- Behind a line that is accepted the first line was read, and the numbers are its own.
-pub behind_first : (chained : Bool) (all : List ℕ) (r : Reading) (l : Seen) → (step_of chained all r l).verdict ≡ verdict.Accepted
+pub behind_first : (chained : Bool) (all : List ℕ) (r : Reading) (l : Seen) → (step_of chained all r l).verdict ≡ Ok tt
     → stood_first (step_of chained all r l).reading.last ≡ false
 unfolding step_of stood_first with_grid with_rows with_offset with_name with_box with_capacity with_order with_kernel
 behind_first chained all r l h = rw h (by (admitted chained all r l h).1)
@@ -162,7 +162,7 @@ behind_first chained all r l h = rw h (by (admitted chained all r l h).1)
     by (kernel e last given form) = rw (taken_kernel _ _ e)
     by (name e last request len ok) = rw (taken_name _ _ e)
 
-held_own : (chained : Bool) (all : List ℕ) (r : Reading) (p : List ℕ) → Own all r p → (step_of chained all r (seen_of true p)).verdict ≡ verdict.Accepted → held all r p ≡ all
+held_own : (chained : Bool) (all : List ℕ) (r : Reading) (p : List ℕ) → Own all r p → (step_of chained all r (seen_of true p)).verdict ≡ Ok tt → held all r p ≡ all
 unfolding step_of
 held_own chained all r p own h =
     by_bool (stood_first r.last)
@@ -172,7 +172,7 @@ held_own chained all r p own h =
     (λ e. rw e)
 
 pub more_accepted : (chained : Bool) (all : List ℕ) (r : Reading) (p : List ℕ) (b : ℕ) → b ≡ line_feed → Bounded r → Own all r p
-    → (step_of chained all r (seen_of true p)).verdict ≡ verdict.Accepted
+    → (step_of chained all r (seen_of true p)).verdict ≡ Ok tt
     → more chained (standing all r p) b ≡ standing all (step_of chained all r (seen_of true p)).reading []
 unfolding feeds some
 more_accepted chained all r p b e few own h =
@@ -184,7 +184,7 @@ more_accepted chained all r p b e few own h =
     })
 
 -- At the end of the characters.
-refused : (s : LineStep) (x : Refusal) → s.verdict ≡ verdict.Refused x → finished (closed s) ≡ s
+refused : (s : LineStep) (x : Refusal) → s.verdict ≡ Err x → finished (closed s) ≡ s
 unfolding finished
 refused s x e = rw e
 
@@ -192,13 +192,13 @@ refused s x e = rw e
 abbrev pub Begins : (all : List ℕ) → Reading → List Line → Type 0
 Begins all r ls = stood_first r.last ≡ true → all ≡ first_numbers ls
 
-pub behind_begins : (chained : Bool) (all : List ℕ) (r : Reading) (l : Seen) (ls : List Line) → (step_of chained all r l).verdict ≡ verdict.Accepted
+pub behind_begins : (chained : Bool) (all : List ℕ) (r : Reading) (l : Seen) (ls : List Line) → (step_of chained all r l).verdict ≡ Ok tt
     → Begins all (step_of chained all r l).reading ls
 behind_begins chained all r l ls h = λ e. absurd (never (sym e ∙ behind_first chained all r l h))
 
 record Ends (chained : Bool) (all : List ℕ) (a : Arrived) (bs : List ℕ) (s : LineStep) : Type 0 where
   read : finished (arrive chained a bs).sheet ≡ s
-  rows : s.verdict ≡ verdict.Accepted → (arrive chained a bs).rows ≡ all
+  rows : s.verdict ≡ Ok tt → (arrive chained a bs).rows ≡ all
 
 -- One character more, and the rest behind it.
 ends_on : (chained : Bool) (all : List ℕ) (a c : Arrived) (b : ℕ) (bs : List ℕ) (s t : LineStep) → more chained a b ≡ c → s ≡ t → Ends chained all c bs s → Ends chained all a (b ∷ bs) t
@@ -219,17 +219,17 @@ at_feed chained all r p b bs e few own behind = go s.verdict refl
     s : LineStep
     s = step_of chained all r (seen_of true p)
 
-    back : (x : Refusal) → s.verdict ≡ verdict.Refused x → Ends chained all (record { sheet = closed s; rows = held all r p }) bs s
+    back : (x : Refusal) → s.verdict ≡ Err x → Ends chained all (record { sheet = closed s; rows = held all r p }) bs s
     back x h = record {
       read = ap (λ (a : Arrived). finished a.sheet) (stays chained (record { sheet = closed s; rows = held all r p }) x bs h) ∙ refused s x h;
       rows = λ q. absurd (refused_accepted (sym h ∙ q));
     }
 
     go : (v : Verdict) → s.verdict ≡ v → Ends chained all (standing all r p) (b ∷ bs) (read_lines chained all r (l ∷ lines_of bs))
-    go verdict.Accepted h =
+    go (Ok _) h =
         ends_on chained all (standing all r p) (standing all s.reading []) b bs _ _ (more_accepted chained all r p b e few own h) (line_goes chained all r l (lines_of bs) h)
         (behind s.reading (keeps_bounded chained all r (seen_of true p) few) (behind_begins chained all r (seen_of true p) (lines_of bs) h))
-    go (verdict.Refused x) h =
+    go (Err x) h =
         ends_on chained all (standing all r p) _ b bs _ _ (more_feed chained all r p b e few own) (line_stops chained all r l (lines_of bs) x h) (back x h)
 
 pub lines_feed : (b : ℕ) (bs : List ℕ) → b ≡ line_feed → lines_of (b ∷ bs) ≡ record { chars = []; ended = true } ∷ lines_of bs

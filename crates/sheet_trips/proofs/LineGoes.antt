@@ -13,7 +13,7 @@ use borrow.Author.Tests.{eq-eqb, ne_eqb, lt-leb, ltb-true}
 use Rattle.model.specs.declared.Last.{Last}
 use Rattle.model.specs.declared.Last.TheVariants as stood
 use Rattle.model.specs.declared.Reading.{Reading}
-use Rattle.model.specs.declared.Verdict.TheVariants as verdict
+use Rattle.std.specs.Prelude.{Ok}
 use Rattle.model.specs.Lists.{all, any}
 use Rattle.model.specs.Values.{rows_of, dims_of, with_reference, set_window}
 use Rattle.model.specs.Answers.{first_of}
@@ -44,15 +44,15 @@ module _ (chain_sheet : Bool) (rows : List ℕ) where
       → (eqb (byte_at l.first 0) 9 && any bad_row (rows_of (half_at l.first 1) rows)) ≡ false
       → (eqb (byte_at l.first 0) 2 && leb 32 r.chain.window.count) ≡ false
       → (eqb (byte_at l.first 0) 7 && bad_name (byte_at l.first 1) (dims_of r.chain.grid)) ≡ false
-      → line_verdict chain_sheet rows r l ≡ verdict.Accepted
+      → line_verdict chain_sheet rows r l ≡ Ok tt
   unfolding line_verdict line_checks first_of
   all_clear r l a b c d e f g h i = rw (a, b, c, d, e, f, g, h, i)
 
   -- A line of these bytes takes the reading r to t.
   abbrev pub Goes : Reading → List ℕ → Reading → Type 0
-  Goes r bs t = (line_verdict chain_sheet rows r (line_seen bs) ≡ verdict.Accepted) × (taken r (padded bs) ≡ t)
+  Goes r bs t = (line_verdict chain_sheet rows r (line_seen bs) ≡ Ok tt) × (taken r (padded bs) ≡ t)
 
-  step_goes : (r t : Reading) (bs : List ℕ) → Goes r bs t → step_of chain_sheet rows r (line_seen bs) ≡ record { verdict = verdict.Accepted; reading = t }
+  step_goes : (r t : Reading) (bs : List ℕ) → Goes r bs t → step_of chain_sheet rows r (line_seen bs) ≡ record { verdict = Ok tt; reading = t }
   unfolding step_of
   step_goes r t bs g = rw (g.0, g.1)
 

@@ -15,14 +15,14 @@ use Rattle.model.specs.declared.Last.{Last}
 use Rattle.model.specs.declared.Last.TheVariants as stood
 use Rattle.model.specs.declared.LineStep.{LineStep}
 use Rattle.model.specs.declared.Reading.{Reading}
-use Rattle.model.specs.declared.ReadRequest.{ReadRequest}
+use Rattle.model.specs.declared.Refusal.{Refusal}
 use Rattle.model.specs.declared.Refusal.TheVariants as refusal
-use Rattle.model.specs.declared.Verdict.{Verdict}
-use Rattle.model.specs.declared.Verdict.TheVariants as verdict
+use Rattle.model.specs.declared.Request.{Request}
+use Rattle.std.specs.Prelude.{Result, Ok, Err}
 use Rattle.model.specs.declared.Window.{Window}
 use Rattle.model.specs.Lists.{all, any}
-use Rattle.model.specs.Values.{dims_of, blank_window, blank_chain, request_of, set_window}
-use Rattle.model.specs.Answers.{by_verdict}
+use Rattle.model.specs.Values.{dims_of, blank_window, request_of, set_window}
+use Rattle.model.specs.Answers.{Verdict, by_verdict, by_answer}
 use Rattle.model.specs.Planning.{judge_request, planned_chain, plan_of}
 use Rattle.model_sheet.specs.Lines.{Line, line_of, lines_of}
 use Rattle.model_sheet.specs.Frames.{value_of, digit_of, whole, bytes_of, digits_of, framed, padded, Seen, seen_of}
@@ -174,7 +174,7 @@ module _ (rows : List ℕ) (r : Reading) (name : ℕ) (l : Seen) (other : kind_o
   unfolding line_verdict line_checks misplaced among any next_in_request
   judged_alike = rw (ne_eqb _ _ other)
 
-  box_or_kernel : line_verdict false rows after_name l ≡ verdict.Accepted → (kind_of l ≡ 8) ⊎ (kind_of l ≡ 4)
+  box_or_kernel : line_verdict false rows after_name l ≡ Ok tt → (kind_of l ≡ 8) ⊎ (kind_of l ≡ 4)
   unfolding line_verdict line_checks misplaced among any next_in_request
   box_or_kernel h = either (not-false _ (clear _ _ _ (clear _ _ _ h).1).0)
     where
@@ -219,9 +219,9 @@ module _ (rows : List ℕ) (r : Reading) (name : ℕ) where
 
       by_verdict_lem : (kind_of seen ≡ 2 → ⊥) → (v : Verdict) → line_verdict false rows (behind stood.Name r name) seen ≡ v
           → Alike (read_lines false rows (behind stood.Name r name) (l ∷ ls)) (read_lines false rows (behind stood.Offset r name) (l ∷ ls))
-      by_verdict_lem n verdict.Accepted e =
+      by_verdict_lem n (Ok _) e =
           rw (e, sym (judged_alike rows r name seen n) ∙ e) (same_ends (ap (λ t. read_lines false rows t ls) (taken_alike rows r name seen n (box_or_kernel rows r name seen n e))))
-      by_verdict_lem n (verdict.Refused x) e = rw (e, sym (judged_alike rows r name seen n) ∙ e) (record { verdict = refl; complete = refl; chain = refl })
+      by_verdict_lem n (Err x) e = rw (e, sym (judged_alike rows r name seen n) ∙ e) (record { verdict = refl; complete = refl; chain = refl })
 
   lines_alike : (rest : List ℕ) → (BeginsWithOffset rest → ⊥)
       → Alike (read_lines false rows (behind stood.Name r name) (lines_of rest)) (read_lines false rows (behind stood.Offset r name) (lines_of rest))
@@ -269,14 +269,13 @@ module _ (name : ℕ) (first rest : List ℕ) (h : is_name name ≡ true) (on : 
       go : (v : Verdict) → line_verdict false rows start seen ≡ v
           → Alike (read_lines false rows start (line_with first ∷ lines_of (framed (7 ∷ name ∷ []) ++ rest)))
           (read_lines false rows start (line_with first ∷ lines_of (flat_map framed (map offset_line (offsets_named name)) ++ rest)))
-      go verdict.Accepted e = rw e behind_grid
-      go (verdict.Refused x) e = rw e (same_ends refl)
+      go (Ok _) e = rw e behind_grid
+      go (Err x) e = rw e (same_ends refl)
 
 -- What reading a request says of the end of its lines.
-answered : List ℕ → Verdict → Bool → Chain → ReadRequest
+answered : List ℕ → Verdict → Bool → Chain → Result Request Refusal
 answered rows v whole c =
-    let w = by_verdict v (cond whole (judge_request (request_of c) rows) (verdict.Refused refusal.Misplaced)) verdict.Refused in
-    record { verdict = w; request = request_of (by_verdict w c (λ x. blank_chain)) }
+    by_verdict (by_verdict v (cond whole (judge_request (request_of c) rows) (Err refusal.Misplaced)) Err) (Ok (request_of c)) Err
 
 module _ (one other rows : List ℕ) (p : numbers_in one ≡ rows) (q : numbers_in other ≡ rows) where
   read_by : (sheet : List ℕ) → numbers_in sheet ≡ rows
@@ -288,8 +287,8 @@ module _ (one other rows : List ℕ) (p : numbers_in one ≡ rows) (q : numbers_
   requests_alike : Alike (read_lines false rows start (lines_of one)) (read_lines false rows start (lines_of other)) → read_request one ≡ read_request other
   requests_alike a = read_by one p ∙ (λ i. answered rows (a.verdict i) (a.complete i) (a.chain i)) ∙ sym (read_by other q)
 
-planned : ReadRequest → List ℕ → List ℕ
-planned r rows = by_verdict r.verdict (sheet_of (planned_chain r.request rows) rows) refusal_text
+planned : Result Request Refusal → List ℕ → List ℕ
+planned r rows = by_answer r (λ q. sheet_of (planned_chain q rows) rows) refusal_text
 
 pub by_its_name : ByName
 unfolding plan_text planned
@@ -303,6 +302,6 @@ by_its_name name first rest h on n =
     record {
       read = e;
       rows = rows;
-      plan = λ i. plan_of (e i).request (rows i);
+      plan = λ i. by_answer (e i) (λ r. plan_of r (rows i)) Err;
       text = λ i. planned (e i) (rows i);
     }

@@ -17,8 +17,8 @@ use Rattle.model.specs.declared.Last.TheVariants as stood
 use Rattle.model.specs.declared.Order.{Order}
 use Rattle.model.specs.declared.Reading.{Reading}
 use Rattle.model.specs.declared.Refusal.{Refusal}
-use Rattle.model.specs.declared.Verdict.{Verdict}
-use Rattle.model.specs.declared.Verdict.TheVariants as verdict
+use Rattle.std.specs.Prelude.{Ok, Err}
+use Rattle.model.specs.Answers.{Verdict}
 use Rattle.model_sheet.specs.Arriving.{stood_first}
 use Rattle.model.specs.Values.{dims_of}
 use Rattle.model.specs.Judging.{bad_factor}
@@ -368,7 +368,7 @@ module _ (rows : List ℕ) (r : Reading) (keeps : Kept r) (bs : List ℕ) (small
       (line_kernel d rows some ∙ kernel_row bs small e ok finite)
 
 -- Nothing is accepted behind the kernel's line.
-ended : (rows : List ℕ) (r : Reading) (ls : List Line) → complete r ≡ true → (read_lines true rows r ls).verdict ≡ verdict.Accepted → (read_lines true rows r ls).reading ≡ r
+ended : (rows : List ℕ) (r : Reading) (ls : List Line) → complete r ≡ true → (read_lines true rows r ls).verdict ≡ Ok tt → (read_lines true rows r ls).reading ≡ r
 unfolding read_lines step_of
 ended rows r [] e h = refl
 ended rows r (l ∷ ls) e h = go (line_verdict true rows r (seen_of l.ended l.chars)) refl
@@ -377,21 +377,21 @@ ended rows r (l ∷ ls) e h = go (line_verdict true rows r (seen_of l.ended l.ch
     by a = never (sym e ∙ not_complete true rows r _ a)
 
     go : (v : Verdict) → line_verdict true rows r (seen_of l.ended l.chars) ≡ v → (read_lines true rows r (l ∷ ls)).reading ≡ r
-    go verdict.Accepted q = absurd (by (admitted true rows r _ q).1)
-    go (verdict.Refused x) q = absurd (refused_accepted (rw q at h))
+    go (Ok _) q = absurd (by (admitted true rows r _ q).1)
+    go (Err x) q = absurd (refused_accepted (rw q at h))
 
 -- A reading whose kernel, once it was read, has finite factors.
 Finite : Reading → Type 0
 Finite r = complete r ≡ true → bad_factor r.chain.kernel ≡ false
 
 -- Cases by a verdict.
-by_verdict_lem : {A : Type 0} (v : Verdict) → (v ≡ verdict.Accepted → A) → ((x : Refusal) → v ≡ verdict.Refused x → A) → A
-by_verdict_lem verdict.Accepted a f = a refl
-by_verdict_lem (verdict.Refused x) a f = f x refl
+by_verdict_lem : {A : Type 0} (v : Verdict) → (v ≡ Ok tt → A) → ((x : Refusal) → v ≡ Err x → A) → A
+by_verdict_lem (Ok _) a f = a refl
+by_verdict_lem (Err x) a f = f x refl
 
 -- Any line that is not turned back.
 step_adds : (rows : List ℕ) (r : Reading) → Kept r → (bs : List ℕ) → Small bs → (stood_first r.last ≡ true → rows ≡ numbers_on bs)
-    → line_verdict true rows r (line_seen bs) ≡ verdict.Accepted → Finite (taken r (padded bs))
+    → line_verdict true rows r (line_seen bs) ≡ Ok tt → Finite (taken r (padded bs))
     → Adds rows r (taken r (padded bs)) bs × Kept (taken r (padded bs))
 unfolding dims_of with_grid with_rows with_offset with_box with_capacity with_order with_kernel Finite Counted Boxed Ordered complete closes stood_first
 step_adds rows r k bs small own h finite = go (admitted true rows r _ h).1
@@ -478,7 +478,7 @@ step_adds rows r k bs small own h finite = go (admitted true rows r _ h).1
         )
 
 line_adds : (rows : List ℕ) (r : Reading) → Kept r → (l : Line) → (stood_first r.last ≡ true → rows ≡ numbers_on (bytes_of l.chars))
-    → line_verdict true rows r (seen_of l.ended l.chars) ≡ verdict.Accepted → Finite (taken r (padded (bytes_of l.chars)))
+    → line_verdict true rows r (seen_of l.ended l.chars) ≡ Ok tt → Finite (taken r (padded (bytes_of l.chars)))
     → (written rows (taken r (padded (bytes_of l.chars))) ≡ written rows r ++ (l.chars ++ cond l.ended (line_feed ∷ []) [])) × Kept (taken r (padded (bytes_of l.chars)))
 unfolding Adds framed
 line_adds rows r k l own h finite =
@@ -505,13 +505,13 @@ all_written rows r k e = go r.last e k.counted
 -- The lines from a reading on; `rows` stand on the first line.
 lines_back : (rows : List ℕ) (ls : List Line) (r : Reading) → Kept r → Begins rows r ls
     → (let s = read_lines true rows r ls in
-    s.verdict ≡ verdict.Accepted → complete s.reading ≡ true → bad_factor s.reading.chain.kernel ≡ false → written rows r ++ text ls ≡ sheet_of s.reading.chain rows)
+    s.verdict ≡ Ok tt → complete s.reading ≡ true → bad_factor s.reading.chain.kernel ≡ false → written rows r ++ text ls ≡ sheet_of s.reading.chain rows)
 unfolding read_lines text step_of Finite
 lines_back rows [] r k begins h e f = append-nil (written rows r) ∙ all_written rows r k e
 lines_back rows (l ∷ ls) r k begins h e f =
     by_verdict_lem (line_verdict true rows r (seen_of l.ended l.chars))
     (λ q. let t = taken r (padded (bytes_of l.chars)) in
-    let h' : (read_lines true rows t ls).verdict ≡ verdict.Accepted = rw q at h in
+    let h' : (read_lines true rows t ls).verdict ≡ Ok tt = rw q at h in
     let e' : complete (read_lines true rows t ls).reading ≡ true = rw q at e in
     let f' : bad_factor (read_lines true rows t ls).reading.chain.kernel ≡ false = rw q at f in
     let b' : Begins rows t ls = rw q at (behind_begins true rows r (seen_of l.ended l.chars) ls q) in
@@ -532,10 +532,10 @@ none_written rows = refl
 
 pub read_write : ReadWrite
 unfolding numbers_in
-read_write sheet h =
-    let a = accepted_sheet sheet h in
+read_write sheet c h =
+    let a = accepted_sheet sheet c h in
     let rows = numbers_in sheet in
-    ap (λ (c : Chain). sheet_of c rows) (accepted_read sheet h)
+    ap (λ (d : Chain). sheet_of d rows) (accepted_read sheet c h)
     ∙ sym (lines_back rows (lines_of sheet) start kept_start (λ q. refl) a.0 a.1.0 (accepted_chain _ rows a.1.1).factors)
     ∙ ap (λ w. w ++ text (lines_of sheet)) (none_written rows)
     ∙ text_back sheet

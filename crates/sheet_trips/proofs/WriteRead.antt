@@ -19,9 +19,8 @@ use Rattle.model.specs.declared.Kernel.{Kernel}
 use Rattle.model.specs.declared.Kernel.TheVariants as kernel
 use Rattle.model.specs.declared.Last.{Last}
 use Rattle.model.specs.declared.Last.TheVariants as stood
-use Rattle.model.specs.declared.ReadChain.{ReadChain}
 use Rattle.model.specs.declared.Reading.{Reading}
-use Rattle.model.specs.declared.Verdict.TheVariants as verdict
+use Rattle.std.specs.Prelude.{Ok}
 use Rattle.model.specs.Boxes.Part.{box}
 use Rattle.model.specs.Lists.{tabulate, up_to as first_numbers, any}
 use Rattle.model.specs.Values.{sizes_of, rows_of, ground_of, dims_of, entry_of, offset_of, capacity_of, order_of, part_of, no_bounds, bounds_of, no_order, normal_grid, blank_chain, set_grid, set_order, trimmed}
@@ -606,7 +605,7 @@ module _ (c : Chain) (rows told : List ℕ) (range : InRange c) (ok : Accepted c
           ap (λ m. read_lines true told (to_kernel c false) (lines_of (lines_from c rows m 1))) z
 
   all_read : (c.grid.skewed ≡ true → rows_of c.grid.rows told ≡ rows_of c.grid.rows rows)
-      → read_lines true told start (lines_of (sheet_of c rows)) ≡ record { verdict = verdict.Accepted; reading = at_end }
+      → read_lines true told start (lines_of (sheet_of c rows)) ≡ record { verdict = Ok tt; reading = at_end }
   unfolding lines_from line_at read_lines lines_of lines_behind
   all_read again =
       let b : ℕ = cond boxed 1 0 in
@@ -657,8 +656,8 @@ pub write_read : WriteRead
 unfolding read_chain end_verdict complete closes
 write_read c rows range h =
     record {
-      read = back ∙ (λ i. record { verdict = verdict.Accepted; chain = normal_chain c rows ok.few i });
-      same = ap (λ (r : ReadChain). trimmed r.chain (told c rows range ok)) back ∙ same;
+      read = back ∙ (λ i. Ok (normal_chain c rows ok.few i));
+      same = ap (λ (d : Chain). trimmed d (told c rows range ok)) (sym (normal_chain c rows ok.few)) ∙ same;
       lent = number_told c rows range ok;
     }
   where
@@ -668,7 +667,7 @@ write_read c rows range h =
     same : trimmed (read_back c) (told c rows range ok) ≡ trimmed c rows
     same = same_chain c rows (told c rows range ok) ok (ground_told c rows range ok)
 
-    back : read_chain (sheet_of c rows) ≡ record { verdict = verdict.Accepted; chain = read_back c }
+    back : read_chain (sheet_of c rows) ≡ Ok (read_back c)
     back =
         rw (
           all_read c rows (told c rows range ok) range ok (rows_told c rows range ok),

@@ -1,7 +1,6 @@
 -- Reading a sheet in fixed memory, as its characters arrive, in however many pieces (the definitions:
 -- `model_sheet/specs/Arriving`).
-use Rattle.std.specs.Prelude.{ℕ, Bool, List, ◌++◌, ◌≡◌}
-use Rattle.model.specs.declared.Verdict.TheVariants as verdict
+use Rattle.std.specs.Prelude.{ℕ, Bool, List, ◌++◌, ◌≡◌, Ok}
 use Rattle.model_sheet.specs.Lines.{lines_of}
 use Rattle.model_sheet.specs.Reading.{start, read_lines, numbers_in}
 use Rattle.model_sheet.specs.Arriving.{Arrived, opening, arrive, finished}
@@ -10,7 +9,7 @@ use Rattle.model_sheet.specs.Arriving.{Arrived, opening, arrive, finished}
 -- pieces are one.
 pub record Arrives (chained : Bool) (sheet : List ℕ) : Type 0 where
   pub read : finished (arrive chained opening sheet).sheet ≡ read_lines chained (numbers_in sheet) start (lines_of sheet)
-  pub rows : (read_lines chained (numbers_in sheet) start (lines_of sheet)).verdict ≡ verdict.Accepted
+  pub rows : (read_lines chained (numbers_in sheet) start (lines_of sheet)).verdict ≡ Ok tt
       → (arrive chained opening sheet).rows ≡ numbers_in sheet
 
 abbrev pub AsItArrives : Type 0

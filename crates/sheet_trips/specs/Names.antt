@@ -1,6 +1,7 @@
 -- Windows by name (document 02, request 1): "A sheet with the name plans exactly as one with the offsets written out in that
 -- order".
-use Rattle.std.specs.Prelude.{ℕ, true, ◌≡◌, take}
+use Rattle.std.specs.Prelude.{ℕ, true, ◌≡◌, take, Err}
+use Rattle.model.specs.Answers.{by_answer}
 use mathlib.Core.List.{List, [], ◌∷◌, ◌++◌, map, flat_map}
 use Rattle.model.specs.Planning.{plan_of}
 use Rattle.model_sheet.specs.Frames.{digits_of, framed}
@@ -32,7 +33,8 @@ module _ (name : ℕ) (first rest : List ℕ) where
 pub record PlannedAlike (one other : List ℕ) : Type 0 where
   pub read : read_request one ≡ read_request other
   pub rows : numbers_in one ≡ numbers_in other
-  pub plan : plan_of (read_request one).request (numbers_in one) ≡ plan_of (read_request other).request (numbers_in other)
+  pub plan : by_answer (read_request one) (λ r. plan_of r (numbers_in one)) Err
+      ≡ by_answer (read_request other) (λ r. plan_of r (numbers_in other)) Err
   pub text : plan_text one ≡ plan_text other
 
 -- The characters begin with an `02` line, which would be one of the window's: "may stand for all `02` lines".

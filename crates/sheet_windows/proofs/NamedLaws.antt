@@ -1,51 +1,68 @@
 -- The windows of the five names, and the offsets of one put into a window from reference k on.
 use Prim.Native.Nat.{ℕ, suc, ◌+◌, ◌*◌, ◌≤◌, ◌<◌}
+use mathlib.Core.Bool.{Bool, true, false, cond, not, ◌&&◌}
 use mathlib.Core.List.{List, [], ◌∷◌, map}
 use mathlib.Core.Path.{◌≡◌, refl, sym, ap, ◌∙◌}
 use native.Mathlib.Omega.{arith}
+use lib.Dec.{eqb, leb}
 use lib.IntN.{ℤ}
 use lib.ListN.{length, get_or, set, drop, length-map, drop_of_length-le, get_or-map}
 use lib.Seq.{sets, drop-cons}
+use borrow.Author.Tests.{lt-leb}
 use Rattle.model.specs.declared.Triple.{Triple}
 use Rattle.model.specs.Values.{blank_window}
-use Rattle.model_sheet.specs.NamedWindows.{centre, windows, named_of, entries_of, with_references, window_named}
+use Rattle.model_sheet.specs.NamedWindows.{centre, windows, is_name, named_of, bad_name, entries_of, with_references, window_named}
 use Rattle.model_sheet.proofs.NameLaws.{by_name_lem, count_references, few_references}
 
 -- A byte other than 01 to 05.
-abbrev Other : ℕ → Type 0
-Other name = (name ≡ 1 → ⊥) → (name ≡ 2 → ⊥) → (name ≡ 3 → ⊥) → (name ≡ 4 → ⊥) → (name ≡ 5 → ⊥) → ((named_of name).dims ≡ 0) × (length (named_of name).triples ≡ 0)
-
-pub no_name : (name : ℕ) → Other name
+pub no_name : (name : ℕ) → (1 ≤ name → 5 < name) → (named_of name).triples ≡ []
 unfolding named_of windows
 no_name =
-    by_name_lem Other
-    (λ a b c d e. (refl, refl))
-    (λ a b c d e. absurd (a refl))
-    (λ a b c d e. absurd (b refl))
-    (λ a b c d e. absurd (c refl))
-    (λ a b c d e. absurd (d refl))
-    (λ a b c d e. absurd (e refl))
-    (λ n a b c d e. (refl, refl))
+    by_name_lem (λ name. (1 ≤ name → 5 < name) → (named_of name).triples ≡ [])
+    (λ h. refl)
+    (λ h. absurd (let k = h (omega arith) in omega arith))
+    (λ h. absurd (let k = h (omega arith) in omega arith))
+    (λ h. absurd (let k = h (omega arith) in omega arith))
+    (λ h. absurd (let k = h (omega arith) in omega arith))
+    (λ h. absurd (let k = h (omega arith) in omega arith))
+    (λ n h. refl)
 
--- A reference of a name that is known.
-pub within : {name v k : ℕ} → name ≡ v → k < length (named_of name).triples → k < length (named_of v).triples
-within e h = rw e at h
+-- A name of a window of two dimensions, of three, and of none.
+pub flat : (name dims : ℕ) → 1 ≤ name → name < 4 → bad_name name dims ≡ not (eqb dims 2)
+unfolding bad_name is_name named_of windows
+flat =
+    by_name_lem (λ name. (dims : ℕ) → 1 ≤ name → name < 4 → bad_name name dims ≡ not (eqb dims 2))
+    (λ d h k. absurd (omega arith))
+    (λ d h k. refl)
+    (λ d h k. refl)
+    (λ d h k. refl)
+    (λ d h k. absurd (omega arith))
+    (λ d h k. absurd (omega arith))
+    (λ n d h k. absurd (omega arith))
 
--- A name that is none of the first four and has a reference.
-abbrev Fifth : ℕ → Type 0
-Fifth name = (k : ℕ) → (name ≡ 1 → ⊥) → (name ≡ 2 → ⊥) → (name ≡ 3 → ⊥) → (name ≡ 4 → ⊥) → k < length (named_of name).triples → name ≡ 5
+pub solid : (name dims : ℕ) → 4 ≤ name → name < 6 → bad_name name dims ≡ not (eqb dims 3)
+unfolding bad_name is_name named_of windows
+solid =
+    by_name_lem (λ name. (dims : ℕ) → 4 ≤ name → name < 6 → bad_name name dims ≡ not (eqb dims 3))
+    (λ d h k. absurd (omega arith))
+    (λ d h k. absurd (omega arith))
+    (λ d h k. absurd (omega arith))
+    (λ d h k. absurd (omega arith))
+    (λ d h k. refl)
+    (λ d h k. refl)
+    (λ n d h k. absurd (omega arith))
 
-pub fifth : (name : ℕ) → Fifth name
-unfolding named_of windows
-fifth =
-    by_name_lem Fifth
-    (λ k a b c d h. absurd (omega arith))
-    (λ k a b c d h. absurd (a refl))
-    (λ k a b c d h. absurd (b refl))
-    (λ k a b c d h. absurd (c refl))
-    (λ k a b c d h. absurd (d refl))
-    (λ k a b c d h. refl)
-    (λ n k a b c d h. absurd (omega arith))
+pub below_names : (name dims : ℕ) → name < 1 → bad_name name dims ≡ true
+unfolding bad_name is_name
+below_names name dims h = let z : name ≡ 0 = omega arith in rw z
+
+pub above_names : (name dims : ℕ) → 6 ≤ name → bad_name name dims ≡ true
+unfolding bad_name is_name
+above_names name dims h = rw (lt-leb name 5 (omega arith)) (go (leb 1 name))
+  where
+    go : (b : Bool) → cond (b && false) (not (eqb dims (named_of name).dims)) true ≡ true
+    go true = refl
+    go false = refl
 
 -- No name has more references than a window has places.
 pub few : (name : ℕ) → length (named_of name).triples ≤ 32

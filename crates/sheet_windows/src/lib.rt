@@ -72,52 +72,19 @@ const CUBE_LESS_CORNERS: [Triple; 19] = [
     Triple(-1, -1, 0),
 ];
 
-// How many dimensions and references a window has.
-#[derive(Clone, Copy)]
-struct Size {
-    dims: u8,
-    count: u8,
-}
-
-fn size_of(name: u8) -> Size
-    ensures { (result.dims ≡ (named_of name).dims) × (result.count ≡ length (named_of name).triples) }
+// A window's offsets, in falling order; of a byte that is no name, none.
+#[tactic(auto, unfolding(model_sheet::specs::NamedWindows::named_of, model_sheet::specs::NamedWindows::windows))]
+fn references(name: u8) -> &'static [Triple]
+    ensures { result.now ≡ (named_of name).triples }
 {
-    if name == 1 {
-        return Size { dims: 2, count: 5 };
+    match name {
+        1 => &FIVE_POINT_CROSS,
+        2 => &FOUR_NEIGHBOURS,
+        3 => &SQUARE,
+        4 => &SEVEN_POINT_CROSS,
+        5 => &CUBE_LESS_CORNERS,
+        _ => &[],
     }
-    if name == 2 {
-        return Size { dims: 2, count: 4 };
-    }
-    if name == 3 {
-        return Size { dims: 2, count: 9 };
-    }
-    if name == 4 {
-        return Size { dims: 3, count: 7 };
-    }
-    if name == 5 {
-        return Size { dims: 3, count: 19 };
-    }
-    Size { dims: 0, count: 0 }
-}
-
-// Offset k of a window.
-fn reference(name: u8, k: usize) -> Triple
-    requires { k < length (named_of name).triples }
-    ensures { result ≡ get_or (named_of name).triples k centre }
-{
-    if name == 1 {
-        return FIVE_POINT_CROSS[k];
-    }
-    if name == 2 {
-        return FOUR_NEIGHBOURS[k];
-    }
-    if name == 3 {
-        return SQUARE[k];
-    }
-    if name == 4 {
-        return SEVEN_POINT_CROSS[k];
-    }
-    CUBE_LESS_CORNERS[k]
 }
 
 // Its entries, and 0 past them.
@@ -128,17 +95,15 @@ fn entries_of(t: Triple) -> [i16; 4]
 }
 
 // 13: the byte is no name, or the window's dimensions differ from the grid's.
+#[tactic(auto, using(crate::proofs::NamedLaws::below_names, crate::proofs::NamedLaws::flat, crate::proofs::NamedLaws::solid, crate::proofs::NamedLaws::above_names))]
 pub fn bad_name(name: u8, dims: u8) -> bool
     ensures { result ≡ bad_name name dims }
 {
-    if name == 0 {
-        return true;
+    match name {
+        1..=3 => dims != 2,
+        4 | 5 => dims != 3,
+        _ => true,
     }
-    if 5 < name {
-        return true;
-    }
-    let size = size_of(name);
-    dims != size.dims
 }
 
 // The offset of reference k set, which counts modulo 32: there are so many places.
@@ -158,14 +123,14 @@ pub fn set_offset(offsets: [i16; 128], k: u8, entries: [i16; 4]) -> [i16; 128]
 pub fn window_of(name: u8) -> Window
     ensures { result ≡ window_named name }
 {
-    let size = size_of(name);
-    let n = size.count;
+    let triples = references(name);
     let mut offsets = [0i16; 128];
-    let mut k: u8 = 0;
-    while k < n {
-        let next = set_offset(offsets, k, entries_of(reference(name, k as usize)));
+    for (k, t) in triples.iter().enumerate() {
+        let next = set_offset(offsets, k as u8, entries_of(*t));
         offsets = next;
-        k += 1;
     }
-    Window { count: n, offsets }
+    Window {
+        count: triples.len() as u8,
+        offsets,
+    }
 }

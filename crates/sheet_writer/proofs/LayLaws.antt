@@ -8,7 +8,7 @@ use native.Mathlib.Omega.{arith}
 use lib.Dec.{ltb}
 use lib.IntN.{pos}
 use lib.ListN.{length, take, drop, get_or, set, replicate, length-append, drop_of_length-le}
-use lib.Seq.{sets, drop-cons, get_or-take, take-take, take-append-le, length-take-le}
+use lib.Seq.{sets, drop-cons, ext_get_or, get_or-take, take-take, take-append-le, length-take-le}
 use borrow.Author.Tests.{lt-ltb, le-ltb}
 use Rattle.model.specs.declared.Bounds.{Bounds}
 use Rattle.model.specs.declared.Chain.{Chain}
@@ -70,10 +70,13 @@ module _ (filters : List ℕ) where
   pub length_numbers : length (rows filters) ≡ 32
   length_numbers = length_tabulate 32 (λ t. get_or filters t 0)
 
-  pub number_at_lem : (t : ℕ) → t < 32 → get_or filters t 0 ≡ get_or (rows filters) t 0
+  number_at_lem : (t : ℕ) → t < 32 → get_or filters t 0 ≡ get_or (rows filters) t 0
   number_at_lem t h = sym (get_d_tabulate 32 (λ t. get_or filters t 0) t 0 h)
 
-  pub numbers_put : sets (6 ∷ replicate (kept - 1) 0) 1 (rows filters) ≡ padded (6 ∷ rows filters)
+  pub numbers_same : length filters ≡ 32 → filters ≡ rows filters
+  numbers_same h = ext_get_or 0 filters (rows filters) (h ∙ sym length_numbers) (λ i b. number_at_lem i (omega (arith, h)))
+
+  pub numbers_put : 6 ∷ (rows filters ++ replicate (kept - 33) 0) ≡ padded (6 ∷ rows filters)
   unfolding tabulate padded
   numbers_put = refl
 

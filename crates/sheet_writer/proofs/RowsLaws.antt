@@ -2,7 +2,7 @@
 use Prim.Native.Nat.{ℕ, suc, ◌+◌, ◌*◌, ◌≤◌, ◌<◌}
 use mathlib.Core.Bool.{Bool, false, ◌&&◌}
 use mathlib.Core.List.{List, flat_map}
-use mathlib.Core.Path.{◌≡◌, sym, ap, ◌∙◌}
+use mathlib.Core.Path.{◌≡◌, refl, sym, ap, ◌∙◌}
 use native.Mathlib.Numerals.{add-one}
 use native.Mathlib.Omega.{arith}
 use lib.ListN.{length, drop, get_or, set, drop_of_length-le}
@@ -40,10 +40,10 @@ module _ (rows out : List ℕ) (n at i : ℕ) where
   numbers_end h = rw (drop_of_length-le (listed n rows) {i = i} (omega (arith, length_tabulate n (λ i. get_or rows i 0))))
 
 -- The line's kind and its row count stand before them.
-pub rows_laid : (count n : ℕ) (rows out : List ℕ) → n ≡ count
-    → sets (sets (set (set out 0 48) 1 57) 2 (digits_of (half_bytes count))) 6 (numbers_from (2 * n) 0 rows) ≡ sets out 0 (framed (rows_line count rows))
+pub rows_laid : (count : ℕ) (rows out : List ℕ)
+    → sets (sets (set (set out 0 48) 1 57) 2 (digits_of (half_bytes count))) 6 (numbers_from (2 * count) 0 rows) ≡ sets out 0 (framed (rows_line count rows))
 unfolding rows_line framed digits_of digit_of half_bytes
-rows_laid count n rows out e = ap (λ (k : ℕ). sets (sets (set (set out 0 48) 1 57) 2 (digits_of (half_bytes count))) 6 (numbers_from (2 * k) 0 rows)) e
+rows_laid count rows out = refl
 
 -- Rows that the test lets pass.
 pub rows_fit : (g : Grid) (rows : List ℕ) → (g.skewed && bad_rows (rows_of g.rows rows)) ≡ false → RowsFit g rows

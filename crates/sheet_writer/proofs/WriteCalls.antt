@@ -11,22 +11,21 @@ use borrow.Author.Tests.{lt-ltb, le-ltb}
 use Rattle.model.specs.declared.Chain.{Chain}
 use Rattle.model.specs.declared.Refusal.{Refusal}
 use Rattle.model.specs.declared.Refusal.TheVariants as refusal
-use Rattle.model.specs.declared.Verdict.{Verdict}
-use Rattle.model.specs.declared.Verdict.TheVariants as verdict
+use Rattle.std.specs.Prelude.{Ok, Err}
 use Rattle.model.specs.Values.{rows_of, dims_of}
-use Rattle.model.specs.Answers.{check, first_of}
+use Rattle.model.specs.Answers.{Verdict, check, first_of}
 use Rattle.model.specs.Judging.{bad_dims, bad_rows, bad_count}
 use Rattle.model_sheet.specs.Writing.{Written, sheet_of}
 use Rattle.sheet_writer.specs.Laying.{written, lay_checks, lay_of}
 
 abbrev refused : Refusal → List ℕ → Written
-refused r out = written (record { verdict = verdict.Refused r; bytes = 0 }) out
+refused r out = written (Err r) out
 
 module _ (c : Chain) (rows out : List ℕ) where
   abbrev verdict_of : Verdict
   verdict_of = first_of (lay_checks c rows (length out))
 
-  stays : (r : Refusal) → verdict_of ≡ verdict.Refused r → refused r out ≡ lay_of c rows out
+  stays : (r : Refusal) → verdict_of ≡ Err r → refused r out ≡ lay_of c rows out
   unfolding lay_of
   stays r e = rw e
 
@@ -42,9 +41,9 @@ module _ (c : Chain) (rows out : List ℕ) where
       ∷ check (ltb (length out) (length (sheet_of c rows))) refusal.ShortOutput
       ∷ [])
 
-  by_rows_lem : {b : Bool} → bad ≡ b → verdict_of ≡ cond b (verdict.Refused refusal.BadRows) behind
+  by_rows_lem : {b : Bool} → bad ≡ b → verdict_of ≡ cond b (Err refusal.BadRows) behind
   unfolding lay_checks first_of
-  by_rows_lem e = ap (λ (b : Bool). cond b (verdict.Refused refusal.BadRows) behind) e
+  by_rows_lem e = ap (λ (b : Bool). cond b (Err refusal.BadRows) behind) e
 
   pub rows_turned : bad ≡ true → refused refusal.BadRows out ≡ lay_of c rows out
   rows_turned h = stays refusal.BadRows (by_rows_lem h)
@@ -65,11 +64,11 @@ module _ (c : Chain) (rows out : List ℕ) where
         no_room h = stays refusal.ShortOutput (by_rows_lem fine ∙ rw (dims, count, lt-ltb _ _ h))
 
         pub laid : (bytes : ℕ) (end : List ℕ) → length (sheet_of c rows) ≤ length out → bytes ≡ length (sheet_of c rows) → end ≡ sets out 0 (sheet_of c rows)
-            → written (record { verdict = verdict.Accepted; bytes = bytes }) end ≡ lay_of c rows out
+            → written (Ok bytes) end ≡ lay_of c rows out
         unfolding lay_of first_of
         laid bytes end h e q =
             let z : 0 + length (sheet_of c rows) ≡ length (sheet_of c rows) = omega arith in
-            let v : verdict_of ≡ verdict.Accepted = by_rows_lem fine ∙ rw (dims, count, le-ltb _ _ h) in
+            let v : verdict_of ≡ Ok tt = by_rows_lem fine ∙ rw (dims, count, le-ltb _ _ h) in
             rw (v, e, q)
-            (ap (λ t. written (record { verdict = verdict.Accepted; bytes = length (sheet_of c rows) }) t)
+            (ap (λ t. written (Ok (length (sheet_of c rows))) t)
             (sets-eq (sheet_of c rows) out 0 (omega arith) ∙ ap (λ n. sheet_of c rows ++ drop n out) z))

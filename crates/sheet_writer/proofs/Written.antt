@@ -7,7 +7,7 @@ use native.Mathlib.Omega.{arith}
 use lib.ListN.{length}
 use borrow.Author.Tests.{ne_eqb, le-ltb}
 use Rattle.model.specs.declared.Chain.{Chain}
-use Rattle.model.specs.declared.Verdict.TheVariants as verdict
+use Rattle.std.specs.Prelude.{Ok}
 use Rattle.model.specs.Values.{rows_of, dims_of}
 use Rattle.model.specs.Answers.{first_of}
 use Rattle.model.specs.Judging.{bad_dims, bad_rows, bad_count, judge_chain}
@@ -16,7 +16,7 @@ use Rattle.sheet_laws.proofs.Cases.{by_bool}
 use Rattle.sheet_laws.proofs.AcceptedChains.{accepted_chain}
 use Rattle.sheet_writer.specs.Laying.{lay_checks, lay_of}
 
-same_verdict : (c : Chain) (rows : List ℕ) (room : ℕ) → judge_chain c rows ≡ verdict.Accepted → first_of (lay_checks c rows room) ≡ write_verdict c rows room
+same_verdict : (c : Chain) (rows : List ℕ) (room : ℕ) → judge_chain c rows ≡ Ok tt → first_of (lay_checks c rows room) ≡ write_verdict c rows room
 unfolding lay_checks write_verdict first_of bad_dims bad_count
 same_verdict c rows room h =
     let ok = accepted_chain c rows h in
@@ -25,6 +25,6 @@ same_verdict c rows room h =
     let n : c.window.count ≡ 0 → ⊥ = λ e. omega (arith, ok.some) in
     rw (h, fine, ne_eqb _ _ d, le-ltb _ _ ok.few_dims, ne_eqb _ _ n, le-ltb _ _ ok.few)
 
-pub laid_written : (c : Chain) (rows out : List ℕ) → judge_chain c rows ≡ verdict.Accepted → lay_of c rows out ≡ write_of c rows out
+pub laid_written : (c : Chain) (rows out : List ℕ) → judge_chain c rows ≡ Ok tt → lay_of c rows out ≡ write_of c rows out
 unfolding lay_of write_of
 laid_written c rows out h = rw (same_verdict c rows (length out) h)

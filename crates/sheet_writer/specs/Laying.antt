@@ -1,10 +1,9 @@
 -- Writing a chain sheet without judging the chain: only 16 of a skewed grid and 3 and 4 of the counts are looked at, then 12.
-use Rattle.std.specs.Prelude.{ℕ, ◌+◌, ◌≤◌, ◌<◌, true, false, ◌&&◌, List, [], ◌∷◌, ◌++◌, ◌≡◌, ltb, length, drop}
+use Rattle.std.specs.Prelude.{ℕ, ◌+◌, ◌≤◌, ◌<◌, true, false, ◌&&◌, List, [], ◌∷◌, ◌++◌, ◌≡◌, ltb, length, drop, Result, Ok, Err}
 use Rattle.model.specs.declared.Chain.{Chain}
 use Rattle.model.specs.declared.Grid.{Grid}
+use Rattle.model.specs.declared.Refusal.{Refusal}
 use Rattle.model.specs.declared.Refusal.TheVariants as refusal
-use Rattle.model.specs.declared.Verdict.TheVariants as verdict
-use Rattle.model.specs.declared.Wrote.{Wrote}
 use Rattle.model.specs.Answers.{Check, check, first_of, by_verdict}
 use Rattle.model.specs.Values.{rows_of, dims_of}
 use Rattle.model.specs.Judging.{bad_dims, bad_rows, bad_count}
@@ -12,7 +11,7 @@ use Rattle.model_sheet.specs.Writing.{Written, sheet_of}
 use Rattle.sheet_laws.specs.declared.Part.{Part}
 use Rattle.sheet_laws.specs.declared.Part.TheVariants as part
 
-abbrev pub written : Wrote → List ℕ → Written
+abbrev pub written : Result ℕ Refusal → List ℕ → Written
 written answer output = record { answer = answer; output = output }
 
 unfoldable pub lay_checks : Chain → (rows : List ℕ) → (room : ℕ) → List Check
@@ -28,8 +27,8 @@ unfoldable pub lay_of : Chain → (rows : List ℕ) → List ℕ → Written
 lay_of c rows output =
     let sheet = sheet_of c rows in
     by_verdict (first_of (lay_checks c rows (length output)))
-    (written (record { verdict = verdict.Accepted; bytes = length sheet }) (sheet ++ drop (length sheet) output))
-    (λ r. written (record { verdict = verdict.Refused r; bytes = 0 }) output)
+    (written (Ok (length sheet)) (sheet ++ drop (length sheet) output))
+    (λ r. written (Err r) output)
 
 -- 16 lets the rows of a grid pass, where it is skewed.
 abbrev pub RowsFit : Grid → (rows : List ℕ) → Type 0

@@ -16,8 +16,7 @@ ghost use Rattle.sheet_laws.specs.Sections.{part_at, lines_behind};
 ghost use Rattle.sheet_writer.specs.Laying.{written, lay_of, Counted, RowsFit, HasLength, Inside};
 
 use hexadecimal::{high_digit, low_digit};
-use model::{Bounds, Chain, Grid, KEPT, Kernel, Order, Refusal, Verdict, Window, Wrote};
-use numbers::wide_usize;
+use model::{Bounds, Chain, Grid, KEPT, Kernel, Order, Refusal, Window};
 use sheet_laws::Part;
 use values::dims_of;
 
@@ -65,9 +64,7 @@ fn pattern_at(w: Window, i: usize) -> u16
     requires { i < 128 }
     ensures { result ≡ pattern (get_or w.offsets i (pos 0)) }
 {
-    let offsets = w.offsets;
-    let e = offsets[i];
-    sheet_fields::pattern_of(e)
+    sheet_fields::pattern_of(w.offsets[i])
 }
 
 fn offset_row(w: Window, k: usize) -> [u8; KEPT]
@@ -88,12 +85,8 @@ fn put_pair(x: [u8; KEPT], at: usize, b: Bounds, d: usize) -> [u8; KEPT]
     requires { (at + 7 < kept) × (d < 4) }
     ensures { result ≡ sets x at (index_pair b d) }
 {
-    let lowest = b.lowest;
-    let highest = b.highest;
-    let l = lowest[d];
-    let h = highest[d];
-    let y = put_word(x, at, sheet_fields::word_pattern_of(l));
-    put_word(y, at + 4, sheet_fields::word_pattern_of(h))
+    let y = put_word(x, at, sheet_fields::word_pattern_of(b.lowest[d]));
+    put_word(y, at + 4, sheet_fields::word_pattern_of(b.highest[d]))
 }
 
 fn box_row(b: Bounds) -> [u8; KEPT]
@@ -118,14 +111,9 @@ fn capacity_row(places: u32) -> [u8; KEPT]
 fn order_row(o: Order) -> [u8; KEPT]
     ensures { result ≡ padded (order_row o) }
 {
-    let filters = o.filters;
     let mut x = [0u8; KEPT];
     x[0] = 6;
-    let mut t: usize = 0;
-    while t < 32 {
-        x[1 + t] = filters[t];
-        t += 1;
-    }
+    x[1..33].copy_from_slice(&o.filters);
     x
 }
 
@@ -167,7 +155,7 @@ fn grid_len(g: Grid) -> usize
     ensures { result ≡ grid_len g }
 {
     if g.skewed {
-        return 3 + 4 * wide_usize(g.rows);
+        return 3 + 4 * (g.rows as usize);
     }
     2 + 4 * (g.dims as usize)
 }
@@ -225,15 +213,12 @@ fn lines_behind(boxed: bool, ordered: bool, n: usize) -> usize
 fn line_len(c: Chain, p: Part) -> usize
     ensures { result ≡ len_of c p }
 {
-    let grid = c.grid;
-    let window = c.window;
-    let k = c.kernel;
     match p {
-        Part::Offset(_) => 1 + 2 * (dims_of(grid) as usize),
-        Part::Box => 1 + 8 * (dims_of(grid) as usize),
+        Part::Offset(_) => 1 + 2 * (dims_of(c.grid) as usize),
+        Part::Box => 1 + 8 * (dims_of(c.grid) as usize),
         Part::Capacity(_) => 5,
-        Part::Order => 1 + (window.count as usize),
-        Part::Kernel => kernel_len(k),
+        Part::Order => 1 + (c.window.count as usize),
+        Part::Kernel => kernel_len(c.kernel),
     }
 }
 
@@ -242,17 +227,12 @@ fn row(c: Chain, p: Part) -> [u8; KEPT]
     requires { (c.window.count ≤ 32) × Inside c.window.count p }
     ensures { result ≡ padded (row_of c p) }
 {
-    let window = c.window;
-    let bounds = c.bounds;
-    let capacities = c.capacities;
-    let order = c.order;
-    let kernel = c.kernel;
     match p {
-        Part::Offset(k) => offset_row(window, k),
-        Part::Box => box_row(bounds),
-        Part::Capacity(k) => capacity_row(capacities[k]),
-        Part::Order => order_row(order),
-        Part::Kernel => kernel_row(kernel),
+        Part::Offset(k) => offset_row(c.window, k),
+        Part::Box => box_row(c.bounds),
+        Part::Capacity(k) => capacity_row(c.capacities[k]),
+        Part::Order => order_row(c.order),
+        Part::Kernel => kernel_row(c.kernel),
     }
 }
 
@@ -261,37 +241,27 @@ fn put_frame(out: &mut [u8], at: usize, x: [u8; KEPT], len: usize) -> usize
     requires { (len ≤ kept) × (at + 2 * len + 1 ≤ length out.old) }
     ensures { (result ≡ at + 2 * len + 1) × (out.new ≡ sets out.old at (framed (take len x))) }
 {
-    let mut p = at;
-    let mut i: usize = 0;
-    while i < len {
+    for i in 0..len {
         let b = x[i];
-        out[p] = high_digit(b);
-        out[p + 1] = low_digit(b);
-        p = p + 2;
-        i += 1;
+        out[at + 2 * i] = high_digit(b);
+        out[at + 2 * i + 1] = low_digit(b);
     }
-    out[p] = b'\n';
-    p + 1
+    out[at + 2 * len] = b'\n';
+    at + 2 * len + 1
 }
 
 fn sheet_len(c: Chain) -> usize
     requires { Counted c }
     ensures { HasLength c result }
 {
-    let grid = c.grid;
-    let window = c.window;
-    let bounds = c.bounds;
-    let order = c.order;
-    let boxed = bounds.stood;
-    let ordered = order.stood;
-    let n = window.count as usize;
+    let boxed = c.bounds.stood;
+    let ordered = c.order.stood;
+    let n = c.window.count as usize;
     let lines = lines_behind(boxed, ordered, n);
-    let mut total = 2 * grid_len(grid) + 1;
-    let mut m: usize = 0;
-    while m < lines {
+    let mut total = 2 * grid_len(c.grid) + 1;
+    for m in 0..lines {
         let len = line_len(c, part_at(boxed, ordered, n, m));
-        total = total + 2 * len + 1;
-        m += 1;
+        total += 2 * len + 1;
     }
     total
 }
@@ -305,9 +275,7 @@ fn put_grid(out: &mut [u8], g: Grid, rows: &[u32]) -> usize
     if g.skewed {
         return skewed::put_rows(out, g.rows, rows);
     }
-    let x = grid_row(g);
-    let len = grid_len(g);
-    put_frame(out, 0, x, len)
+    put_frame(out, 0, grid_row(g), grid_len(g))
 }
 
 fn put_sheet(out: &mut [u8], c: Chain, rows: &[u32]) -> usize
@@ -315,61 +283,36 @@ fn put_sheet(out: &mut [u8], c: Chain, rows: &[u32]) -> usize
     ensures { (result ≡ length (sheet_of c rows.now))
         × (out.new ≡ sets out.old 0 (sheet_of c rows.now)) }
 {
-    let grid = c.grid;
-    let window = c.window;
-    let bounds = c.bounds;
-    let order = c.order;
-    let boxed = bounds.stood;
-    let ordered = order.stood;
-    let n = window.count as usize;
+    let boxed = c.bounds.stood;
+    let ordered = c.order.stood;
+    let n = c.window.count as usize;
     let lines = lines_behind(boxed, ordered, n);
-    let mut at = put_grid(out, grid, rows);
-    let mut m: usize = 0;
-    while m < lines {
+    let mut at = put_grid(out, c.grid, rows);
+    for m in 0..lines {
         let p = part_at(boxed, ordered, n, m);
         let len = line_len(c, p);
         let x = row(c, p);
         at = put_frame(out, at, x, len);
-        m += 1;
     }
     at
 }
 
-// A chain sheet into the lent output, or why not: 16 of a skewed grid, the counts' 3 and 4, then 12. Nothing else of the
-// chain is judged.
-pub fn write_sheet(c: Chain, rows: &[u32], out: &mut [u8]) -> Wrote
+// A chain sheet into the lent output, and how many bytes it has, or why not: 16 of a skewed grid, the counts' 3 and 4, then
+// 12. Nothing else of the chain is judged.
+pub fn write_sheet(c: Chain, rows: &[u32], out: &mut [u8]) -> Result<usize, Refusal>
     ensures { written result out.new ≡ lay_of c rows.now out.old }
 {
-    let grid = c.grid;
-    let window = c.window;
-    if skewed::bad_rows(grid, rows) {
-        return Wrote {
-            verdict: Verdict::Refused(Refusal::BadRows),
-            bytes: 0,
-        };
+    if skewed::bad_rows(c.grid, rows) {
+        return Err(Refusal::BadRows);
     }
-    let dims = dims_of(grid);
-    if limits::bad_dims(dims) {
-        return Wrote {
-            verdict: Verdict::Refused(Refusal::BadGrid),
-            bytes: 0,
-        };
+    if limits::bad_dims(dims_of(c.grid)) {
+        return Err(Refusal::BadGrid);
     }
-    if limits::bad_count(window.count) {
-        return Wrote {
-            verdict: Verdict::Refused(Refusal::BadCount),
-            bytes: 0,
-        };
+    if limits::bad_count(c.window.count) {
+        return Err(Refusal::BadCount);
     }
     if out.len() < sheet_len(c) {
-        return Wrote {
-            verdict: Verdict::Refused(Refusal::ShortOutput),
-            bytes: 0,
-        };
+        return Err(Refusal::ShortOutput);
     }
-    let bytes = put_sheet(out, c, rows);
-    Wrote {
-        verdict: Verdict::Accepted,
-        bytes,
-    }
+    Ok(put_sheet(out, c, rows))
 }

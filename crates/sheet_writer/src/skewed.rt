@@ -9,16 +9,13 @@ ghost use Rattle.sheet_laws.specs.Sections.{rows_line};
 
 use hexadecimal::{high_digit, low_digit};
 use model::Grid;
-use numbers::{number_at, wide_usize};
+use numbers::number_at;
 
 // 16, of a skewed grid.
 pub(crate) fn bad_rows(g: Grid, rows: &[u32]) -> bool
     ensures { result ≡ (g.skewed && bad_rows (rows_of g.rows rows.now)) }
 {
-    if g.skewed {
-        return limits::bad_rows(g.rows, rows);
-    }
-    false
+    g.skewed && limits::bad_rows(g.rows, rows)
 }
 
 // A number of 2 bytes, from place `at` of the output on; the place behind it.
@@ -43,13 +40,9 @@ pub(crate) fn put_rows(out: &mut [u8], count: u32, rows: &[u32]) -> usize
 {
     out[0] = b'0';
     out[1] = b'9';
-    let n = 2 * wide_usize(count);
     let mut at = put_number(out, 2, count);
-    let mut i: usize = 0;
-    while i < n {
-        let w = number_at(rows, i);
-        at = put_number(out, at, w);
-        i += 1;
+    for i in 0..2 * (count as usize) {
+        at = put_number(out, at, number_at(rows, i));
     }
     out[at] = b'\n';
     at + 1

@@ -3,15 +3,13 @@
 #![tactic(auto)]
 
 ghost use Rattle.std.specs.Prelude.{◌≡◌};
-ghost use Rattle.model.specs.Answers.{number_of, answer_counts};
+ghost use Rattle.model.specs.Answers.{answer_counts};
 ghost use Rattle.model.specs.Values.{dims_of, blank_chain, request_of, set_grid, set_window, set_bounds, set_capacities, set_order};
 ghost use Rattle.model.specs.Values.{set_kernel};
 
-use model::{
-    Answer, Bounds, Chain, Counts, Grid, Kernel, Order, Outcome, Refusal, Request, Window,
-};
+use model::{Bounds, Chain, Counts, Grid, Kernel, Order, Outcome, Refusal, Request, Window};
 
-// What a refusal hands back in place of a chain.
+// The chain before a sheet's first line, and of too few words.
 pub fn blank_chain() -> Chain
     ensures { result ≡ blank_chain }
 {
@@ -44,15 +42,11 @@ pub fn blank_chain() -> Chain
 pub fn request_of(c: Chain) -> Request
     ensures { result ≡ request_of c }
 {
-    let grid = c.grid;
-    let window = c.window;
-    let bounds = c.bounds;
-    let kernel = c.kernel;
     Request {
-        grid,
-        window,
-        bounds,
-        kernel,
+        grid: c.grid,
+        window: c.window,
+        bounds: c.bounds,
+        kernel: c.kernel,
     }
 }
 
@@ -61,102 +55,57 @@ pub fn request_of(c: Chain) -> Request
 pub fn set_grid(c: Chain, grid: Grid) -> Chain
     ensures { result ≡ set_grid grid c }
 {
-    let mut r = c;
-    r.grid = grid;
-    r
+    Chain { grid, ..c }
 }
 
 pub fn set_window(c: Chain, window: Window) -> Chain
     ensures { result ≡ set_window window c }
 {
-    let mut r = c;
-    r.window = window;
-    r
+    Chain { window, ..c }
 }
 
 pub fn set_bounds(c: Chain, bounds: Bounds) -> Chain
     ensures { result ≡ set_bounds bounds c }
 {
-    let mut r = c;
-    r.bounds = bounds;
-    r
+    Chain { bounds, ..c }
 }
 
 pub fn set_capacities(c: Chain, capacities: [u32; 31]) -> Chain
     ensures { result ≡ set_capacities capacities c }
 {
-    let mut r = c;
-    r.capacities = capacities;
-    r
+    Chain { capacities, ..c }
 }
 
 pub fn set_order(c: Chain, order: Order) -> Chain
     ensures { result ≡ set_order order c }
 {
-    let mut r = c;
-    r.order = order;
-    r
+    Chain { order, ..c }
 }
 
 pub fn set_kernel(c: Chain, kernel: Kernel) -> Chain
     ensures { result ≡ set_kernel kernel c }
 {
-    let grid = c.grid;
-    let window = c.window;
-    let bounds = c.bounds;
-    let capacities = c.capacities;
-    let order = c.order;
-    Chain {
-        grid,
-        window,
-        bounds,
-        capacities,
-        order,
-        kernel,
-    }
-}
-
-// The number of a refusal.
-pub fn number_of(n: Refusal) -> u8
-    ensures { result ≡ number_of n }
-{
-    match n {
-        Refusal::Malformed => 1,
-        Refusal::Misplaced => 2,
-        Refusal::BadGrid => 3,
-        Refusal::BadCount => 4,
-        Refusal::EqualOffsets => 5,
-        Refusal::NoIteration => 6,
-        Refusal::NoCentre => 7,
-        Refusal::BadFactor => 8,
-        Refusal::TooLarge => 9,
-        Refusal::ShortStore => 10,
-        Refusal::BadState => 11,
-        Refusal::ShortOutput => 12,
-        Refusal::BadName => 13,
-        Refusal::BadOrder => 14,
-        Refusal::BadBox => 15,
-        Refusal::BadRows => 16,
-    }
+    Chain { kernel, ..c }
 }
 
 // What a call did.
-pub fn counts_of(a: Answer) -> Counts
+#[tactic(auto, unfolding(model::specs::Answers::answer_counts, model::specs::Answers::outcome_counts))]
+pub fn counts_of(a: Result<Outcome, Refusal>) -> Counts
     ensures { result ≡ answer_counts a }
 {
     match a {
-        Answer::Refused(_) => Counts {
+        Err(_) => Counts {
             cells: 0,
             firings: 0,
             clocks: 0,
         },
-        Answer::Ended(o) => match o {
-            Outcome::Done(c) => c,
-            Outcome::Stalled(c) => c,
-            Outcome::Starved(c) => c,
-            Outcome::Full(c) => c,
-            Outcome::Spent(c) => c,
-        },
+        Ok(
+            Outcome::Done(c)
+            | Outcome::Spent(c)
+            | Outcome::Starved(c)
+            | Outcome::Stalled(c)
+            | Outcome::Full(c),
+        ) => c,
     }
 }
 

@@ -8,7 +8,7 @@ use native.Mathlib.Omega.{arith}
 use lib.Dec.{ltb}
 use lib.IntN.{ℤ, pos}
 use lib.ListN.{get_or, replicate, get_or-eq_default}
-use lib.Signed.{lt_z}
+use Rattle.std.specs.Int.{int_min}
 use borrow.Author.Tests.{lt-ltb, le-ltb, le-leb, lt-leb}
 use Rattle.model.specs.Lists.{tabulate, greatest}
 use Rattle.model.specs.Vectors.{above}
@@ -28,9 +28,9 @@ module _ (e : ℕ → ℤ) where
   unfolding least
   least_start n h = rw (← part_all e n, part_more e 0 n h)
 
-  pub least_on : (low : ℤ) (k n : ℕ) → k < n → least_from (cond (lt_z (e k) low) (e k) low) (part e (k + 1) n) ≡ least_from low (part e k n)
+  pub least_on : (low x next : ℤ) (k n : ℕ) → k < n → x ≡ e k → next ≡ int_min low x → {whole : ℤ} → least_from low (part e k n) ≡ whole → least_from next (part e (k + 1) n) ≡ whole
   unfolding least_from
-  least_on low k n h = rw (part_more e k n h)
+  least_on low x next k n h is least all = rw (least, is) (rw (part_more e k n h) at all)
 
   pub least_end : (low : ℤ) (k n : ℕ) → n ≤ k → low ≡ least_from low (part e k n)
   unfolding least_from

@@ -5,11 +5,19 @@ use mathlib.Core.List.{List, [], ◌∷◌}
 use mathlib.Core.Path.{◌≡◌, refl, sym, ◌∙◌, ap}
 use native.Mathlib.Decide.{dec_lt}
 use native.Mathlib.Omega.{arith}
-use lib.Dec.{ltb, leb-suc-suc}
-use lib.IntN.{ℤ, pos}
-use lib.ListN.{length, get_or, replicate, length-replicate, get_or-replicate, get_or-eq_default}
+use lib.Dec.{eqb, ltb, leb-suc-suc}
+use lib.Pointwise.{pointwise}
+use lib.IntN.{ℤ, pos, negsuc}
+use lib.ListN.{length, get_or, take, replicate, length-replicate, get_or-replicate, get_or-eq_default}
 use lib.Signed.{lt_z}
 use borrow.Author.Tests.{lt-ltb, le-ltb, le-leb, lt-leb}
+use Rattle.std.specs.Prelude.{Option, Some}
+use Rattle.std.specs.Ordering.{int_cmp, int_eq, is_eq, is_lt, is_some_and, partial_ordering_then}
+use Rattle.std.specs.Cmp.Lexicographic.{slice_partial_cmp}
+use Rattle.std.specs.declared.cmp.Ordering.{Ordering}
+use Rattle.std.specs.declared.cmp.Ordering.TheVariants.{Less, Equal, Greater}
+use Rattle.std.proofs.lemmas.Bool.Decides.{nat_tests}
+use Rattle.std.proofs.lemmas.List.{take_min}
 use Rattle.model.specs.Lists.{tabulate, any}
 use Rattle.model.specs.Vectors.{same, equal, before, is_zero}
 use Rattle.model.specs.Values.{offset_of, offsets_of}
@@ -22,7 +30,7 @@ use Rattle.grid_laws.proofs.OrderLaws.{equal_itself}
 use Rattle.geometry.specs.Parts.{part, entry_at, offset_at}
 use Rattle.windows.specs.Offsets.{offset_in, front}
 use Rattle.windows.specs.Windows.{held, repeats_in, centre_in, has_centre}
-use Rattle.geometry.proofs.PartLaws.{part_none, part_more, part_same}
+use Rattle.geometry.proofs.PartLaws.{part_none, part_more}
 
 -- No offset comes before itself.
 before_itself : (xs : List ℤ) → before xs xs ≡ false
@@ -30,39 +38,47 @@ unfolding before
 before_itself [] = refl
 before_itself (x ∷ xs) = rw (le_z_lt_z x x (le_z_refl x), before_itself xs, and-false)
 
--- Two offsets: the entries from d on.
-module _ (f g : ℕ → ℤ) (d n : ℕ) where
-  pub equal_on : d < n → same (f d) (g d) ≡ true → equal (part f (d + 1) n) (part g (d + 1) n) ≡ equal (part f d n) (part g d n)
-  unfolding equal
-  equal_on h e = rw (part_more f d n h, part_more g d n h, e)
+-- Two entries are the same if they compare as equal.
+nat_same : (a b : ℕ) → eqb a b ≡ is_eq (cond (ltb a b) Less (cond (ltb b a) Greater Equal))
+nat_same a b = grind (arith, nat_tests)
 
-  pub equal_not : d < n → same (f d) (g d) ≡ false → false ≡ equal (part f d n) (part g d n)
-  unfolding equal
-  equal_not h e = rw (part_more f d n h, part_more g d n h, e)
+nat_same_down : (a b : ℕ) → eqb a b ≡ is_eq (cond (ltb b a) Less (cond (ltb a b) Greater Equal))
+nat_same_down a b = grind (arith, nat_tests)
 
-  pub equal_end : ((i : ℕ) → d ≤ i → i < n → f i ≡ g i) → true ≡ equal (part f d n) (part g d n)
-  equal_end e = rw (part_same f g d n e) (sym (equal_itself (part g d n)))
+same_is : (x y : ℤ) → same x y ≡ int_eq x y
+unfolding same
+same_is (pos a) (pos b) = nat_same a b
+same_is (pos a) (negsuc b) = refl
+same_is (negsuc a) (pos b) = refl
+same_is (negsuc a) (negsuc b) = nat_same_down a b
 
-  pub before_here : d < n → lt_z (f d) (g d) ≡ true → true ≡ before (part f d n) (part g d n)
-  unfolding before
-  before_here h e = rw (part_more f d n h, part_more g d n h, e)
+-- The first entries of two offsets, compared as slices.
+pub equal_slices : (n : ℕ) (a b : List ℤ) → length a ≡ length b → pointwise int_eq (take n a) (take n b) ≡ equal (front n a) (front n b)
+unfolding equal tabulate
+equal_slices zero a b h = refl
+equal_slices (suc n) [] [] h = sym (equal_itself (front (suc n) []))
+equal_slices (suc n) [] (y ∷ ys) h = absurd (omega arith)
+equal_slices (suc n) (x ∷ xs) [] h = absurd (omega arith)
+equal_slices (suc n) (x ∷ xs) (y ∷ ys) h = rw (same_is x y) (ap (λ (t : Bool). int_eq x y && t) (equal_slices n xs ys (omega arith)))
 
-  pub before_not : d < n → lt_z (f d) (g d) ≡ false → same (f d) (g d) ≡ false → false ≡ before (part f d n) (part g d n)
-  unfolding before
-  before_not h e s = rw (part_more f d n h, part_more g d n h, e, s)
+-- One entry of each, and the order of the rest.
+then_rest : (less greater : Bool) (rest : Option Ordering) (t : Bool) → is_some_and is_lt rest ≡ t
+    → is_some_and is_lt (partial_ordering_then (Some (cond less Less (cond greater Greater Equal))) rest) ≡ cond less true (is_eq (cond less Less (cond greater Greater Equal)) && t)
+then_rest true greater rest t e = refl
+then_rest false true rest t e = refl
+then_rest false false rest t e = e
 
-  pub before_on : d < n → lt_z (f d) (g d) ≡ false → same (f d) (g d) ≡ true
-      → before (part f (d + 1) n) (part g (d + 1) n) ≡ before (part f d n) (part g d n)
-  unfolding before
-  before_on h e s = rw (part_more f d n h, part_more g d n h, e, s)
+pub before_slices : (n : ℕ) (a b : List ℤ) → length a ≡ length b → is_some_and is_lt (slice_partial_cmp (λ x y. Some (int_cmp x y)) (take n a) (take n b)) ≡ before (front n a) (front n b)
+unfolding before tabulate
+before_slices zero a b h = refl
+before_slices (suc n) [] [] h = sym (before_itself (front (suc n) []))
+before_slices (suc n) [] (y ∷ ys) h = absurd (omega arith)
+before_slices (suc n) (x ∷ xs) [] h = absurd (omega arith)
+before_slices (suc n) (x ∷ xs) (y ∷ ys) h = rw (same_is x y) (then_rest (lt_z x y) (lt_z y x) _ _ (before_slices n xs ys (omega arith)))
 
-  pub before_end : ((i : ℕ) → d ≤ i → i < n → f i ≡ g i) → false ≡ before (part f d n) (part g d n)
-  before_end e = rw (part_same f g d n e) (sym (before_itself (part g d n)))
-
--- Two offsets of four entries have the same past these.
-pub past_four : (a b : List ℤ) (dims n : ℕ) → length a ≡ 4 → length b ≡ 4 → min dims 4 ≤ n → (i : ℕ) → n ≤ i → i < dims → get_or a i (pos 0) ≡ get_or b i (pos 0)
-past_four a b dims n h k m i from to =
-    get_or-eq_default a (pos 0) (omega arith) ∙ sym (get_or-eq_default b (pos 0) (omega arith))
+-- An offset has no more than four entries.
+pub first_four : (n dims : ℕ) (o : List ℤ) → n ≡ min dims 4 → length o ≡ 4 → take n o ≡ take dims o
+first_four n dims o e h = rw (e, ← h) (take_min dims o)
 
 -- A reference's offset, taken out of the window.
 module _ (offsets : List ℤ) (k : ℕ) where

@@ -1,79 +1,21 @@
 -- Laws of sums of entries, and of offsets entry by entry.
 use Prim.Native.Nat.{ℕ, zero, suc, ◌+◌, ◌-◌, ◌≤◌, ◌<◌, min}
-use mathlib.Core.Bool.{Bool, true, false, cond, ◌&&◌, false≢true}
+use mathlib.Core.Bool.{Bool, true, false, ◌&&◌, and-false}
 use mathlib.Core.List.{List, ◌∷◌}
 use mathlib.Core.Path.{◌≡◌, refl, sym, ◌∙◌, ap, ap₂}
-use native.Mathlib.Decide.{dec_lt}
+use native.Mathlib.Decide.{ℕ_discrete, dec_lt}
 use native.Mathlib.Omega.{arith}
-use lib.Dec.{ltb}
-use lib.IntN.{ℤ, pos, negsuc, ◌+ℤ◌, sub_ℕ}
+use lib.IntN.{ℤ, pos, ◌+ℤ◌}
 use lib.ListN.{length, get_or, set, replicate, get_or-eq_default}
-use lib.Signed.{mag, lt_z}
-use borrow.Author.Tests.{ltb-true, ltb-false, lt-ltb, le-ltb}
+use lib.Signed.{mag}
+use borrow.Author.Tests.{lt-ltb, le-ltb}
 use Rattle.model.specs.Lists.{tabulate, all}
 use Rattle.model.specs.Vectors.{plus}
-use Rattle.grid_laws.proofs.IntegerLaws.{sub_small, sub_large}
 use Rattle.grid_laws.proofs.ListLaws.{length_tabulate, get_d_tabulate, each_all}
 use Rattle.geometry.specs.Parts.{part, Filled}
 use Rattle.geometry.proofs.PartLaws.{part_more, part_all}
 use Rattle.geometry.proofs.FillLaws.{filled_none, filled_more, filled_all}
-use Rattle.windows.specs.Offsets.{held16, kept16, added_entry, added_of}
-
--- Two entries add up to what 32 bits hold.
-pub small_sum : (x y : ℤ) → mag x < 32768 → mag y < 32768 → mag (x +ℤ y) < 2147483648
-small_sum (pos a) (pos b) h k = omega arith
-small_sum (negsuc a) (negsuc b) h k = omega arith
-small_sum (pos a) (negsuc b) h k = go (dec_lt a (suc b))
-  where
-    go : Dec (a < suc b) → mag (sub_ℕ a (suc b)) < 2147483648
-    go (yes l) = rw (sub_small a (suc b) l) (omega arith)
-    go (no l) = rw (sub_large a (suc b) (omega arith)) (omega arith)
-small_sum (negsuc a) (pos b) h k = go (dec_lt b (suc a))
-  where
-    go : Dec (b < suc a) → mag (sub_ℕ b (suc a)) < 2147483648
-    go (yes l) = rw (sub_small b (suc a) l) (omega arith)
-    go (no l) = rw (sub_large b (suc a) (omega arith)) (omega arith)
-
--- The tests that the code makes of a sum.
-too_low : (s : ℤ) → lt_z s (negsuc 32767) ≡ true → held16 s ≡ false
-unfolding held16
-too_low (pos a) h = absurd (false≢true h)
-too_low (negsuc a) h = le-ltb a 32768 (omega (arith, ltb-true 32767 a h))
-
-too_high : (s : ℤ) → lt_z (pos 32767) s ≡ true → held16 s ≡ false
-unfolding held16
-too_high (pos a) h = le-ltb a 32768 (omega (arith, ltb-true 32767 a h))
-too_high (negsuc a) h = absurd (false≢true h)
-
-pub sum_small : (s : ℤ) → lt_z s (negsuc 32767) ≡ false → lt_z (pos 32767) s ≡ false → mag s < 32768
-sum_small (pos a) h k = omega (arith, ltb-false 32767 a k)
-sum_small (negsuc a) h k = omega (arith, ltb-false 32767 a h)
-
-between : (s : ℤ) → mag s < 32768 → held16 s ≡ true
-unfolding held16
-between s h = lt-ltb (mag s) 32768 h
-
--- What is answered of them.
-chosen : (x y s : ℤ) (b : Bool) → s ≡ x +ℤ y → held16 s ≡ b → record { fits = b; entry = cond b s (pos 0) } ≡ added_entry x y
-unfolding kept16
-chosen x y s b e h = rw (← e, h)
-
-pub sum_low : (x y s : ℤ) → s ≡ x +ℤ y → lt_z s (negsuc 32767) ≡ true → record { fits = false; entry = pos 0 } ≡ added_entry x y
-sum_low x y s e h = chosen x y s false e (too_low s h)
-
-pub sum_high : (x y s : ℤ) → s ≡ x +ℤ y → lt_z (pos 32767) s ≡ true → record { fits = false; entry = pos 0 } ≡ added_entry x y
-sum_high x y s e h = chosen x y s false e (too_high s h)
-
-pub sum_held : (x y s : ℤ) → s ≡ x +ℤ y → mag s < 32768 → record { fits = true; entry = s } ≡ added_entry x y
-sum_held x y s e h = chosen x y s true e (between s h)
-
-pub kept_small : (z : ℤ) → mag (kept16 z) < 32768
-unfolding kept16 held16
-kept_small z = go (ltb (mag z) 32768) refl
-  where
-    go : (b : Bool) → ltb (mag z) 32768 ≡ b → mag (cond b z (pos 0)) < 32768
-    go true e = ltb-true (mag z) 32768 e
-    go false e = omega arith
+use Rattle.windows.specs.Offsets.{held16, kept16, added_of}
 
 -- Offsets that are given entry by entry.
 plus_by : (n : ℕ) (f g : ℕ → ℤ) → plus (tabulate n f) (tabulate n g) ≡ tabulate n (λ d. f d +ℤ g d)
@@ -94,20 +36,34 @@ module _ (dims : ℕ) (a b : List ℤ) where
   pub added_none : AddedTo 0 true (replicate 4 (pos 0))
   added_none = record { held = ap (all held16) (part_all sum_at dims); filled = filled_none 4 (pos 0) (λ i. kept16 (sum_at i)) }
 
-  pub added_more : (d : ℕ) (fits next : Bool) (entries : List ℤ) (entry : ℤ) → d < dims → d < 4 → next ≡ fits && held16 (sum_at d) → entry ≡ kept16 (sum_at d)
-      → AddedTo d fits entries → AddedTo (d + 1) next (set entries d entry)
-  unfolding all
-  added_more d fits next entries entry h k e f r = record {
-    held = ap (λ (t : Bool). t && all held16 (part sum_at (d + 1) dims)) e ∙ regroup fits ∙ ap (λ (xs : List ℤ). fits && all held16 xs) (sym (part_more sum_at d dims h)) ∙ r.held;
-    filled = filled_more 4 (pos 0) (λ i. kept16 (sum_at i)) d entries entry k f r.filled;
-  }
-    where
-      rest : Bool
-      rest = all held16 (part sum_at (d + 1) dims)
+  module _ (d : ℕ) (fits : Bool) (entries : List ℤ) (h : d < dims) (r : AddedTo d fits entries) where
+    held_next : (t : Bool) → held16 (sum_at d) ≡ t → fits && (t && all held16 (part sum_at (d + 1) dims)) ≡ all held16 (tabulate dims sum_at)
+    unfolding all
+    held_next t e = ap (λ (u : Bool). fits && (u && all held16 (part sum_at (d + 1) dims))) (sym e) ∙ ap (λ (xs : List ℤ). fits && all held16 xs) (sym (part_more sum_at d dims h)) ∙ r.held
 
-      regroup : (t : Bool) → (t && held16 (sum_at d)) && rest ≡ t && (held16 (sum_at d) && rest)
-      regroup true = refl
-      regroup false = refl
+    -- 16 bits hold the next sum; or not, and its entry stays 0.
+    pub added_more : (entry : ℤ) → d < 4 → mag (sum_at d) < 32768 → sum_at d ≡ entry → AddedTo (d + 1) fits (set entries d entry)
+    unfolding kept16 held16
+    added_more entry k f e =
+        let t = lt-ltb (mag (sum_at d)) 32768 f in
+        record { held = held_next true t; filled = filled_more 4 (pos 0) (λ i. kept16 (sum_at i)) d entries entry k (rw t (sym e)) r.filled }
+
+    pub added_skip : (mag (sum_at d) < 32768 → ⊥) → AddedTo (d + 1) false entries
+    unfolding kept16 held16
+    added_skip f =
+        let t = le-ltb (mag (sum_at d)) 32768 (omega arith) in
+        record {
+          held = sym (and-false fits) ∙ held_next false t;
+          filled = record {
+            long = r.filled.long;
+            done = λ i k. at i k (ℕ_discrete i d);
+            left = λ i k. r.filled.left i (omega arith);
+          };
+        }
+      where
+        at : (i : ℕ) → i < d + 1 → Dec (i ≡ d) → get_or entries i (pos 0) ≡ kept16 (sum_at i)
+        at i k (yes e) = rw e (r.filled.left d (omega arith) ∙ rw (le-ltb (mag (sum_at d)) 32768 (omega arith)) refl)
+        at i k (no n) = r.filled.done i (omega arith)
 
   module _ (p : length a ≡ 4) (q : length b ≡ 4) where
     past_zero : (d : ℕ) → 4 ≤ d → sum_at d ≡ pos 0

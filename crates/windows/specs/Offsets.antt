@@ -1,10 +1,9 @@
 -- Offsets as arrays of four entries: compared and added in the first entries of them.
-use Rattle.std.specs.Prelude.{ℕ, Bool, cond, List, ltb, ℤ, pos, ◌+ℤ◌, get_or, replicate}
+use Rattle.std.specs.Prelude.{ℕ, Bool, cond, List, ltb, ℤ, pos, get_or, replicate}
 use Rattle.std.specs.Int.Signed.{mag}
 use Rattle.model.specs.Lists.{tabulate, all}
 use Rattle.model.specs.Vectors.{plus}
 use Rattle.geometry.specs.Parts.{offset_at}
-use Rattle.windows.specs.declared.AddedEntry.{AddedEntry}
 use Rattle.windows.specs.declared.Added.{Added}
 
 -- Reference k's offset, its four entries; 0 past the last reference.
@@ -22,10 +21,6 @@ held16 x = ltb (mag x) 32768
 -- A number; 0 where 16 bits cannot hold it.
 unfoldable pub kept16 : ℤ → ℤ
 kept16 x = cond (held16 x) x (pos 0)
-
--- The sum of two entries: whether 16 bits hold it, and the sum, 0 where they do not.
-abbrev pub added_entry : ℤ → ℤ → AddedEntry
-added_entry x y = record { fits = held16 (x +ℤ y); entry = kept16 (x +ℤ y) }
 
 -- The sum of two offsets, in so many dimensions: whether 16 bits hold each entry, and the entries, 0 where they do not and
 -- past the dimensions.

@@ -11,11 +11,10 @@ ghost use Rattle.model.specs.Vectors.{equal, before};
 ghost use Rattle.model.specs.Judging.{repeats as repeats_of};
 ghost use Rattle.model.specs.Windows.{centre_of};
 ghost use Rattle.geometry.specs.Parts.{part, offset_at};
-ghost use Rattle.windows.specs.Offsets.{offset_in, front, added_entry, added_of};
+ghost use Rattle.windows.specs.Offsets.{offset_in, front, added_of};
 ghost use Rattle.windows.specs.Windows.{repeats_in, centre_in, has_centre};
 
 use model::{MOST_REFERENCES, Window};
-use numbers::lesser;
 
 // Reference k's offset; 0 past the last reference.
 pub fn offset_of(offsets: &[i16; 128], k: usize) -> [i16; 4]
@@ -25,78 +24,27 @@ pub fn offset_of(offsets: &[i16; 128], k: usize) -> [i16; 4]
         return [0i16; 4];
     }
     let i = 4 * k;
-    let w = offsets[i];
-    let x = offsets[i + 1];
-    let y = offsets[i + 2];
-    let z = offsets[i + 3];
-    [w, x, y, z]
+    [offsets[i], offsets[i + 1], offsets[i + 2], offsets[i + 3]]
 }
 
 // Whether two offsets are equal, in so many dimensions.
 pub fn same_offset(a: [i16; 4], b: [i16; 4], dims: usize) -> bool
     ensures { result ≡ equal (front dims a) (front dims b) }
 {
-    let n = lesser(dims, 4);
-    let mut d: usize = 0;
-    while d < n {
-        let x = a[d];
-        let y = b[d];
-        if x != y {
-            return false;
-        }
-        d += 1;
-    }
-    true
+    let n = dims.min(4);
+    a[..n] == b[..n]
 }
 
 // Whether the one comes before the other, in lexicographic order.
 pub fn comes_before(a: [i16; 4], b: [i16; 4], dims: usize) -> bool
     ensures { result ≡ before (front dims a) (front dims b) }
 {
-    let n = lesser(dims, 4);
-    let mut d: usize = 0;
-    while d < n {
-        let x = a[d];
-        let y = b[d];
-        if x < y {
-            return true;
-        }
-        if x != y {
-            return false;
-        }
-        d += 1;
-    }
-    false
+    let n = dims.min(4);
+    a[..n] < b[..n]
 }
 
-// The sum of two entries: whether 16 bits hold it, and the sum, 0 where they do not.
-#[derive(Clone, Copy)]
-pub(crate) struct AddedEntry {
-    pub(crate) fits: bool,
-    pub(crate) entry: i16,
-}
-
-fn add_entries(x: i16, y: i16) -> AddedEntry
-    ensures { result ≡ added_entry x y }
-{
-    let s = x as i32 + y as i32;
-    if s < -32768 {
-        return AddedEntry {
-            fits: false,
-            entry: 0,
-        };
-    }
-    if 32767 < s {
-        return AddedEntry {
-            fits: false,
-            entry: 0,
-        };
-    }
-    let entry = s as i16;
-    AddedEntry { fits: true, entry }
-}
-
-// The sum of two offsets: whether 16 bits hold each of its entries, and the entries, 0 where they do not.
+// The sum of two offsets: whether 16 bits hold each of its entries, and the entries, 0 where they do not. No Option: the
+// other entries are promised, too.
 #[derive(Clone, Copy)]
 pub struct Added {
     pub fits: bool,
@@ -107,21 +55,14 @@ pub struct Added {
 pub fn add_offsets(a: [i16; 4], b: [i16; 4], dims: usize) -> Added
     ensures { result ≡ added_of dims a b }
 {
-    let n = lesser(dims, 4);
+    let n = dims.min(4);
     let mut fits = true;
     let mut entries = [0i16; 4];
-    let mut d: usize = 0;
-    while d < n {
-        let x = a[d];
-        let y = b[d];
-        let s = add_entries(x, y);
-        let held = s.fits;
-        let entry = s.entry;
-        if !held {
-            fits = false;
+    for d in 0..n {
+        match a[d].checked_add(b[d]) {
+            Some(entry) => entries[d] = entry,
+            None => fits = false,
         }
-        entries[d] = entry;
-        d += 1;
     }
     Added { fits, entries }
 }
@@ -134,13 +75,11 @@ fn occurs_later(offsets: &[i16; 128], k: usize, count: usize, dims: usize) -> bo
         (part (λ i. offset_at dims offsets.now i) (k + 1) count) }
 {
     let o = offset_of(offsets, k);
-    let mut j = k + 1;
-    while j < count {
+    for j in k + 1..count {
         let p = offset_of(offsets, j);
         if same_offset(o, p, dims) {
             return true;
         }
-        j += 1;
     }
     false
 }
@@ -150,12 +89,10 @@ fn repeats_in(offsets: &[i16; 128], count: usize, dims: usize) -> bool
     requires { (count ≤ 32) × (dims ≤ 4) }
     ensures { result ≡ repeats_of (tabulate count (offset_at dims offsets.now)) }
 {
-    let mut k: usize = 0;
-    while k < count {
+    for k in 0..count {
         if occurs_later(offsets, k, count, dims) {
             return true;
         }
-        k += 1;
     }
     false
 }
@@ -171,8 +108,7 @@ pub fn repeats(dims: u8, window: Window) -> bool
     if MOST_REFERENCES < count {
         return false;
     }
-    let offsets = window.offsets;
-    repeats_in(&offsets, count as usize, dims as usize)
+    repeats_in(&window.offsets, count as usize, dims as usize)
 }
 
 // Which of `count` references is the centre; the count where none is.
@@ -180,18 +116,16 @@ fn centre_in(offsets: &[i16; 128], count: u8, dims: usize) -> u8
     requires { (count ≤ 32) × (dims ≤ 4) }
     ensures { result ≡ centre_of (tabulate count (offset_at dims offsets.now)) }
 {
-    let mut k: u8 = 0;
-    while k < count {
+    for k in 0..count {
         let o = offset_of(offsets, k as usize);
         if same_offset(o, [0i16; 4], dims) {
             return k;
         }
-        k += 1;
     }
     count
 }
 
-// Which reference is the centre; the count where there is none.
+// Which reference is the centre; the count where there is none, as `centre_of` of the definitions.
 pub fn centre(dims: u8, window: Window) -> u8
     ensures { result ≡ centre_in dims window }
 {
@@ -202,8 +136,7 @@ pub fn centre(dims: u8, window: Window) -> u8
     if MOST_REFERENCES < n {
         return n;
     }
-    let offsets = window.offsets;
-    centre_in(&offsets, n, dims as usize)
+    centre_in(&window.offsets, n, dims as usize)
 }
 
 // Whether a reference is the centre.

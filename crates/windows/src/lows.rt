@@ -1,10 +1,7 @@
 // The least entry of each dimension of a window, how far entries lie above it, and the index of an iteration counted from it.
-ghost use Rattle.std.specs.Prelude.{◌≡◌, cond};
-ghost use Rattle.std.specs.Int.Signed.{lt_z};
+ghost use Rattle.std.specs.Prelude.{◌≡◌};
 ghost use Rattle.model.specs.Vectors.{above};
 ghost use Rattle.windows.specs.Lows.{low_in, lows_in, span_in, heights_in, index_in};
-
-use numbers::{greater_u32, lesser as fewer};
 
 // How far x lies above low; 0 where it lies below.
 pub fn height(x: i16, low: i16) -> u32
@@ -13,16 +10,7 @@ pub fn height(x: i16, low: i16) -> u32
     if x < low {
         return 0;
     }
-    (x as i32 - low as i32) as u32
-}
-
-fn lesser(x: i16, y: i16) -> i16
-    ensures { result ≡ cond (lt_z y x) y x }
-{
-    if y < x {
-        return y;
-    }
-    x
+    x.abs_diff(low) as u32
 }
 
 // The least entry of dimension d; 0 where there is none.
@@ -39,11 +27,8 @@ pub fn low_in(offsets: &[i16; 128], count: usize, d: usize) -> i16
         return 0;
     }
     let mut low = offsets[d];
-    let mut k: usize = 1;
-    while k < count {
-        let x = offsets[4 * k + d];
-        low = lesser(low, x);
-        k += 1;
+    for k in 1..count {
+        low = low.min(offsets[4 * k + d]);
     }
     low
 }
@@ -52,13 +37,10 @@ pub fn low_in(offsets: &[i16; 128], count: usize, d: usize) -> i16
 pub fn lows_of(offsets: &[i16; 128], count: usize, dims: usize) -> [i16; 4]
     ensures { result ≡ lows_in dims count offsets.now }
 {
-    let n = fewer(dims, 4);
+    let n = dims.min(4);
     let mut lows = [0i16; 4];
-    let mut d: usize = 0;
-    while d < n {
-        let low = low_in(offsets, count, d);
-        lows[d] = low;
-        d += 1;
+    for d in 0..n {
+        lows[d] = low_in(offsets, count, d);
     }
     lows
 }
@@ -74,11 +56,8 @@ pub fn span_in(offsets: &[i16; 128], count: usize, d: usize, low: i16) -> u32
         return 0;
     }
     let mut span: u32 = 0;
-    let mut k: usize = 0;
-    while k < count {
-        let x = offsets[4 * k + d];
-        span = greater_u32(span, height(x, low));
-        k += 1;
+    for k in 0..count {
+        span = span.max(height(offsets[4 * k + d], low));
     }
     span
 }
@@ -94,12 +73,8 @@ pub fn heights_in(offsets: &[i16; 128], count: usize, d: usize, low: i16) -> [u3
     if 4 <= d {
         return r;
     }
-    let mut k: usize = 0;
-    while k < count {
-        let x = offsets[4 * k + d];
-        let far = height(x, low);
-        r[k] = far;
-        k += 1;
+    for k in 0..count {
+        r[k] = height(offsets[4 * k + d], low);
     }
     r
 }

@@ -2,28 +2,25 @@
 use Prim.Native.Nat.{ℕ}
 use mathlib.Core.Bool.{false}
 use mathlib.Core.List.{List}
-use mathlib.Core.Path.{◌≡◌, refl, sym, ◌∙◌}
+use mathlib.Core.Path.{◌≡◌, sym, ◌∙◌, ap}
 use native.Mathlib.Omega.{arith}
 use lib.ListN.{length}
 use borrow.Author.Tests.{le-ltb}
-use Rattle.model.specs.Answers.{by_verdict}
 use Rattle.model.specs.Judging.{judge_chain}
 use Rattle.model.specs.Lists.{tabulate}
 use Rattle.model.specs.Planning.{trimmed_request, judge_request, planned_chain, plan_of}
 use Rattle.model_run.specs.Running.{run_of}
 use Rattle.model.specs.Steps.{sorted}
-use Rattle.model.specs.Values.{ground_of, trimmed, grid_of, chain_of, blank_chain}
+use Rattle.model.specs.Values.{ground_of, trimmed, grid_of, chain_of}
 use Rattle.model_sheet.specs.Writing.{chain_lines, sheet_of, write_verdict, write_of}
 use Rattle.model.specs.declared.Chain.{Chain}
 use Rattle.model.specs.declared.Grid.{Grid}
-use Rattle.model.specs.declared.Planned.{Planned}
 use Rattle.model.specs.declared.Request.{Request}
-use Rattle.model.specs.declared.Verdict.{Verdict}
-use Rattle.model.specs.declared.Verdict.TheVariants as verdict
+use Rattle.std.specs.Prelude.{Ok}
 use Rattle.grid_laws.proofs.ChainLaws.{ground_flat}
+use Rattle.grid_laws.proofs.StepLaws.{plan_chain}
 use Rattle.zohmirka_words.specs.Words.{row_places, row_words, rows_into}
 use Rattle.zohmirka_runs.specs.Runs.{run_value}
-use Rattle.zohmirka.specs.Calls.{written}
 
 ground_alike : (g : Grid) → g.skewed ≡ false → (rows rows' : List ℕ) → ground_of g rows ≡ ground_of g rows'
 ground_alike g flat rows rows' = ground_flat g flat rows ∙ sym (ground_flat g flat rows')
@@ -41,9 +38,9 @@ module _ (c : Chain) (flat : c.grid.skewed ≡ false) (rows rows' : List ℕ) wh
   unfolding sheet_of chain_lines
   sheet_flat = rw (ground_alike c.grid flat rows rows')
 
-  pub written_flat : (sheet : List ℕ) → written c rows sheet ≡ written c rows' sheet
-  unfolding written write_of write_verdict
-  written_flat sheet = rw (sheet_flat, judged_flat)
+  pub write_flat : (sheet : List ℕ) → write_of c rows sheet ≡ write_of c rows' sheet
+  unfolding write_of write_verdict
+  write_flat sheet = rw (sheet_flat, judged_flat)
 
   pub run_flat : (state store cells out : List ℕ) (allowance : ℕ) → run_value state store cells out allowance c rows ≡ run_value state store cells out allowance c rows'
   unfolding run_value run_of
@@ -63,16 +60,8 @@ module _ (r : Request) (flat : r.grid.skewed ≡ false) where
   unfolding planned_chain chain_of sorted trimmed_request grid_of
   chain_flat rows = rw (ground_flat r.grid flat rows)
 
-  pub planned_flat : (rows : List ℕ) → (plan_of r rows).chain.grid.skewed ≡ false
-  unfolding plan_of
-  planned_flat rows = go (judge_request r rows)
-    where
-      answer : Verdict → Planned
-      answer v = by_verdict v (record { verdict = verdict.Accepted; chain = planned_chain r rows }) (λ x. record { verdict = verdict.Refused x; chain = blank_chain })
-
-      go : (v : Verdict) → (answer v).chain.grid.skewed ≡ false
-      go verdict.Accepted = chain_flat rows
-      go (verdict.Refused x) = refl
+  pub planned_flat : (rows : List ℕ) (c : Chain) → plan_of r rows ≡ Ok c → c.grid.skewed ≡ false
+  planned_flat rows c e = ap (λ (d : Chain). d.grid.skewed) (plan_chain r rows c e) ∙ chain_flat rows
 
 -- None of them are laid out.
 pub rows_flat : (g : Grid) → g.skewed ≡ false → (told rows : List ℕ) → rows ≡ rows_into g told rows

@@ -4,13 +4,15 @@
 #![tactic(auto)]
 
 ghost use Rattle.std.specs.Prelude.{◌≡◌};
-ghost use Rattle.zohmirka.specs.Calls.{version, written, plan_call, judge_call, run_sheet, run_chain, read_call};
+ghost use Rattle.model.specs.Answers.{verdict_number};
+ghost use Rattle.zohmirka_reports.specs.Reports.{sheet_report};
+ghost use Rattle.zohmirka.specs.Calls.{version, plan_call, judge_call, run_sheet, run_chain, read_call};
 ghost use Rattle.zohmirka.specs.Calls.{judge_chain_call, write_call};
 ghost use Rattle.zohmirka_pairs.specs.PairWords.{plan_pair_words, run_pair_words};
 
-use model::{Chain, Refusal, Verdict};
+use model::Refusal;
 use zohmirka_pairs::{plan_words, run_words};
-use zohmirka_reports::{Report, Sheet, number, refused};
+use zohmirka_reports::{Report, Sheet, number, refused, written};
 use zohmirka_runs::run_value;
 use zohmirka_words::{chain_in, chain_out, row_places, rows_out};
 
@@ -21,50 +23,35 @@ pub fn zohmirka_version() -> u32
     5
 }
 
-// The sheet of a chain and its rows: 3 to 9, 14, 15 and 16 of the chain, then 12.
-fn write(c: Chain, rows: &[u32], sheet: &mut [u8]) -> Sheet
-    ensures { record { answer = result; sheet = sheet.new } ≡ written c rows.now sheet.old }
+// Plans a request sheet into a chain sheet, and answers how many bytes it has or why not; on a rectangle no rows are lent.
+fn plan(request: &[u8], sheet: &mut [u8]) -> Result<usize, Refusal>
+    ensures { record { answer = sheet_report result; sheet = sheet.new } ≡ plan_call request.now sheet.old }
 {
-    let wrote = sheet_calls::write_chain(c, rows, sheet);
-    let verdict = wrote.verdict;
-    Sheet {
-        refusal: number(verdict),
-        bytes: wrote.bytes,
+    let asked = sheet_calls::read_request(request)?;
+    if asked.grid.skewed {
+        let rows = sheet_calls::rows_of(request);
+        let on_rows = planner::plan(asked, &rows)?;
+        return sheet_calls::write_chain(on_rows, &rows, sheet);
     }
+    let planned = planner::plan(asked, &[])?;
+    sheet_calls::write_chain(planned, &[], sheet)
 }
 
 // Plans a request sheet into a chain sheet: 1 to 9, 13, 15 and 16 of the request, then 12.
 pub fn zohmirka_plan(request: &[u8], sheet: &mut [u8]) -> Sheet
     ensures { record { answer = result; sheet = sheet.new } ≡ plan_call request.now sheet.old }
 {
-    let read = sheet_calls::read_request(request);
-    let verdict = read.verdict;
-    match verdict {
-        Verdict::Refused(x) => Sheet {
-            refusal: number(Verdict::Refused(x)),
-            bytes: 0,
-        },
-        Verdict::Accepted => {
-            let asked = read.request;
-            let grid = asked.grid;
-            if grid.skewed {
-                let rows = sheet_calls::rows_of(request);
-                let on_rows = planner::plan(asked, &rows);
-                return write(on_rows.chain, &rows, sheet);
-            }
-            let planned = planner::plan(asked, &[]);
-            write(planned.chain, &[], sheet)
-        }
-    }
+    written(plan(request, sheet))
 }
 
 // Judges a chain sheet: 1 to 9, 14, 15 or 16, or 0.
 pub fn zohmirka_judge(sheet: &[u8]) -> u32
     ensures { result ≡ judge_call sheet.now }
 {
-    let read = sheet_calls::read_chain(sheet);
-    let verdict = read.verdict;
-    number(verdict)
+    match sheet_calls::read_chain(sheet) {
+        Ok(_) => 0,
+        Err(x) => number(Err(x)),
+    }
 }
 
 // A run call on the chain of a sheet: 1 to 9, 14, 15 and 16 of the sheet, then 10, then 11.
@@ -80,14 +67,10 @@ pub fn zohmirka_run(
         ≡ run_sheet state.old store.old cells.now out.old allowance
         sheet.now }
 {
-    let read = sheet_calls::read_chain(sheet);
-    let verdict = read.verdict;
-    match verdict {
-        Verdict::Refused(x) => refused(x),
-        Verdict::Accepted => {
-            let chain = read.chain;
-            let grid = chain.grid;
-            if grid.skewed {
+    match sheet_calls::read_chain(sheet) {
+        Err(x) => refused(x),
+        Ok(chain) => {
+            if chain.grid.skewed {
                 let rows = sheet_calls::rows_of(sheet);
                 return run_value(chain, &rows, state, store, cells, out, allowance);
             }
@@ -96,33 +79,31 @@ pub fn zohmirka_run(
     }
 }
 
+// The words of the chain of a sheet and the numbers of its rows, or why there are none.
+fn read(sheet: &[u8], chain: &mut [u32], rows: &mut [u32]) -> Result<(), Refusal>
+    ensures { record { refusal = verdict_number result; chain = chain.new; rows = rows.new }
+        ≡ read_call sheet.now chain.old rows.old }
+{
+    let c = sheet_calls::read_chain(sheet)?;
+    if chain.len() < 212 {
+        return Err(Refusal::ShortOutput);
+    }
+    if rows.len() < row_places(c.grid) {
+        return Err(Refusal::ShortOutput);
+    }
+    chain_out(c, chain);
+    if c.grid.skewed {
+        rows_out(c.grid, &sheet_calls::rows_of(sheet), rows);
+    }
+    Ok(())
+}
+
 // Reads a chain sheet into the words of its chain and the numbers of its rows: 1 to 9, 14, 15 and 16 of the sheet, then 12.
 pub fn zohmirka_read_chain(sheet: &[u8], chain: &mut [u32], rows: &mut [u32]) -> u32
     ensures { record { refusal = result; chain = chain.new; rows = rows.new }
         ≡ read_call sheet.now chain.old rows.old }
 {
-    let read = sheet_calls::read_chain(sheet);
-    let verdict = read.verdict;
-    match verdict {
-        Verdict::Refused(x) => number(Verdict::Refused(x)),
-        Verdict::Accepted => {
-            if chain.len() < 212 {
-                return number(Verdict::Refused(Refusal::ShortOutput));
-            }
-            let c = read.chain;
-            let grid = c.grid;
-            let places = row_places(grid);
-            if rows.len() < places {
-                return number(Verdict::Refused(Refusal::ShortOutput));
-            }
-            chain_out(c, chain);
-            if grid.skewed {
-                let numbers = sheet_calls::rows_of(sheet);
-                rows_out(grid, &numbers, rows);
-            }
-            0
-        }
-    }
+    number(read(sheet, chain, rows))
 }
 
 // A run call on a chain given by its words and the rows lent beside it: 3 to 9, 14, 15 and 16 of the chain, then 10, then 11.
@@ -146,8 +127,7 @@ pub fn zohmirka_run_chain(
 pub fn zohmirka_judge_chain(chain: &[u32], rows: &[u32]) -> u32
     ensures { result ≡ judge_chain_call chain.now rows.now }
 {
-    let judged = judging::judge_chain(chain_in(chain), rows);
-    number(judged)
+    number(judging::judge_chain(chain_in(chain), rows))
 }
 
 // Writes the sheet of a chain given by its words and the rows lent beside it: 3 to 9, 14, 15 and 16 of the chain, then 12.
@@ -155,7 +135,7 @@ pub fn zohmirka_write_chain(chain: &[u32], rows: &[u32], sheet: &mut [u8]) -> Sh
     ensures { record { answer = result; sheet = sheet.new }
         ≡ write_call chain.now rows.now sheet.old }
 {
-    write(chain_in(chain), rows, sheet)
+    written(sheet_calls::write_chain(chain_in(chain), rows, sheet))
 }
 
 // Plans the chain that two kernels share, on the grid and box of a chain's words: 3 (on rows 16) to 9 with 15 after 6, then 12.

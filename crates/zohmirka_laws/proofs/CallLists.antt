@@ -6,19 +6,16 @@ use native.Mathlib.Omega.{arith}
 use lib.ListN.{length, take, drop, replicate, length-map, length-append, length-drop, length-replicate, get_or-replicate}
 use Rattle.model.specs.Lists.{tabulate}
 use Rattle.model.specs.Values.{Trimmed, trimmed}
-use Rattle.model.specs.Answers.{by_verdict}
+use Rattle.model.specs.Answers.{Verdict, Answer, by_verdict}
 use Rattle.model.specs.Judging.{judge_chain}
 use Rattle.model_sheet.specs.Reading.{numbers_in, read_chain}
 use Rattle.model_run.specs.Clock.{Counters, first, fresh}
 use Rattle.model_run.specs.Running.{layout, counters_of, with_counters, outcome_of, judge_run, ended, Run, run_trimmed, run_of}
 use Rattle.model_run.specs.CallLists.{Lending, Between, Fresh, lent_cells, call_run, after, after_all, runs}
-use Rattle.model.specs.declared.Answer.{Answer}
-use Rattle.model.specs.declared.Answer.TheVariants as answer
+use Rattle.std.specs.Prelude.{Ok, Err}
 use Rattle.model.specs.declared.CellsPassed.{CellsPassed}
 use Rattle.model.specs.declared.Chain.{Chain}
 use Rattle.model.specs.declared.State.{State}
-use Rattle.model.specs.declared.Verdict.{Verdict}
-use Rattle.model.specs.declared.Verdict.TheVariants as verdict
 use Rattle.grid_laws.proofs.ListLaws.{tabulate_back}
 use Rattle.run_laws.specs.Accepted.{Accepted}
 use Rattle.run_laws.proofs.Accepts as accepts
@@ -28,9 +25,9 @@ use Rattle.zohmirka_words.specs.Words.{word_at, state_size, state_in, chain_in}
 use Rattle.zohmirka_reports.specs.Reports.{report_of}
 use Rattle.zohmirka_runs.specs.Runs.{state_left, run_value}
 use Rattle.zohmirka.specs.Calls.{run_sheet}
-use Rattle.zohmirka_laws.specs.CallLists.{Call, Slices, between, left, left_all, called_all, OneCall, AllCalls, Lists, ListsOnChains, ListsOnSheets}
+use Rattle.zohmirka_laws.specs.CallLists.{Call, on_sheet, Slices, between, left, left_all, called_all, OneCall, AllCalls, Lists, ListsOnChains, ListsOnSheets}
 use Rattle.zohmirka_laws.proofs.States.{into_length, into_later, written_back, in_long, in_passed, in_counter}
-use Rattle.zohmirka_laws.proofs.Promised.{unnumbered}
+use Rattle.zohmirka_laws.proofs.Promised.{unnumbered, read_accepted}
 
 -- ---- The state that a call leaves
 
@@ -54,30 +51,30 @@ state_back t few ws long store lent output allowance = go (judge_run t (state_in
     made =
         let e = ended t (state_in ws) store lent output allowance in
         record {
-          answer = answer.Ended (outcome_of e.ending e.standing.done);
+          answer = Ok (outcome_of e.ending e.standing.done);
           state = with_counters (state_in ws) e.standing.counters;
           store = e.standing.store;
           output = e.standing.output;
         }
 
     run : Verdict → Run
-    run v = by_verdict v made (λ x. record { answer = answer.Refused x; state = state_in ws; store = store; output = output })
+    run v = by_verdict v made (λ x. record { answer = Err x; state = state_in ws; store = store; output = output })
 
     go : (v : Verdict) → state_in (state_left (run v).answer (run v).state ws) ≡ (run v).state
-    go verdict.Accepted =
+    go (Ok _) =
         written_back (with_counters (state_in ws) last)
         (full_state (state_in ws) last (in_passed ws long) (omega (arith, length_ended t (state_in ws) store lent output allowance))) ws long
-    go (verdict.Refused x) = refl
+    go (Err x) = refl
 
 left_length : (a : Answer) (s : State) (ws : List ℕ) → state_size ≤ length ws → length (state_left a s ws) ≡ length ws
 unfolding state_left
-left_length (answer.Ended o) s ws h = into_length s ws h
-left_length (answer.Refused x) s ws h = refl
+left_length (Ok o) s ws h = into_length s ws h
+left_length (Err x) s ws h = refl
 
 left_later : (a : Answer) (s : State) (ws : List ℕ) → state_size ≤ length ws → drop state_size (state_left a s ws) ≡ drop state_size ws
 unfolding state_left
-left_later (answer.Ended o) s ws h = into_later s ws h
-left_later (answer.Refused x) s ws h = refl
+left_later (Ok o) s ws h = into_later s ws h
+left_later (Err x) s ws h = refl
 
 -- ---- One call and a list of calls on a chain that is accepted
 
@@ -89,7 +86,7 @@ first_word (suc n) h ws long = in_counter ws long 0 (omega arith)
 abbrev on_value : Chain → (rows : List ℕ) → Call
 on_value c rows state store cells out allowance = run_value state store cells out allowance c rows
 
-module _ (c : Chain) (rows : List ℕ) (ok : judge_chain c rows ≡ verdict.Accepted) where
+module _ (c : Chain) (rows : List ℕ) (ok : judge_chain c rows ≡ Ok tt) where
   fresh_value : (k : Slices) → state_size ≤ length k.state → ((i : ℕ) → i < state_size → word_at k.state i ≡ 0) → Fresh (trimmed c rows) (between k)
   unfolding counters_of fresh layout
   fresh_value k long zeros =
@@ -140,15 +137,15 @@ module _ (c : Chain) (rows : List ℕ) (ok : judge_chain c rows ≡ verdict.Acce
 pub lists_on_chains : ListsOnChains
 lists_on_chains chain rows h = lists_value (chain_in chain) rows (unnumbered (judge_chain (chain_in chain) rows) h)
 
-pub lists_on_sheets : ListsOnSheets
+lists_read : (sheet : List ℕ) (c : Chain) → read_chain sheet ≡ Ok c → Lists (on_sheet sheet) c (numbers_in sheet)
 unfolding run_sheet
-lists_on_sheets sheet h =
-    subst (λ (f : Call). Lists f (read_chain sheet).chain (numbers_in sheet)) (λ i state store cells out allowance. same state store cells out allowance i)
-    (lists_value (read_chain sheet).chain (numbers_in sheet) (read_judged sheet ok))
+lists_read sheet c e =
+    subst (λ (f : Call). Lists f c (numbers_in sheet)) (λ i state store cells out allowance. same state store cells out allowance i)
+    (lists_value c (numbers_in sheet) (read_judged sheet c e))
   where
-    ok : (read_chain sheet).verdict ≡ verdict.Accepted
-    ok = unnumbered (read_chain sheet).verdict h
-
     same : (state store cells out : List ℕ) (allowance : ℕ)
-        → run_value state store cells out allowance (read_chain sheet).chain (numbers_in sheet) ≡ run_sheet state store cells out allowance sheet
-    same state store cells out allowance = rw ok
+        → run_value state store cells out allowance c (numbers_in sheet) ≡ run_sheet state store cells out allowance sheet
+    same state store cells out allowance = rw e
+
+pub lists_on_sheets : ListsOnSheets
+lists_on_sheets sheet h = let f = read_accepted sheet h in (f.0, f.1, lists_read sheet f.0 f.1)

@@ -20,10 +20,10 @@ use Rattle.model.specs.Grounds.Ground.{rectangle, skewed}
 use Rattle.model.specs.Values.{Trimmed, dims_of, offset_of, offsets_of, part_of, index_array, bounds_of, grid_of, chain_of, blank_chain, request_of}
 use Rattle.model.specs.Judging.{most_cells, most_places, bad_dims, bad_sizes, bad_grid, bad_ground, too_large, judged}
 use Rattle.model.specs.Steps.{falling, sorted}
-use Rattle.model.specs.Planning.{trimmed_request, judge_request, planned_chain, plan_of}
+use Rattle.model.specs.Planning.{trimmed_request, judge_request, planned_chain}
 use Rattle.model.specs.declared.Bounds.{Bounds}
 use Rattle.model.specs.declared.Chain.{Chain}
-use Rattle.model.specs.declared.Verdict.TheVariants as verdict
+use Rattle.std.specs.Prelude.{Ok}
 use Rattle.grid_laws.proofs.CheckLaws.{value_passes}
 use Rattle.grid_laws.proofs.SortLaws.{falling_no_other}
 use Rattle.limits.proofs.SizeLaws.{product_above}
@@ -109,7 +109,7 @@ below_product (s ∷ ss) e (suc d) =
     let l : 1 ≤ s = omega (arith, eqb-false s 0 h.0) in
     omega (arith, below_product ss h.1 d, mul-le-mul_right (product ss) l, one-mul (product ss))
 
-module _ (t : Trimmed) (ok : judged t ≡ verdict.Accepted) where
+module _ (t : Trimmed) (ok : judged t ≡ Ok tt) where
   size_small : (sizes : List ℕ) → t.the_ground ≡ rectangle sizes → (d : ℕ) → Word (get_or sizes d 0)
   unfolding judged bad_grid bad_sizes cell_count
   size_small sizes e d =
@@ -165,17 +165,17 @@ module _ (c : Chain) (rows : List ℕ) (held : Held c) where
   unfolding trimmed_request
   request_fits = held.factors
 
-pub planned_range : (c : Chain) (rows : List ℕ) → Held c → judge_request (request_of c) rows ≡ verdict.Accepted → InRange (plan_of (request_of c) rows).chain
-unfolding plan_of planned_chain chain_of judge_request sorted
-planned_range c rows held ok = rw ok
-    (record {
+pub planned_range : (c : Chain) (rows : List ℕ) → Held c → judge_request (request_of c) rows ≡ Ok tt → InRange (planned_chain (request_of c) rows)
+unfolding planned_chain chain_of judge_request sorted
+planned_range c rows held ok =
+    record {
       sizes = sizes_small t ok t.the_ground refl;
       entries = each_tabulate Entry 128 (λ i. get_or (get_or (falling t.offsets) (i / 4) []) (i % 4) (pos 0)) (pos 0) (λ i. sorted_small t.offsets (request_small c rows held) (i / 4) (i % 4)) (omega arith);
       lowest = (request_bounds c rows held).0;
       highest = (request_bounds c rows held).1;
       capacities = each_tabulate Word 31 (λ k. get_or t.capacities k 0) 0 (capacity_small t ok) (omega arith);
       factors = request_fits c rows held;
-    })
+    }
   where
     t : Trimmed
     t = trimmed_request (request_of c) rows

@@ -12,7 +12,7 @@ use lib.ListN.{length, get_or, set, length-set}
 use lib.Seq.{sets}
 use lib.Signed.{mag}
 use borrow.Author.Tests.{ltb-true, ltb-false}
-use Rattle.model.specs.Answers.{by_verdict}
+use Rattle.model.specs.Answers.{Verdict, by_verdict}
 use Rattle.model_sheet.specs.Frames.{whole, Seen, seen_of}
 use Rattle.model_sheet.specs.Lines.{Line, lines_of}
 use Rattle.model.specs.Lists.{tabulate, all}
@@ -24,8 +24,7 @@ use Rattle.model.specs.declared.Chain.{Chain}
 use Rattle.model.specs.declared.LineStep.{LineStep}
 use Rattle.model.specs.declared.Order.{Order}
 use Rattle.model.specs.declared.Reading.{Reading}
-use Rattle.model.specs.declared.Verdict.{Verdict}
-use Rattle.model.specs.declared.Verdict.TheVariants as verdict
+use Rattle.std.specs.Prelude.{Ok, Err}
 use Rattle.model.specs.declared.Window.{Window}
 use Rattle.model.specs.Values.{blank_window, with_reference}
 use Rattle.grid_laws.proofs.ListLaws.{length_tabulate}
@@ -211,14 +210,14 @@ held_step chain_sheet rows r l h = go (line_verdict chain_sheet rows r s) refl
     s = seen_of l.ended l.chars
 
     go : (v : Verdict) → line_verdict chain_sheet rows r s ≡ v → Held (by_verdict v (taken r s.first) (λ x. r)).chain
-    go verdict.Accepted e =
+    go (Ok _) e =
         let digits = (and_true l.ended (whole l.chars) (admitted chain_sheet rows r s e).0).1 in
         held_taken r s.first (small_at (small_padded (small_bytes l.chars digits))) h
-    go (verdict.Refused x) e = h
+    go (Err x) e = h
 
 held_either : (v : Verdict) (a b : LineStep) → Held a.reading.chain → Held b.reading.chain → Held (by_verdict v a (λ x. b)).reading.chain
-held_either verdict.Accepted a b h k = h
-held_either (verdict.Refused x) a b h k = k
+held_either (Ok _) a b h k = h
+held_either (Err x) a b h k = k
 
 held_lines : (chain_sheet : Bool) (rows : List ℕ) (r : Reading) (ls : List Line) → Held r.chain → Held (read_lines chain_sheet rows r ls).reading.chain
 unfolding read_lines

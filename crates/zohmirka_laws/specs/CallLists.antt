@@ -1,6 +1,6 @@
 -- States as words, and lists of run calls: a list of calls with these functions is a list that demands 2 and 3 speak of
 -- (`model_run/specs/CallLists`).
-use Rattle.std.specs.Prelude.{ℕ, ◌+◌, ◌≤◌, ◌<◌, List, [], ◌∷◌, ◌++◌, map, ◌≡◌, length, take, drop}
+use Rattle.std.specs.Prelude.{ℕ, ◌+◌, ◌≤◌, ◌<◌, List, [], ◌∷◌, ◌++◌, map, ◌≡◌, length, take, drop, Ok}
 use Rattle.model.specs.Lists.{tabulate}
 use Rattle.model.specs.Values.{trimmed}
 use Rattle.model.specs.Judging.{judge_chain}
@@ -8,7 +8,6 @@ use Rattle.model_sheet.specs.Reading.{numbers_in, read_chain}
 use Rattle.model_run.specs.CallLists.{Lending, Between, Fresh, call_run, after, after_all, runs}
 use Rattle.model.specs.declared.Chain.{Chain}
 use Rattle.model.specs.declared.State.{State}
-use Rattle.model.specs.declared.Verdict.TheVariants.{Accepted}
 use Rattle.zohmirka_words.specs.Words.{word_at, state_size, state_words, state_in, state_into, chain_in}
 use Rattle.zohmirka_reports.specs.Reports.{report_of}
 use Rattle.zohmirka_runs.specs.Runs.{Runs}
@@ -84,15 +83,16 @@ module _ (call : Call) (c : Chain) (rows : List ℕ) (stream : ℕ → ℕ) wher
 
 -- With 33 words or more, which "are 0 when fresh".
 pub record Lists (call : Call) (c : Chain) (rows : List ℕ) : Type 0 where
-  pub accepted : judge_chain c rows ≡ Accepted
+  pub accepted : judge_chain c rows ≡ Ok tt
   pub fresh : (k : Slices) → state_size ≤ length k.state → ((i : ℕ) → i < state_size → word_at k.state i ≡ 0)
       → Fresh (trimmed c rows) (between k)
   pub one : (stream : ℕ → ℕ) (l : Lending) (k : Slices) → state_size ≤ length k.state → OneCall call c rows stream l k
   pub all : (stream : ℕ → ℕ) (ls : List Lending) (k : Slices) → state_size ≤ length k.state → AllCalls call c rows stream ls k
 
--- Of every chain, with any rows beside it, and every sheet that the judge calls accept.
+-- Of every chain, with any rows beside it, and of the chain that is read from every sheet that the judge calls accept.
 abbrev pub ListsOnChains : Type 0
 ListsOnChains = (chain rows : List ℕ) → judge_chain_call chain rows ≡ 0 → Lists (on_chain chain rows) (chain_in chain) rows
 
 abbrev pub ListsOnSheets : Type 0
-ListsOnSheets = (sheet : List ℕ) → judge_call sheet ≡ 0 → Lists (on_sheet sheet) (read_chain sheet).chain (numbers_in sheet)
+ListsOnSheets = (sheet : List ℕ) → judge_call sheet ≡ 0
+    → (c : Chain) × (read_chain sheet ≡ Ok c) × Lists (on_sheet sheet) c (numbers_in sheet)

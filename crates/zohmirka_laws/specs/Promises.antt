@@ -1,5 +1,5 @@
 -- What is promised of the calls beside what each answers.
-use Rattle.std.specs.Prelude.{ℕ, ◌≤◌, ◌<◌, false, List, ◌≡◌, length}
+use Rattle.std.specs.Prelude.{ℕ, ◌≤◌, ◌<◌, false, List, ◌≡◌, length, Ok}
 use Rattle.model.specs.Values.{trimmed}
 use Rattle.model_sheet.specs.Frames.{row_numbers}
 use Rattle.model.specs.Judging.{judge_chain}
@@ -7,7 +7,7 @@ use Rattle.model_sheet.specs.Reading.{numbers_in, read_request, read_chain}
 use Rattle.model_run.specs.Running.{short_store, width_of}
 use Rattle.model_sheet.specs.Writing.{longest_sheet}
 use Rattle.model.specs.declared.Chain.{Chain}
-use Rattle.model.specs.declared.Verdict.TheVariants.{Accepted}
+use Rattle.model.specs.declared.Request.{Request}
 use Rattle.zohmirka_words.specs.Words.{word_at, state_size, chain_size, chain_in, row_places}
 use Rattle.zohmirka_runs.specs.Runs.{Runs}
 use Rattle.zohmirka.specs.Calls.{plan_call, judge_call, read_call, run_sheet, run_chain, judge_chain_call, write_call}
@@ -91,7 +91,7 @@ ShortStateBy11 =
     (state store cells out : List ℕ) (allowance : ℕ) → length state < state_size
     → ((chain rows : List ℕ) → judge_chain_call chain rows ≡ 0 → short_store (trimmed (chain_in chain) rows) store ≡ false
     → (run_chain state store cells out allowance chain rows).report.refusal ≡ 11)
-    × ((sheet : List ℕ) → judge_call sheet ≡ 0 → short_store (trimmed (read_chain sheet).chain (numbers_in sheet)) store ≡ false
+    × ((sheet : List ℕ) (c : Chain) → read_chain sheet ≡ Ok c → short_store (trimmed c (numbers_in sheet)) store ≡ false
     → (run_sheet state store cells out allowance sheet).report.refusal ≡ 11)
 
 abbrev pub ShortChain : Type 0
@@ -107,7 +107,7 @@ ShortChainJudged = (chain rows : List ℕ) → length chain < chain_size → jud
 -- `ZOHMIRKA_STORE_WORDS` no run is refused by 10, and no firing of an accepted chain writes more than
 -- `ZOHMIRKA_FIRING_WORDS`.
 abbrev pub LongSheet : Type 0
-LongSheet = (request sheet : List ℕ) → (read_request request).verdict ≡ Accepted → longest_sheet ≤ length sheet
+LongSheet = (request sheet : List ℕ) (r : Request) → read_request request ≡ Ok r → longest_sheet ≤ length sheet
     → (plan_call request sheet).answer.refusal ≡ 0
 
 abbrev pub LongSheetOfChain : Type 0
@@ -132,4 +132,4 @@ LongStoreOfSheet =
     → (run_sheet state store cells out allowance sheet).report.refusal ≡ 10 → ⊥
 
 abbrev pub FewWords : Type 0
-FewWords = (c : Chain) (rows : List ℕ) → judge_chain c rows ≡ Accepted → width_of (trimmed c rows) ≤ 32
+FewWords = (c : Chain) (rows : List ℕ) → judge_chain c rows ≡ Ok tt → width_of (trimmed c rows) ≤ 32

@@ -3,13 +3,42 @@
 #![tactic(auto)]
 
 ghost use Rattle.std.specs.Prelude.{◌≡◌};
+ghost use Rattle.model.specs.Answers.{verdict_number};
 ghost use Rattle.zohmirka_pairs.specs.PairWords.{plan_pair_words, run_pair_words};
 
-use model::{Answer, Refusal, Verdict};
+use model::Refusal;
 use zohmirka_reports::{Report, ended, number, refused};
 use zohmirka_words::{chain_in, chain_out, side_in, state_in, state_out};
 
-// Plans the chain of a pair, of whose grid's words grid and box play a part: 3 (on rows 16) to 9 with 15 after 6, then 12.
+// The words of the chain that is planned of a pair, of whose grid's words grid and box play a part, or why there are none: 3 (on
+// rows 16) to 9 with 15 after 6, then 12.
+fn plan(
+    grid: &[u32],
+    rows: &[u32],
+    first: &[u32],
+    second: &[u32],
+    chain: &mut [u32],
+) -> Result<(), Refusal>
+    ensures { record { refusal = verdict_number result; chain = chain.new }
+        ≡ plan_pair_words grid.now rows.now first.now second.now
+        chain.old }
+{
+    let given = chain_in(grid);
+    let planned = pair_plan::plan_pair(
+        given.grid,
+        rows,
+        given.bounds,
+        side_in(first),
+        side_in(second),
+    )?;
+    if chain.len() < 212 {
+        return Err(Refusal::ShortOutput);
+    }
+    chain_out(planned, chain);
+    Ok(())
+}
+
+// Its number.
 pub fn plan_words(
     grid: &[u32],
     rows: &[u32],
@@ -21,23 +50,7 @@ pub fn plan_words(
         ≡ plan_pair_words grid.now rows.now first.now second.now
         chain.old }
 {
-    let given = chain_in(grid);
-    let ground = given.grid;
-    let bounds = given.bounds;
-    let one = side_in(first);
-    let two = side_in(second);
-    let planned = pair_plan::plan_pair(ground, rows, bounds, one, two);
-    let verdict = planned.verdict;
-    match verdict {
-        Verdict::Refused(x) => number(Verdict::Refused(x)),
-        Verdict::Accepted => {
-            if chain.len() < 212 {
-                return number(Verdict::Refused(Refusal::ShortOutput));
-            }
-            chain_out(planned.chain, chain);
-            0
-        }
-    }
+    number(plan(grid, rows, first, second, chain))
 }
 
 // A run call of a pair: 3 (on rows 16) to 9 with 15 after 6, then 14, 10, 11.
@@ -64,19 +77,22 @@ pub fn run_words(
         out_second.old allowance chain.now rows.now first.now
         second.now }
 {
-    let before = state_in(state);
-    let given = chain_in(chain);
-    let one = side_in(first);
-    let two = side_in(second);
     let ran = pair_run::run_pair(
-        given, rows, one, two, before, store, cells, out_first, out_second, allowance,
+        chain_in(chain),
+        rows,
+        side_in(first),
+        side_in(second),
+        state_in(state),
+        store,
+        cells,
+        out_first,
+        out_second,
+        allowance,
     );
-    let answer = ran.answer;
-    match answer {
-        Answer::Refused(x) => refused(x),
-        Answer::Ended(o) => {
-            let after = ran.state;
-            state_out(after, state);
+    match ran.answer {
+        Err(x) => refused(x),
+        Ok(o) => {
+            state_out(ran.state, state);
             ended(o)
         }
     }

@@ -1,8 +1,6 @@
 -- The reports of run calls as c/zohmirka.h has them: one table, computed.
-use Rattle.std.specs.Prelude.{ℕ, List, [], ◌∷◌, map, ◌≡◌, refl}
-use Rattle.model.specs.Answers.{number_of, outcome_case, outcome_counts, answer_number, answer_counts}
-use Rattle.model.specs.declared.Answer.{Answer}
-use Rattle.model.specs.declared.Answer.TheVariants as answer
+use Rattle.std.specs.Prelude.{ℕ, List, [], ◌∷◌, map, ◌≡◌, refl, Ok, Err}
+use Rattle.model.specs.Answers.{Answer, number_of, outcome_case, outcome_counts, answer_number, answer_counts}
 use Rattle.model.specs.declared.Counts.{Counts}
 use Rattle.model.specs.declared.Outcome.TheVariants as outcome
 use Rattle.model.specs.declared.Refusal.TheVariants as refusal
@@ -15,12 +13,12 @@ counts = record { cells = 7; firings = 8; clocks = 9 }
 -- "5 exactly if `refusal` is not 0"; counts are 0 after a refusal.
 unfoldable pub answers : List Answer
 answers =
-    answer.Ended (outcome.Done counts)
-    ∷ answer.Ended (outcome.Spent counts)
-    ∷ answer.Ended (outcome.Starved counts)
-    ∷ answer.Ended (outcome.Stalled counts)
-    ∷ answer.Ended (outcome.Full counts)
-    ∷ answer.Refused refusal.BadState
+    Ok (outcome.Done counts)
+    ∷ Ok (outcome.Spent counts)
+    ∷ Ok (outcome.Starved counts)
+    ∷ Ok (outcome.Stalled counts)
+    ∷ Ok (outcome.Full counts)
+    ∷ Err refusal.BadState
     ∷ []
 
 abbrev ended : ℕ → Report

@@ -2,14 +2,13 @@
 
 #![tactic(auto)]
 
-ghost use Rattle.std.specs.Prelude.{◌≡◌};
+ghost use Rattle.std.specs.Prelude.{◌≡◌, Ok, Err};
 ghost use Rattle.model.specs.Answers.{verdict_number};
-ghost use Rattle.model.specs.declared.Answer.TheVariants.{Ended, Refused};
-ghost use Rattle.zohmirka_reports.specs.Reports.{report_of};
+ghost use Rattle.zohmirka_reports.specs.Reports.{sheet_report, report_of};
 
-use model::{Counts, Outcome, Refusal, Verdict};
+use model::{Counts, Outcome, Refusal};
 
-// What planning answers: a refusal's number or 0, and how many bytes of the sheet were written.
+// What planning answers C: a refusal's number or 0, and how many bytes of the sheet were written.
 #[repr(C)]
 #[derive(Clone, Copy)]
 pub struct Sheet {
@@ -17,7 +16,7 @@ pub struct Sheet {
     pub bytes: usize,
 }
 
-// What a run call answers: a refusal's number or 0; the outcome, 0 Done, 1 Spent, 2 Starved, 3 Stalled, 4 Full, and 5 after a
+// What a run call answers C: a refusal's number or 0; the outcome, 0 Done, 1 Spent, 2 Starved, 3 Stalled, 4 Full, and 5 after a
 // refusal; and the call's counts.
 #[repr(C)]
 #[derive(Clone, Copy)]
@@ -30,21 +29,36 @@ pub struct Report {
 }
 
 // A verdict's number, 0 where it accepts.
-pub fn number(v: Verdict) -> u32
+#[tactic(auto, unfolding(model::specs::Answers::verdict_number))]
+pub fn number(v: Result<(), Refusal>) -> u32
     ensures { result ≡ verdict_number v }
 {
     match v {
-        Verdict::Accepted => 0,
-        Verdict::Refused(r) => values::number_of(r) as u32,
+        Ok(()) => 0,
+        Err(r) => u32::from(u8::from(r)),
+    }
+}
+
+// What a call answers that wrote so many bytes of a sheet, or was refused.
+#[tactic(auto, unfolding(model::specs::Answers::verdict_number))]
+pub fn written(wrote: Result<usize, Refusal>) -> Sheet
+    ensures { result ≡ sheet_report wrote }
+{
+    match wrote {
+        Ok(bytes) => Sheet { refusal: 0, bytes },
+        Err(x) => Sheet {
+            refusal: number(Err(x)),
+            bytes: 0,
+        },
     }
 }
 
 // The report of a run call that was refused, and of one that ended.
 pub fn refused(x: Refusal) -> Report
-    ensures { result ≡ report_of (Refused x) }
+    ensures { result ≡ report_of (Err x) }
 {
     Report {
-        refusal: number(Verdict::Refused(x)),
+        refusal: number(Err(x)),
         outcome: 5,
         cells: 0,
         firings: 0,
@@ -65,7 +79,7 @@ fn counted(outcome: u32, c: Counts) -> Report
 }
 
 pub fn ended(o: Outcome) -> Report
-    ensures { result ≡ report_of (Ended o) }
+    ensures { result ≡ report_of (Ok o) }
 {
     match o {
         Outcome::Done(c) => counted(0, c),

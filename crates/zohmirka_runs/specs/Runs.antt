@@ -1,8 +1,7 @@
 -- What a run call on a chain and the rows lent beside it leaves.
-use Rattle.std.specs.Prelude.{ℕ, List}
+use Rattle.std.specs.Prelude.{ℕ, List, Ok, Err}
 use Rattle.model_run.specs.Running.{run_of}
-use Rattle.model.specs.declared.Answer.{Answer}
-use Rattle.model.specs.declared.Answer.TheVariants as answer
+use Rattle.model.specs.Answers.{Answer}
 use Rattle.model.specs.declared.Chain.{Chain}
 use Rattle.model.specs.declared.State.{State}
 use Rattle.zohmirka_words.specs.Words.{state_in, state_into}
@@ -17,8 +16,8 @@ pub record Runs : Type 0 where
   pub out : List ℕ
 
 unfoldable pub state_left : Answer → State → List ℕ → List ℕ
-state_left (answer.Ended o) s ws = state_into s ws
-state_left (answer.Refused x) s ws = ws
+state_left (Ok o) s ws = state_into s ws
+state_left (Err x) s ws = ws
 
 module _ (state store cells out : List ℕ) (allowance : ℕ) where
   -- A call on the chain c, whose rows have these numbers.

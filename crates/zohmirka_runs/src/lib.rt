@@ -5,7 +5,7 @@
 ghost use Rattle.std.specs.Prelude.{◌≡◌};
 ghost use Rattle.zohmirka_runs.specs.Runs.{run_value};
 
-use model::{Answer, Chain};
+use model::{Chain, Outcome, Refusal};
 use zohmirka_reports::{Report, ended, refused};
 use zohmirka_words::{state_in, state_out};
 
@@ -27,8 +27,8 @@ pub fn run_value(
     let ran = runner::run(chain, rows, before, store, cells, out, allowance);
     let answer = ran.answer;
     match answer {
-        Answer::Refused(x) => refused(x),
-        Answer::Ended(o) => {
+        Err(x) => refused(x),
+        Ok(o) => {
             let after = ran.state;
             state_out(after, state);
             ended(o)

@@ -8,7 +8,7 @@ use native.Mathlib.Numerals.{add-one}
 use native.Mathlib.Omega.{arith}
 use lib.Dec.{eqb}
 use lib.IntN.{ℤ, pos}
-use lib.ListN.{length, get_or, drop, set, replicate}
+use lib.ListN.{length, get_or, take, drop, set, replicate}
 use mir.Val.{bool_byte}
 use borrow.Author.Tests.{lt-ltb, le-ltb}
 use Rattle.model.specs.Lists.{tabulate}
@@ -21,7 +21,9 @@ use Rattle.model.specs.declared.Grid.{Grid}
 use Rattle.model.specs.declared.Kernel.{Kernel}
 use Rattle.model.specs.declared.Order.{Order}
 use Rattle.model.specs.declared.State.{State}
-use Rattle.grid_laws.proofs.ListLaws.{length_tabulate}
+use Rattle.std.proofs.lemmas.List.{get_or-drop, get_or-take, length-take}
+use Rattle.std.proofs.Common.{length-drop}
+use Rattle.grid_laws.proofs.ListLaws.{length_tabulate, tabulate_back}
 use Rattle.zohmirka_words.specs.Words.{word_at, laid, counter, state_word, state_words, state_in, state_into, box_word, chain_word, chain_words, chain_into, count_in, kernel_in, order_in, indices_in, bounds_in, offsets_in, chain_in, blank_side, side_in, row_places, row_words, rows_into}
 
 -- The first k entries f's, the others as they were.
@@ -32,15 +34,6 @@ module _ {A : Type 0} where
   pub front_none : (f : ℕ → A) (old : List A) → old ≡ front f 0 old
   unfolding tabulate
   front_none f old = refl
-
-  length_front : (f : ℕ → A) (k : ℕ) (old : List A) → k ≤ length old → length (front f k old) ≡ length old
-  unfolding tabulate
-  length_front f zero old h = refl
-  length_front f (suc k) [] h = absurd (omega arith)
-  length_front f (suc k) (y ∷ ys) h = ap suc (length_front (λ i. f (suc i)) k ys (le_of_suc-le-suc h))
-
-  pub front_long : (f : ℕ → A) (k : ℕ) (old xs : List A) → k ≤ length old → xs ≡ front f k old → length xs ≡ length old
-  front_long f k old xs h r = rw r (length_front f k old h)
 
   set_front : (f : ℕ → A) (k : ℕ) (old : List A) → k < length old → set (front f k old) k (f k) ≡ front f (suc k) old
   unfolding tabulate
@@ -60,6 +53,11 @@ module _ {A : Type 0} where
   -- An array that is set to its end.
   pub front_whole : (f : ℕ → A) (n : ℕ) (rest : A) (k : ℕ) (xs : List A) → n ≤ k → k ≤ n → xs ≡ front f k (replicate n rest) → xs ≡ tabulate n f
   front_whole f n rest k xs h g r = let e : k ≡ n = omega arith in r ∙ rw e (whole f n rest)
+
+-- The words from a place on.
+pub words_from : (ws : List ℕ) (from n : ℕ) → from + n ≤ length ws → take n (drop from ws) ≡ tabulate n (λ k. word_at ws (from + k))
+words_from ws from n h =
+    sym (tabulate_back 0 (take n (drop from ws)) n (λ k. word_at ws (from + k)) (simp (length-take, length-drop) (omega arith)) (λ k b. sym (get_or-take n (drop from ws) k 0 b ∙ get_or-drop from ws k 0)))
 
 -- Words that are laid into a list from its first place on.
 front_laid : (f : ℕ → ℕ) (n : ℕ) (old : List ℕ) → front f n old ≡ laid (tabulate n f) old

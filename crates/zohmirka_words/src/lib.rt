@@ -24,10 +24,8 @@ pub fn state_in(words: &[u32]) -> State
             fired: FiringsMade(4294967295),
         };
     }
-    let mut k: usize = 0;
-    while k < 32 {
+    for k in 0..32 {
         passed[k] = CellsPassed(words[k]);
-        k += 1;
     }
     State {
         passed,
@@ -42,24 +40,16 @@ pub fn state_out(state: State, words: &mut [u32])
     if words.len() < 33 {
         return;
     }
-    let passed = state.passed;
-    let fired = state.fired;
-    let mut k: usize = 0;
-    while k < 32 {
-        let p = passed[k];
-        words[k] = p.0;
-        k += 1;
+    for k in 0..32 {
+        words[k] = state.passed[k].0;
     }
-    words[32] = fired.0;
+    words[32] = state.fired.0;
 }
 
 fn count_in(w: u32) -> u8
     ensures { result ≡ count_in w }
 {
-    if w < 255 {
-        return w as u8;
-    }
-    255
+    w.min(255) as u8
 }
 
 fn low_half(w: u32) -> u16
@@ -95,11 +85,8 @@ fn offsets_in(words: &[u32], from: usize) -> [i16; 128]
     ensures { result ≡ offsets_in words.now from }
 {
     let mut offsets = [0i16; 128];
-    let mut i: usize = 0;
-    while i < 128 {
-        let x = sheet_fields::entry(low_half(words[from + i]));
-        offsets[i] = x;
-        i += 1;
+    for i in 0..128 {
+        offsets[i] = sheet_fields::entry(low_half(words[from + i]));
     }
     offsets
 }
@@ -109,11 +96,7 @@ fn capacities_in(words: &[u32]) -> [u32; 31]
     ensures { result ≡ tabulate 31 (λ k. word_at words.now (134 + k)) }
 {
     let mut capacities = [0u32; 31];
-    let mut k: usize = 0;
-    while k < 31 {
-        capacities[k] = words[134 + k];
-        k += 1;
-    }
+    capacities.copy_from_slice(&words[134..165]);
     capacities
 }
 
@@ -122,10 +105,8 @@ fn order_in(words: &[u32]) -> Order
     ensures { result ≡ order_in words.now }
 {
     let mut filters = [0u8; 32];
-    let mut t: usize = 0;
-    while t < 32 {
+    for t in 0..32 {
         filters[t] = count_in(words[169 + t]);
-        t += 1;
     }
     Order {
         stood: words[168] != 0,
@@ -223,29 +204,22 @@ fn chain_word(c: Chain, i: usize) -> u32
     requires { i < 168 }
     ensures { result ≡ chain_word c i }
 {
-    let grid = c.grid;
-    let window = c.window;
     if i < 1 {
-        return grid.dims as u32;
+        return c.grid.dims as u32;
     }
     if i < 5 {
-        let sizes = grid.sizes;
-        return sizes[i - 1];
+        return c.grid.sizes[i - 1];
     }
     if i < 6 {
-        return window.count as u32;
+        return c.window.count as u32;
     }
     if i < 134 {
-        let offsets = window.offsets;
-        let x = offsets[i - 6];
-        return sheet_fields::pattern_of(x) as u32;
+        return sheet_fields::pattern_of(c.window.offsets[i - 6]) as u32;
     }
     if i < 165 {
-        let capacities = c.capacities;
-        return capacities[i - 134];
+        return c.capacities[i - 134];
     }
-    let kernel = c.kernel;
-    let last = kernel_words(kernel);
+    let last = kernel_words(c.kernel);
     last[i - 165]
 }
 
@@ -258,13 +232,9 @@ fn box_word(b: Bounds, i: usize) -> u32
         return b.stood as u32;
     }
     if i < 5 {
-        let lowest = b.lowest;
-        let x = lowest[i - 1];
-        return sheet_fields::word_pattern_of(x);
+        return sheet_fields::word_pattern_of(b.lowest[i - 1]);
     }
-    let highest = b.highest;
-    let x = highest[i - 5];
-    sheet_fields::word_pattern_of(x)
+    sheet_fields::word_pattern_of(b.highest[i - 5])
 }
 
 // The words of a chain.
@@ -274,36 +244,26 @@ pub fn chain_out(c: Chain, words: &mut [u32])
     if words.len() < 212 {
         return;
     }
-    let mut i: usize = 0;
-    while i < 168 {
+    for i in 0..168 {
         words[i] = chain_word(c, i);
-        i += 1;
     }
-    let order = c.order;
-    words[168] = order.stood as u32;
-    let filters = order.filters;
-    let mut t: usize = 0;
-    while t < 32 {
-        words[169 + t] = filters[t] as u32;
-        t += 1;
+    words[168] = c.order.stood as u32;
+    for t in 0..32 {
+        words[169 + t] = c.order.filters[t] as u32;
     }
-    let mut d: usize = 0;
-    while d < 9 {
+    for d in 0..9 {
         words[201 + d] = box_word(c.bounds, d);
-        d += 1;
     }
-    let grid = c.grid;
-    words[210] = grid.skewed as u32;
-    words[211] = grid.rows;
+    words[210] = c.grid.skewed as u32;
+    words[211] = c.grid.rows;
 }
 
 // How many numbers the rows of a grid have.
 pub fn row_places(g: Grid) -> usize
     ensures { result ≡ row_places g }
 {
-    let rows = g.rows;
     if g.skewed {
-        return 2 * (rows as usize);
+        return 2 * (g.rows as usize);
     }
     0
 }
@@ -316,9 +276,7 @@ pub fn rows_out(g: Grid, numbers: &[u32], rows: &mut [u32])
     if rows.len() < places {
         return;
     }
-    let mut i: usize = 0;
-    while i < places {
+    for i in 0..places {
         rows[i] = number_at(numbers, i);
-        i += 1;
     }
 }

@@ -30,5 +30,5 @@ absent-is n o e = rw e
 pub returns-then-order : goal.returns-then-order
 returns-then-order c = c.not_each_once.ensures ∙ stood-is _ _ c.if-order.true
 
-pub returns : goal.returns
-returns c = absent-is _ _ c.if-order.false
+pub returns-else-order : goal.returns-else-order
+returns-else-order c = c.if-order.false ∙ absent-is _ c.args.order c.if-order.false

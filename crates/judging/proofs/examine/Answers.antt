@@ -1,14 +1,32 @@
-use mathlib.Core.Path.{sym, ◌∙◌, ap}
+use mathlib.Core.Path.{sym, ◌∙◌}
+use Rattle.std.proofs.lemmas.Result.{err_from_is_err_and}
 use Rattle.model.specs.Values.{capacities_of}
-use Rattle.shape.specs.declared.Survey.{Survey}
-use Rattle.judging.proofs.JudgeLaws.{survey_count, examined}
+use Rattle.shape.specs.Shapes.{survey_of}
+use Rattle.judging.specs.Checks.{examined_of}
+use Rattle.judging.proofs.JudgeLaws.{behind_refused, rest_refuses, rest_passes, survey_count, survey_centre}
 use Rattle.judging.proofs.examine.Goals as goal
 
-pub judge_behind-verdict-requires : goal.judge_behind-verdict-requires
-judge_behind-verdict-requires c e =
-    survey_count c.args.c.grid c.args.c.window c.args.c.bounds (ap (λ (t : Survey). t.verdict) (sym c.survey_of-survey.ensures) ∙ e)
+pub judge_rest-requires : goal.judge_rest-requires
+judge_rest-requires c = let a = c.args.c in survey_count a.grid a.window a.bounds c.in_ok-survey.survey (sym c.survey_of.ensures ∙ c.in_ok-survey.was)
+
+pub returns-in_err-survey : goal.returns-in_err-survey
+unfolding examined_of
+returns-in_err-survey c =
+    let a = c.args.c in
+    let p = err_from_is_err_and c.from_residual.result c.from_residual.ensures.1 in
+    rw (p.1, p.2) (behind_refused (survey_of a.grid a.window a.bounds) a.grid.dims a _ (sym c.survey_of.ensures ∙ c.in_err-survey.was))
+
+pub returns-in_err-judge_rest : goal.returns-in_err-judge_rest
+unfolding examined_of capacities_of
+returns-in_err-judge_rest c =
+    let a = c.args.c in
+    let s = sym c.survey_of.ensures ∙ c.in_ok-survey.was in
+    let p = err_from_is_err_and c.from_residual-in_err-judge_rest.result c.from_residual-in_err-judge_rest.ensures.1 in
+    rw (p.1, p.2) (rest_refuses (survey_of a.grid a.window a.bounds) a.grid.dims a c.in_ok-survey.survey s _ (survey_centre a.grid a.window a.bounds _ s) _ (sym c.judge_rest.ensures ∙ c.in_err-judge_rest.was))
 
 pub returns : goal.returns
-unfolding capacities_of
+unfolding examined_of capacities_of
 returns c =
-    examined c.args.c c.survey_of-survey.result c.survey_of-survey.ensures _ c.judge_behind-verdict.ensures
+    let a = c.args.c in
+    let s = sym c.survey_of.ensures ∙ c.in_ok-survey.was in
+    rest_passes (survey_of a.grid a.window a.bounds) a.grid.dims a c.in_ok-survey.survey s _ (survey_centre a.grid a.window a.bounds _ s) (sym c.judge_rest.ensures ∙ c.in_ok-judge_rest.was)

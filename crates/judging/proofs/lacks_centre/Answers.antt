@@ -6,6 +6,6 @@ pub returns-then-needs_centre : goal.returns-then-needs_centre
 unfolding lacks_centre
 returns-then-needs_centre c = rw (sym c.needs_centre.ensures ∙ c.if-needs_centre.true)
 
-pub returns : goal.returns
+pub returns-else-needs_centre : goal.returns-else-needs_centre
 unfolding lacks_centre
-returns c = rw (sym c.needs_centre.ensures ∙ c.if-needs_centre.false)
+returns-else-needs_centre c = rw (sym c.needs_centre.ensures ∙ c.if-needs_centre.false) c.if-needs_centre.false

@@ -1,11 +1,7 @@
 -- The loop's invariant: the first t numbers are below n, each stands once, and they are marked.
-use Prim.Native.Nat.{◌-◌, ◌≤◌}
 use Rattle.geometry.specs.Parts.{number_at}
 use Rattle.judging.proofs.SeenLaws.{Seen}
 use Rattle.judging.proofs.not_each_once.Given as goal
 
 abbrev pub invariant-loop-t : goal.invariant-loop-t
-invariant-loop-t l = (l.t ≤ l.n) × Seen l.n (number_at l.filters) l.t l.seen
-
-abbrev pub decreases-loop-t : goal.decreases-loop-t
-decreases-loop-t l = l.n - l.t
+invariant-loop-t l = Seen l.n (number_at l.filters) l.t l.seen

@@ -1,6 +1,7 @@
 use mathlib.Core.Path.{refl, ◌∙◌}
 use borrow.Author.Rules.{rules}
 use Rattle.model_run.specs.Kernels.{words_at}
+use Rattle.kernel_words.proofs.SumLaws.{word_there}
 use Rattle.kernel.proofs.AppliedLaws.{copy_start, copy_next, copy_end}
 use Rattle.kernel.proofs.copy.Goals as goal
 
@@ -10,7 +11,7 @@ loop-i-init c =
 
 pub loop-i-preserved : goal.loop-i-preserved
 loop-i-preserved c =
-    (search rules, rw c.listed.ensures (copy_next _ _ _ _ _ c.loop-i-test.true ∙ c.loop-i.invariant.1))
+    (search rules, rw (← word_there c.args.filters.now c.args.words.now c.loop-i.i c.loop-i-test.true) (copy_next _ _ _ _ _ c.loop-i-test.true ∙ c.loop-i.invariant.1))
 
 pub returns : goal.returns
 returns c = copy_end _ _ _ _ _ c.loop-i-test.false ∙ c.loop-i.invariant.1

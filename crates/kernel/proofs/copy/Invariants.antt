@@ -1,5 +1,5 @@
 -- `copy` stores the words of the filters one after the other. The loop's invariant: storing the words that remain gives what storing all does. Assumes nothing.
-use Prim.Native.Nat.{◌+◌, ◌-◌}
+use Prim.Native.Nat.{◌+◌}
 use mathlib.Core.Path.{◌≡◌}
 use lib.ListN.{length, drop}
 use lib.Seq.{sets}
@@ -9,6 +9,3 @@ use Rattle.kernel.proofs.copy.Given as goal
 abbrev pub invariant-loop-i : goal.invariant-loop-i
 invariant-loop-i l =
     (length l.out ≡ length l.initial.out) × (sets l.out (l.at + l.i) (drop l.i (words_at l.filters l.words)) ≡ sets l.initial.out l.at (words_at l.filters l.words))
-
-abbrev pub decreases-loop-i : goal.decreases-loop-i
-decreases-loop-i l = length l.filters - l.i

@@ -2,9 +2,6 @@
 use Rattle.kernel_rows.proofs.GivenLaws.{Going}
 use Rattle.kernel_rows.proofs.apply_all.Given as goal
 
-abbrev pub invariant-loop-left : goal.invariant-loop-left
-invariant-loop-left l =
-    Going l.k l.centre l.terms l.writes l.n l.count l.wide l.batch l.at l.initial.out l.from l.to l.left l.out
-
-abbrev pub decreases-loop-left : goal.decreases-loop-left
-decreases-loop-left l = l.left
+abbrev pub invariant-loop-i : goal.invariant-loop-i
+invariant-loop-i l =
+    Going l.k l.centre l.terms l.writes l.n l.count l.wide l.batch l.at l.initial.out l.i l.out

@@ -1,16 +1,11 @@
-use mathlib.Core.Path.{refl, ◌∙◌}
-use borrow.Author.Rules.{rules}
-use Rattle.model_run.specs.Kernels.{words_at}
-use Rattle.kernel.proofs.AppliedLaws.{copy_start, copy_next, copy_end}
+use mathlib.Core.Path.{◌∙◌}
+use Rattle.kernel.proofs.AppliedLaws.{copy_next, copy_end}
+use Rattle.kernel_words.proofs.SumLaws.{word_there}
 use Rattle.kernel_rows.proofs.copy.Goals as goal
-
-pub loop-i-init : goal.loop-i-init
-loop-i-init c =
-    (search rules, copy_start c.args.out.now (words_at c.args.filters.now c.args.row.now) c.args.at _ refl)
 
 pub loop-i-preserved : goal.loop-i-preserved
 loop-i-preserved c =
-    (search rules, rw c.listed.ensures (copy_next _ _ _ _ _ c.loop-i-test.true ∙ c.loop-i.invariant.1))
+    rw (c.word_at.ensures, ← word_there _ c.args.row.now _ c.loop-i-test.true) (copy_next _ _ _ _ _ c.loop-i-test.true ∙ c.loop-i.invariant)
 
 pub returns : goal.returns
-returns c = copy_end _ _ _ _ _ c.loop-i-test.false ∙ c.loop-i.invariant.1
+returns c = copy_end _ _ _ _ _ c.loop-i-test.false ∙ c.loop-i.invariant

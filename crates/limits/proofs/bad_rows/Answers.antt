@@ -11,8 +11,7 @@ pub returns-then-bad_row_count : goal.returns-then-bad_row_count
 returns-then-bad_row_count c = count_bad _ _ (sym c.bad_row_count.ensures ∙ c.if-bad_row_count.true)
 
 pub loop-i-init : goal.loop-i-init
-loop-i-init c =
-    (omega arith, by_rows_lem _ _ (sym c.bad_row_count.ensures ∙ c.if-bad_row_count.false))
+loop-i-init c = by_rows_lem _ _ (sym c.bad_row_count.ensures ∙ c.if-bad_row_count.false)
 
 -- The row that was looked at.
 row_is : (c : After-bad_row) →
@@ -23,12 +22,11 @@ row_is c =
 
 pub returns-then-bad_row : goal.returns-then-bad_row
 returns-then-bad_row c =
-    bad_here _ _ c.loop-i.i (omega arith) (row_is (goal.at.returns-then-bad_row c).After-bad_row) c.if-bad_row.true ∙ c.loop-i.invariant.1
+    bad_here _ _ c.loop-i.i (omega arith) (row_is (goal.at.returns-then-bad_row c).After-bad_row) c.if-bad_row.true ∙ c.loop-i.invariant
 
 pub loop-i-preserved : goal.loop-i-preserved
 loop-i-preserved c =
-    (omega arith, onward _ _ c.loop-i.i (omega arith) (row_is (goal.at.loop-i-preserved c).After-bad_row) c.if-bad_row.false ∙ c.loop-i.invariant.1)
+    onward _ _ c.loop-i.i (omega arith) (row_is (goal.at.loop-i-preserved c).After-bad_row) c.if-bad_row.false ∙ c.loop-i.invariant
 
 pub returns : goal.returns
-returns c =
-    none_left _ _ c.loop-i.i (omega arith) ∙ c.loop-i.invariant.1
+returns c = none_left _ _ c.loop-i.i (omega arith) ∙ c.loop-i.invariant

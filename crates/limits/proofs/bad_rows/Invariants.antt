@@ -1,5 +1,4 @@
 -- The loop's invariant: the rows from i on decide.
-use Prim.Native.Nat.{◌-◌, ◌≤◌}
 use mathlib.Core.Path.{◌≡◌}
 use Rattle.model.specs.Lists.{any}
 use Rattle.model.specs.Values.{rows_of}
@@ -8,7 +7,4 @@ use Rattle.limits.proofs.RowLaws.{rows_from}
 use Rattle.limits.proofs.bad_rows.Given as goal
 
 abbrev pub invariant-loop-i : goal.invariant-loop-i
-invariant-loop-i l = (l.i ≤ l.n) × (any bad_row (rows_from l.count l.rows l.i) ≡ bad_rows (rows_of l.count l.rows))
-
-abbrev pub decreases-loop-i : goal.decreases-loop-i
-decreases-loop-i l = l.n - l.i
+invariant-loop-i l = any bad_row (rows_from l.count l.rows l.i) ≡ bad_rows (rows_of l.count l.rows)

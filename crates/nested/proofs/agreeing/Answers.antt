@@ -1,11 +1,13 @@
-use Prim.Native.Nat.{ℕ, zero, suc, ◌≤◌, ◌<◌, ◌+◌, ◌-◌}
+use Prim.Native.Nat.{ℕ, zero, suc, ◌≤◌, ◌<◌, ◌+◌, ◌-◌, min}
 use mathlib.Core.Bool.{true, false}
 use mathlib.Core.List.{List}
 use mathlib.Core.Path.{◌≡◌, refl, ap, ◌∙◌}
 use lib.ListN.{length, get_or}
 use borrow.Author.Tests.{lt-ltb, le-ltb, eq-eqb, ne_eqb}
+use native.Mathlib.Decide.{dec_lt}
 use native.Mathlib.Omega.{arith}
 use Rattle.nested.specs.Nested.{stands, standing, agreed}
+use Rattle.nested.proofs.agreeing.Goals.{then-out-end-via-then-out-end, then-out-end-via-else-out-end+then-end-at}
 use Rattle.nested.proofs.agreeing.Goals as goal
 
 module _ (words out : List ℕ) (count at end : ℕ) where
@@ -62,43 +64,45 @@ module _ (words out : List ℕ) (count at end : ℕ) where
   unfolding stands
   same i h l n = rw (lt-ltb i 32 h, lt-ltb (at + i) end l, eq-eqb (get_or out (at + i) 0) (get_or words i 0) n) refl
 
-pub returns-then-out-end : goal.returns-then-out-end
-returns-then-out-end c = short c.args.words.now c.args.out.now c.args.count c.args.at c.args.end (omega arith)
+  all_seen : (i : ℕ) → Seen i → i ≡ min (min count 32) (end - at) → at ≤ end → i ≡ agreed words out count at end
+  all_seen i s e h = go (dec_lt i count) (dec_lt i 32)
+    where
+      go : Dec (i < count) → Dec (i < 32) → i ≡ agreed words out count at end
+      go (no n) d = last i s (omega arith)
+      go (yes b) (yes d) = stop i s (past_end i d (omega arith))
+      go (yes b) (no n) = stop i s (past_words i (omega arith))
 
-pub returns-then-end-at : goal.returns-then-end-at
-returns-then-end-at c =
-    let none = none_seen c.args.words.now c.args.out.now c.args.count c.args.at c.args.end (omega arith) in
-    stop c.args.words.now c.args.out.now c.args.count c.args.at c.args.end 0 none
-    (past_end c.args.words.now c.args.out.now c.args.count c.args.at c.args.end 0 (omega arith) (omega arith))
+pub returns-then-out-end : goal.returns-then-out-end
+returns-then-out-end c =
+    let w = c.args.words.now in
+    let o = c.args.out.now in
+    elim c.then-out-end.branch [
+      | then-out-end-via-then-out-end v ↦ short w o c.args.count c.args.at c.args.end v.if-out-end.true
+      | then-out-end-via-else-out-end+then-end-at v ↦
+          stop w o c.args.count c.args.at c.args.end 0 (none_seen w o c.args.count c.args.at c.args.end v.if-out-end.false)
+          (past_end w o c.args.count c.args.at c.args.end 0 (omega arith) (omega arith))
+    ]
 
 pub loop-i-init : goal.loop-i-init
-loop-i-init c =
-    (omega arith, none_seen c.args.words.now c.args.out.now c.args.count c.args.at c.args.end (omega arith))
-
-pub returns-then-i-ge32 : goal.returns-then-i-ge32
-returns-then-i-ge32 c =
-    stop c.args.words.now c.args.out.now c.args.count c.args.at c.args.end c.loop-i.i c.loop-i.invariant.1
-    (past_words c.args.words.now c.args.out.now c.args.count c.args.at c.args.end c.loop-i.i (omega arith))
-
-pub returns-then-left-i : goal.returns-then-left-i
-returns-then-left-i c =
-    stop c.args.words.now c.args.out.now c.args.count c.args.at c.args.end c.loop-i.i c.loop-i.invariant.1
-    (past_end c.args.words.now c.args.out.now c.args.count c.args.at c.args.end c.loop-i.i (omega arith) (omega arith))
+loop-i-init c = none_seen c.args.words.now c.args.out.now c.args.count c.args.at c.args.end (omega arith)
 
 pub returns-then-out-at : goal.returns-then-out-at
 returns-then-out-at c =
-    stop c.args.words.now c.args.out.now c.args.count c.args.at c.args.end c.loop-i.i c.loop-i.invariant.1
-    (other c.args.words.now c.args.out.now c.args.count c.args.at c.args.end c.loop-i.i (omega arith) (omega arith) c.if-out-at.true)
+    let w = c.args.words.now in
+    let o = c.args.out.now in
+    stop w o c.args.count c.args.at c.args.end c.loop-i.i c.loop-i.invariant
+    (other w o c.args.count c.args.at c.args.end c.loop-i.i (omega arith) (omega arith) c.if-out-at.true)
 
 pub loop-i-preserved : goal.loop-i-preserved
 loop-i-preserved c =
     let w = c.args.words.now in
-    let o = c.args.out.now in (
-      omega arith,
-      further w o c.args.count c.args.at c.args.end c.loop-i.i c.loop-i.invariant.1 (omega arith)
-          (same w o c.args.count c.args.at c.args.end c.loop-i.i (omega arith) (omega arith) c.if-out-at.false),
-    )
+    let o = c.args.out.now in
+    further w o c.args.count c.args.at c.args.end c.loop-i.i c.loop-i.invariant (omega arith)
+    (same w o c.args.count c.args.at c.args.end c.loop-i.i (omega arith) (omega arith) c.if-out-at.false)
 
 pub returns : goal.returns
 returns c =
-    last c.args.words.now c.args.out.now c.args.count c.args.at c.args.end c.loop-i.i c.loop-i.invariant.1 (omega arith)
+    let w = c.args.words.now in
+    let o = c.args.out.now in
+    let e : c.min-n.result ≡ c.loop-i.i = omega arith in
+    e ∙ all_seen w o c.args.count c.args.at c.args.end c.loop-i.i c.loop-i.invariant (omega arith) (omega arith)

@@ -1,7 +1,7 @@
 use Prim.Native.Nat.{ℕ, suc, ◌≤◌, ◌<◌, ◌+◌, ◌*◌, ◌-◌}
 use borrow.Author.Tests.{le-leb, lt-leb}
 use mathlib.Core.List.{List}
-use mathlib.Core.Path.{◌≡◌, refl, ap, ◌∙◌}
+use mathlib.Core.Path.{◌≡◌, refl, ◌∙◌}
 use native.Mathlib.Omega.{arith}
 use lib.ListN.{length, get_or, set}
 use Rattle.nested.specs.declared.windows.Loops.{Loops}
@@ -38,26 +38,19 @@ module _ (l : Loops) (window cells : List ℕ) (z y x : ℕ) where
 
 pub loop-k-init : goal.loop-k-init
 unfolding gathered
-loop-k-init c = (omega arith, omega arith, refl)
+loop-k-init c = refl
 
 pub returns-then-window-at : goal.returns-then-window-at
 returns-then-window-at c =
-    window-ends c.args.l c.args.window.now c.args.cells.now c.args.z c.args.y c.args.x c.loop-k.k _ _ c.loop-k.invariant.2 (omega arith) (omega arith)
+    window-ends c.args.l c.args.window.now c.args.cells.now c.args.z c.args.y c.args.x c.loop-k.k _ _ c.loop-k.invariant (omega arith) (omega arith)
 
 pub loop-k-preserved : goal.loop-k-preserved
 loop-k-preserved c =
-    let at : ℕ → ℕ = λ i. get_or c.args.window.now i 0 in
-    let e = c.loop-k.invariant.1 in
     let w =
     read c.args.l c.args.window.now c.args.cells.now c.args.z c.args.y c.args.x c.loop-k.k _ _ _ _ c.cell_at.ensures
-    (c.moved.ensures ∙ ap (λ (i : ℕ). moved_by c.args.z (at i)) e)
-    (c.moved-in-loop-k.ensures ∙ ap (λ (i : ℕ). moved_by c.args.y (at (i + 1))) e)
-    (c.moved-in-loop-k-2.ensures ∙ ap (λ (i : ℕ). moved_by c.args.x (at (i + 2))) e) in (
-      omega arith,
-      omega arith,
-      one_more c.args.l c.args.window.now c.args.cells.now c.args.z c.args.y c.args.x c.loop-k.k _ _ c.loop-k.invariant.2 _ (omega arith) (omega arith) w,
-    )
+    c.moved.ensures c.moved-in-loop-k.ensures c.moved-in-loop-k-2.ensures in
+    one_more c.args.l c.args.window.now c.args.cells.now c.args.z c.args.y c.args.x c.loop-k.k _ _ c.loop-k.invariant _ (omega arith) (omega arith) w
 
 pub returns : goal.returns
 returns c =
-    all-taken c.args.l c.args.window.now c.args.cells.now c.args.z c.args.y c.args.x c.loop-k.k _ _ c.loop-k.invariant.2 (omega arith)
+    all-taken c.args.l c.args.window.now c.args.cells.now c.args.z c.args.y c.args.x c.loop-k.k _ _ c.loop-k.invariant (omega arith)

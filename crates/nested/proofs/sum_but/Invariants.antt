@@ -1,12 +1,8 @@
 -- `sum_but` adds the values. Assumes nothing.
-use Prim.Native.Nat.{◌≤◌, ◌-◌}
 use mathlib.Core.Path.{◌≡◌}
 use Rattle.model_run.specs.Kernels.{float}
 use Rattle.nested.specs.Nested.{word_in, sum_but}
 use Rattle.nested.proofs.sum_but.Given as goal
 
 abbrev pub invariant-loop-k : goal.invariant-loop-k
-invariant-loop-k l = (l.k ≤ l.n) × (l.sum ≡ sum_but (λ i. float (word_in l.words i)) l.but l.k)
-
-abbrev pub decreases-loop-k : goal.decreases-loop-k
-decreases-loop-k l = l.n - l.k
+invariant-loop-k l = l.sum ≡ sum_but (λ i. float (word_in l.words i)) l.but l.k

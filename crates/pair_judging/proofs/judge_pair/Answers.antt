@@ -10,6 +10,6 @@ use Rattle.pair_judging.proofs.judge_pair.Goals as goal
 pub returns : goal.returns
 returns c =
     c.earlier.ensures
-    ∙ ap₂ earlier_of (c.judge_chain-found.ensures ∙ ap (λ (x : Chain). judge_chain x c.args.rows.now) c.raw_of-raw.ensures)
+    ∙ ap₂ earlier_of (c.judge_chain-found.ensures ∙ ap (λ (x : Chain). judge_chain x c.args.rows.now) c.raw_of.ensures)
     (c.judge_sides-added.ensures ∙ ap (λ (n : ℕ). first_of (side_checks n c.args.chain.window c.args.first c.args.second)) c.dims_of.ensures)
     ∙ judged_pair c.args.chain c.args.rows.now c.args.first c.args.second

@@ -2,9 +2,6 @@ use mathlib.Core.Path.{sym, ◌∙◌}
 use Rattle.pair_run.proofs.CallLaws.{refused_first}
 use Rattle.pair_run.proofs.run_pair.Goals as goal
 
-pub run_judged-requires : goal.run_judged-requires
-run_judged-requires c = sym c.judge_pair.ensures ∙ c.in-Accepted.is
-
-pub returns-in-Refused : goal.returns-in-Refused
-returns-in-Refused c =
-    refused_first c.args.chain c.args.rows.now c.args.first c.args.second c.args.state c.args.store.now c.args.cells.now c.args.out.now c.args.other.now c.args.allowance _ (sym c.judge_pair.ensures ∙ c.in-Refused.is)
+pub returns-in-Err : goal.returns-in-Err
+returns-in-Err c =
+    refused_first c.args.chain c.args.rows.now c.args.first c.args.second c.args.state c.args.store.now c.args.cells.now c.args.out.now c.args.other.now c.args.allowance _ (sym c.judge_pair.ensures ∙ c.in-Err.is)

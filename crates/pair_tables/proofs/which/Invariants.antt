@@ -1,5 +1,5 @@
 -- The loop's invariant: the references from k on decide.
-use Prim.Native.Nat.{◌+◌, ◌-◌, ◌≤◌}
+use Prim.Native.Nat.{◌+◌}
 use mathlib.Core.Path.{◌≡◌}
 use Rattle.model.specs.Lists.{tabulate}
 use Rattle.model.specs.Steps.{which_of}
@@ -9,7 +9,4 @@ use Rattle.pair_tables.proofs.which.Given as goal
 
 abbrev pub invariant-loop-k : goal.invariant-loop-k
 invariant-loop-k l =
-    (l.k ≤ l.count) × (l.k + which_of (part (offset_at l.dims l.offsets) l.k l.count) (front l.dims l.o) ≡ which_of (tabulate l.count (offset_at l.dims l.offsets)) (front l.dims l.o))
-
-abbrev pub decreases-loop-k : goal.decreases-loop-k
-decreases-loop-k l = l.count - l.k
+    l.k + which_of (part (offset_at l.dims l.window.offsets) l.k l.window.count) (front l.dims l.o) ≡ which_of (tabulate l.window.count (offset_at l.dims l.window.offsets)) (front l.dims l.o)

@@ -7,7 +7,7 @@ pub loop-init : goal.loop-init
 loop-init c = subst Taking (λ i. record { sheet = sym c.open-arriving.ensures i; rows = sym c.requires i }) taking_start
 
 pub loop-preserved : goal.loop-preserved
-loop-preserved c = taking_more _ c.loop.invariant _ _ c.take_block-arriving.ensures c.in-Accepted.is
+loop-preserved c = taking_more _ c.loop.invariant _ _ c.take_block-arriving.ensures c.in-Ok-verdict.is
 
 pub returns-after-loop : goal.returns-after-loop
 returns-after-loop c = taking_ended _ c.loop.invariant
@@ -15,5 +15,5 @@ returns-after-loop c = taking_ended _ c.loop.invariant
 pub returns-then-len-eq0 : goal.returns-then-len-eq0
 returns-then-len-eq0 c = taking_ended _ c.loop.invariant
 
-pub returns-in-Refused : goal.returns-in-Refused
-returns-in-Refused c = taking_back _ c.loop.invariant _ _ _ c.take_block-arriving.ensures c.in-Refused.is
+pub returns-in-Err : goal.returns-in-Err
+returns-in-Err c = taking_back _ c.loop.invariant _ _ _ c.take_block-arriving.ensures c.in-Err.is

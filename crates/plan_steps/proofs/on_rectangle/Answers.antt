@@ -1,15 +1,14 @@
 use mathlib.Core.List.{[]}
 use mathlib.Core.Bool.{false}
 use mathlib.Core.Path.{◌≡◌, sym, ◌∙◌, ap}
-use Rattle.model.specs.Judging.{window_checks, judge_window, judge_rectangle}
-use Rattle.model.specs.Answers.{first_of}
+use Rattle.std.proofs.lemmas.Result.{err_from_is_err_and}
+use Rattle.model.specs.Judging.{window_checks, judge_window}
+use Rattle.model.specs.Answers.{first_of, verdict_of}
 use Rattle.model.specs.Values.{Trimmed}
 use Rattle.model.specs.declared.Bounds.{Bounds}
 use Rattle.model.specs.declared.Grid.{Grid}
-use Rattle.model.specs.declared.Verdict.{Verdict}
 use Rattle.model.specs.declared.Window.{Window}
 use Rattle.shape.specs.Shapes.{survey_of}
-use Rattle.shape.specs.declared.Survey.{Survey}
 use Rattle.shape.proofs.Answers.{survey_verdict}
 use Rattle.grid_laws.proofs.ChainLaws.{on_flat}
 use Rattle.grid_laws.proofs.StepLaws.{steps_refused}
@@ -18,19 +17,18 @@ use Rattle.plan_steps.proofs.StepLaws.{few}
 use Rattle.plan_steps.proofs.on_rectangle.Goals as goal
 
 -- What the survey found is the first of 3 to 6 and 15.
-found : (g : Grid) (w : Window) (x : Bounds) (s : Survey) → s ≡ survey_of g w x → (v : Verdict) → s.verdict ≡ v → judge_rectangle g w x ≡ v
-found g w x s d v e = sym (survey_verdict g w x) ∙ ap (λ (t : Survey). t.verdict) (sym d) ∙ e
-
-flatly : (g : Grid) → g.skewed ≡ false → (w : Window) (x : Bounds) → judge_window g [] w x ≡ judge_rectangle g w x
-flatly g flat w x = ap (λ (t : Trimmed). first_of (window_checks t)) (on_flat g flat [] w x)
+found : (g : Grid) → g.skewed ≡ false → (w : Window) (x : Bounds) → judge_window g [] w x ≡ verdict_of (survey_of g w x)
+found g flat w x = ap (λ (t : Trimmed). first_of (window_checks t)) (on_flat g flat [] w x) ∙ sym (survey_verdict g w x)
 
 pub taken-requires : goal.taken-requires
 taken-requires c =
-    let e = found c.args.grid c.args.window c.args.bounds c.survey_of-survey.result c.survey_of-survey.ensures _ c.in-Accepted.is in
-    let flat = c.requires in
-    let ok = flatly c.args.grid flat c.args.window c.args.bounds ∙ e in
-    (flat, ok, first_positions c.args.grid flat c.args.window c.args.bounds e (few c.args.grid [] c.args.window c.args.bounds ok) c.survey_of-survey.result c.survey_of-survey.ensures)
+    let a = c.args in
+    let s = sym c.survey_of.ensures ∙ c.in_ok-survey.was in
+    let ok = found a.grid c.requires a.window a.bounds ∙ ap verdict_of s in
+    (c.requires, ok, first_positions a.grid c.requires a.window a.bounds (few a.grid [] a.window a.bounds ok) c.in_ok-survey.survey s)
 
-pub returns-in-Refused : goal.returns-in-Refused
-returns-in-Refused c =
-    c.refused.ensures ∙ sym (steps_refused c.args.grid [] c.args.window c.args.bounds _ (flatly c.args.grid c.requires c.args.window c.args.bounds ∙ found c.args.grid c.args.window c.args.bounds c.survey_of-survey.result c.survey_of-survey.ensures _ c.in-Refused.is))
+pub returns-in_err-survey : goal.returns-in_err-survey
+returns-in_err-survey c =
+    let a = c.args in
+    let p = err_from_is_err_and c.from_residual.result c.from_residual.ensures.1 in
+    rw (p.1, p.2) (sym (steps_refused a.grid [] a.window a.bounds _ (found a.grid c.requires a.window a.bounds ∙ ap verdict_of (sym c.survey_of.ensures ∙ c.in_err-survey.was))))

@@ -26,7 +26,7 @@ low-here c = omega (arith, flat-dims c, low c.args.grid [] c.args.window c.args.
 
 pub order_of-order-requires : goal.order_of-order-requires
 order_of-order-requires c =
-    (few-here c.before.before, low-here c.before.before)
+    (few-here (goal.at.order_of-order-requires c).Start, low-here (goal.at.order_of-order-requires c).Start)
 
 -- An order in the rectangle's dimensions is one in the grid's.
 ordered : (c : Start) (r : List ℕ) → Ordered c.args.grid.dims c.args.window.count c.args.window.offsets 0 r → Ordered (dims_of c.args.grid) c.args.window.count c.args.window.offsets 0 r
@@ -34,23 +34,23 @@ ordered c r o = subst (λ (n : ℕ). Ordered n c.args.window.count c.args.window
 
 pub arranged-sorted-requires : goal.arranged-sorted-requires
 arranged-sorted-requires c =
-    (low-here c.before.before.before.before, few-here c.before.before.before.before, c.order_of-order.ensures)
+    (low-here (goal.at.arranged-sorted-requires c).Start, few-here (goal.at.arranged-sorted-requires c).Start, c.order_of-order.ensures)
 
 pub held_by-filters-requires : goal.held_by-filters-requires
 held_by-filters-requires c =
-    (few-here c.before.before.before.before.before.before, λ k h. c.order_of-order.ensures.below k (omega arith) h)
+    (few-here (goal.at.held_by-filters-requires c).Start, λ k h. c.order_of-order.ensures.below k (omega arith) h)
 
 pub distances-distances-requires : goal.distances-distances-requires
 distances-distances-requires c = (
   some_references c.args.window.count (passed c.args.grid [] c.args.window c.args.bounds c.requires.1).count,
-  few-here c.before.before.before.before.before.before.before.before,
+  few-here (goal.at.distances-distances-requires c).Start,
   λ k h. c.order_of-order.ensures.below k (omega arith) h,
-  positions_fall c.args.grid c.requires.0 c.args.window c.args.bounds c.requires.1 c.args.at.now c.requires.2 c.order_of-order.result (ordered c.before.before.before.before.before.before.before.before c.order_of-order.result c.order_of-order.ensures),
+  positions_fall c.args.grid c.requires.0 c.args.window c.args.bounds c.requires.1 c.args.at.now c.requires.2 c.order_of-order.result (ordered (goal.at.distances-distances-requires c).Start c.order_of-order.result c.order_of-order.ensures),
 )
 
 pub returns : goal.returns
 returns c =
-    taken_from c.args.grid [] c.args.window c.args.bounds c.requires.1 c.order_of-order.result (ordered c.before.before.before.before.before.before.before.before.before.before.before c.order_of-order.result c.order_of-order.ensures) c.distances-distances.result
-    (distances_are c.args.grid c.requires.0 c.args.window c.args.bounds c.requires.1 c.args.at.now c.requires.2 c.order_of-order.result (ordered c.before.before.before.before.before.before.before.before.before.before.before c.order_of-order.result c.order_of-order.ensures) c.distances-distances.result (few-here c.before.before.before.before.before.before.before.before.before.before.before) c.distances-distances.ensures)
+    taken_from c.args.grid [] c.args.window c.args.bounds c.requires.1 c.order_of-order.result (ordered (goal.at.returns c).Start c.order_of-order.result c.order_of-order.ensures) c.distances-distances.result
+    (distances_are c.args.grid c.requires.0 c.args.window c.args.bounds c.requires.1 c.args.at.now c.requires.2 c.order_of-order.result (ordered (goal.at.returns c).Start c.order_of-order.result c.order_of-order.ensures) c.distances-distances.result (few-here (goal.at.returns c).Start) c.distances-distances.ensures)
     c.arranged-sorted.result c.held_by-filters.result c.total-total.result
-    (c.arranged-sorted.ensures ∙ ap (λ (n : ℕ). window_of c.args.window.count (falling (offsets_of n c.args.window))) (sym (flat-dims c.before.before.before.before.before.before.before.before.before.before.before))) c.held_by-filters.ensures c.total-total.ensures
+    (c.arranged-sorted.ensures ∙ ap (λ (n : ℕ). window_of c.args.window.count (falling (offsets_of n c.args.window))) (sym (flat-dims (goal.at.returns c).Start))) c.held_by-filters.ensures c.total-total.ensures

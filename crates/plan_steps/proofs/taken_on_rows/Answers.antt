@@ -32,20 +32,20 @@ all_found : (c : Start) (w : Window) (xs : List ℕ) → w ≡ window_of c.args.
 all_found c w xs e f = rw (sorted_judged c.args.grid c.requires.0 c.args.rows.now c.args.window c.args.bounds c.requires.1) at (rw e at f)
 
 pub order_of-order-requires : goal.order_of-order-requires
-order_of-order-requires c = (few-here c.before.before.before.before, omega arith)
+order_of-order-requires c = (few-here (goal.at.order_of-order-requires c).Start, omega arith)
 
 pub arranged-sorted-requires : goal.arranged-sorted-requires
 arranged-sorted-requires c =
-    (omega arith, few-here c.before.before.before.before.before.before, c.order_of-order.ensures)
+    (omega arith, few-here (goal.at.arranged-sorted-requires c).Start, c.order_of-order.ensures)
 
 pub held_by-filters-requires : goal.held_by-filters-requires
 held_by-filters-requires c =
-    (few-here c.before.before.before.before.before.before.before.before, λ k h. c.order_of-order.ensures.below k (omega arith) h)
+    (few-here (goal.at.held_by-filters-requires c).Start, λ k h. c.order_of-order.ensures.below k (omega arith) h)
 
 pub returns : goal.returns
 returns c =
-    taken_from c.args.grid c.args.rows.now c.args.window c.args.bounds c.requires.1 c.order_of-order.result (ordered c.before.before.before.before.before.before.before.before.before.before.before.before c.order_of-order.result c.order_of-order.ensures) c.distances-distances.result
-    (row_distances c.args.grid c.requires.0 c.args.rows.now c.args.window c.args.bounds c.requires.1 c.distances-distances.result (few-here c.before.before.before.before.before.before.before.before.before.before.before.before)
-    (all_found c.before.before.before.before.before.before.before.before.before.before.before.before c.arranged-sorted.result c.distances-distances.result c.arranged-sorted.ensures c.distances-distances.ensures))
+    taken_from c.args.grid c.args.rows.now c.args.window c.args.bounds c.requires.1 c.order_of-order.result (ordered (goal.at.returns c).Start c.order_of-order.result c.order_of-order.ensures) c.distances-distances.result
+    (row_distances c.args.grid c.requires.0 c.args.rows.now c.args.window c.args.bounds c.requires.1 c.distances-distances.result (few-here (goal.at.returns c).Start)
+    (all_found (goal.at.returns c).Start c.arranged-sorted.result c.distances-distances.result c.arranged-sorted.ensures c.distances-distances.ensures))
     c.arranged-sorted.result c.held_by-filters.result c.total-total.result
-    (c.arranged-sorted.ensures ∙ ap (λ (n : ℕ). window_of c.args.window.count (falling (offsets_of n c.args.window))) (sym (two c.before.before.before.before.before.before.before.before.before.before.before.before))) c.held_by-filters.ensures c.total-total.ensures
+    (c.arranged-sorted.ensures ∙ ap (λ (n : ℕ). window_of c.args.window.count (falling (offsets_of n c.args.window))) (sym (two (goal.at.returns c).Start))) c.held_by-filters.ensures c.total-total.ensures

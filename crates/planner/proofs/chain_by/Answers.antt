@@ -7,8 +7,8 @@ use Rattle.model.specs.declared.Bounds.{Bounds}
 use Rattle.model.specs.declared.Grid.{Grid}
 use Rattle.planner.proofs.chain_by.Goals as goal
 
-pub trimmed_bounds-copied-requires : goal.trimmed_bounds-copied-requires
-trimmed_bounds-copied-requires c = omega (arith, c.dims_of-dims.ensures, c.requires)
+pub trimmed_bounds-requires : goal.trimmed_bounds-requires
+trimmed_bounds-requires c = omega (arith, c.dims_of.ensures, c.requires)
 
 pub returns : goal.returns
 returns c =
@@ -19,4 +19,4 @@ returns c =
       capacities = c.args.steps.distances;
       order = record { stood = true; filters = c.args.steps.filters };
       kernel = c.args.kernel;
-    }) c.trimmed_grid-trimmed.ensures (c.trimmed_bounds-copied.ensures ∙ ap (λ (n : ℕ). bounds_of (part_of n c.args.bounds)) c.dims_of-dims.ensures)
+    }) c.trimmed_grid.ensures (c.trimmed_bounds.ensures ∙ ap (λ (n : ℕ). bounds_of (part_of n c.args.bounds)) c.dims_of.ensures)

@@ -1,33 +1,41 @@
 use Prim.Native.Nat.{ℕ}
+use mathlib.Core.List.{List}
 use mathlib.Core.Path.{◌≡◌, sym, ◌∙◌, ap}
-use Rattle.model.specs.Answers.{by_verdict}
-use Rattle.model.specs.Values.{dims_of}
+use Rattle.std.proofs.lemmas.Result.{err_from_is_err_and}
+use Rattle.std.specs.Prelude.{Ok}
+use Rattle.model.specs.Answers.{Verdict}
 use Rattle.model.specs.Judging.{judge_behind}
+use Rattle.model.specs.Planning.{judge_request}
+use Rattle.model.specs.Steps.{steps_of}
+use Rattle.model.specs.Values.{dims_of}
 use Rattle.model.specs.declared.Request.{Request}
 use Rattle.model.specs.declared.Steps.{Steps}
-use Rattle.model.specs.declared.Verdict.{Verdict}
-use Rattle.model.specs.declared.Verdict.TheVariants as verdict
 use Rattle.windows.specs.Windows.{has_centre}
-use Rattle.planner.proofs.PlanLaws.{few_dimensions, refused_plan_lem, planned_by}
+use Rattle.planner.proofs.PlanLaws.{plan_refused, plan_unstepped, few_dimensions, verdict_is, planned_by}
 use Rattle.planner.proofs.plan.Goals as goal
 
--- What judging said, by the grid's dimensions.
-by-dims : (r : Request) (s : Steps) (n : ℕ) → n ≡ dims_of r.grid → (v : Verdict) → v ≡ by_verdict s.verdict (judge_behind r.kernel (has_centre n r.window) s.total) verdict.Refused
-    → by_verdict s.verdict (judge_behind r.kernel (has_centre (dims_of r.grid) r.window) s.total) verdict.Refused ≡ v
-by-dims r s n e v q = sym (q ∙ ap (λ (n : ℕ). by_verdict s.verdict (judge_behind r.kernel (has_centre n r.window) s.total) verdict.Refused) e)
+pub returns-in_err-steps : goal.returns-in_err-steps
+returns-in_err-steps c =
+    let p = err_from_is_err_and c.from_residual.result c.from_residual.ensures.1 in
+    rw (p.1, p.2) (plan_unstepped c.args.r c.args.rows.now _ (sym c.steps.ensures ∙ c.in_err-steps.was))
 
-pub chain_by-chain-requires : goal.chain_by-chain-requires
-chain_by-chain-requires c =
-    few_dimensions c.args.r c.args.rows.now c.steps-steps.result c.steps-steps.ensures
-    (by-dims c.args.r c.steps-steps.result _ c.dims_of.ensures _ c.judge_planned.ensures ∙ c.in-Accepted.is)
+-- What judging said is what judging the request answers.
+judged : (r : Request) (rows : List ℕ) (s : Steps) → steps_of r.grid rows r.window r.bounds ≡ Ok s → (n : ℕ) → n ≡ dims_of r.grid → (v : Verdict)
+    → v ≡ judge_behind r.kernel (has_centre n r.window) s.total → judge_request r rows ≡ v
+judged r rows s d n e v q = sym (q ∙ ap (λ (n : ℕ). judge_behind r.kernel (has_centre n r.window) s.total) e ∙ verdict_is r rows s d)
 
-pub returns-in-Refused : goal.returns-in-Refused
-returns-in-Refused c =
-    c.refused.ensures
-    ∙ refused_plan_lem c.args.r c.args.rows.now c.steps-steps.result c.steps-steps.ensures _
-    (by-dims c.args.r c.steps-steps.result _ c.dims_of.ensures _ c.judge_planned.ensures ∙ c.in-Refused.is)
+pub returns-in_err-judge_planned : goal.returns-in_err-judge_planned
+returns-in_err-judge_planned c =
+    let r = c.args.r in
+    let s = sym c.steps.ensures ∙ c.in_ok-steps.was in
+    let p = err_from_is_err_and c.from_residual-in_err-judge_planned.result c.from_residual-in_err-judge_planned.ensures.1 in
+    rw (p.1, p.2) (plan_refused r c.args.rows.now _ (judged r c.args.rows.now c.in_ok-steps.steps s _ c.dims_of.ensures _ c.judge_planned.ensures ∙ c.in_err-judge_planned.was))
 
-pub returns-in-Accepted : goal.returns-in-Accepted
-returns-in-Accepted c =
-    planned_by c.args.r c.args.rows.now c.steps-steps.result c.steps-steps.ensures
-    (by-dims c.args.r c.steps-steps.result _ c.dims_of.ensures _ c.judge_planned.ensures ∙ c.in-Accepted.is) c.chain_by-chain.result c.chain_by-chain.ensures
+pub chain_by-requires : goal.chain_by-requires
+chain_by-requires c = few_dimensions c.args.r c.args.rows.now c.in_ok-steps.steps (sym c.steps.ensures ∙ c.in_ok-steps.was)
+
+pub returns : goal.returns
+returns c =
+    let r = c.args.r in
+    let s = sym c.steps.ensures ∙ c.in_ok-steps.was in
+    planned_by r c.args.rows.now c.in_ok-steps.steps s (judged r c.args.rows.now c.in_ok-steps.steps s _ c.dims_of.ensures _ c.judge_planned.ensures ∙ c.in_ok-judge_planned.was) c.chain_by.result c.chain_by.ensures

@@ -4,7 +4,7 @@ use Rattle.planner.proofs.trimmed_bounds.Goals as goal
 
 pub returns-then-bounds : goal.returns-then-bounds
 returns-then-bounds c =
-    box_is c.args.dims c.args.bounds _ _ c.if-bounds.true c.trimmed_indices-lowest.ensures c.trimmed_indices-highest.ensures
+    box_is c.args.dims c.args.bounds _ _ c.if-bounds.true c.trimmed.ensures c.trimmed-then-bounds.ensures
 
 pub returns : goal.returns
 returns c = no_box_is c.args.dims c.args.bounds (search rules)

@@ -3,8 +3,8 @@ use Rattle.grid_laws.proofs.ChainLaws.{dims_flat}
 use Rattle.planner.proofs.PlanLaws.{flat_grid, skewed_grid_lem}
 use Rattle.planner.proofs.trimmed_grid.Goals as goal
 
-pub trimmed_sizes-sizes-requires : goal.trimmed_sizes-sizes-requires
-trimmed_sizes-sizes-requires c =
+pub trimmed-requires : goal.trimmed-requires
+trimmed-requires c =
     omega (arith, c.requires, dims_flat c.args.grid c.if-grid.false)
 
 pub returns-then-grid : goal.returns-then-grid
@@ -12,4 +12,4 @@ returns-then-grid c = skewed_grid_lem c.args.grid c.if-grid.true
 
 pub returns : goal.returns
 returns c =
-    flat_grid c.args.grid c.trimmed_sizes-sizes.result c.if-grid.false c.trimmed_sizes-sizes.ensures
+    flat_grid c.args.grid c.trimmed.result c.if-grid.false c.trimmed.ensures

@@ -8,7 +8,7 @@ use Rattle.program_intake.proofs.take_block.Given as goal
 
 abbrev pub invariant-loop-at : goal.invariant-loop-at
 invariant-loop-at l =
-    (length l.rows ≡ length l.initial.rows) × (arrive l.chained (beside l.arriving l.rows) (drop l.at l.block) ≡ arrive l.chained (beside l.initial.arriving l.initial.rows) l.block)
+    arrive l.chained (beside l.arriving l.rows) (drop l.at l.block) ≡ arrive l.chained (beside l.initial.arriving l.initial.rows) l.block
 
 abbrev pub decreases-loop-at : goal.decreases-loop-at
 decreases-loop-at l = length l.block - l.at

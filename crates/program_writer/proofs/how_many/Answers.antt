@@ -9,4 +9,4 @@ returns-then-size-gt32 c = great_width _ _ _ _ _ c.if-size-eq0.false c.if-size-g
 
 pub returns : goal.returns
 returns c =
-    rw (c.lesser-2.ensures, c.lesser.ensures, c.lesser-lines.ensures) (some_fit _ _ _ _ _ c.if-size-eq0.false c.if-size-gt32.false)
+    rw (c.min-2.ensures, c.min.ensures, c.min-lines.ensures) (some_fit _ _ _ _ _ c.if-size-eq0.false c.if-size-gt32.false)

@@ -1,6 +1,6 @@
 use Prim.Native.Nat.{◌+◌, ◌*◌, ◌≤◌}
-use mathlib.Core.Path.{refl, ◌∙◌}
-use native.Mathlib.Nat.{sub-zero}
+use mathlib.Core.Path.{◌≡◌, ◌∙◌}
+use native.Mathlib.Nat.{add-zero, sub-zero, zero-mul}
 use native.Mathlib.Omega.{arith}
 use lib.ListN.{length}
 use Rattle.program_writer.proofs.FiringLaws.{line_on}
@@ -16,41 +16,43 @@ fit_at l = fit _ _ _ _ _ _ l.how_many-lines.ensures
 next-at : (t : In-loop-i)
     →
     let a = t.args in
-    (t.loop-i.at + (8 * a.size + 11) ≤ length t.loop-i.out) × (t.loop-i.from + a.size ≤ length a.words.now)
+    (t.loop-i.at + (8 * a.size + 11) ≤ length t.loop-i.out) × (t.loop-i.i * a.size + a.size ≤ length a.words.now)
 next-at t =
-    let fit_at-now : Fits t.args.size t.args.index (length t.args.words.now) (length t.args.out.now) t.how_many-lines.result =
-    fit _ _ _ _ _ _ t.how_many-lines.ensures in
-    let f = next_fits _ _ _ _ _ t.loop-i.i fit_at-now t.loop-i-test.true in
-    (omega (arith, f.0), omega (arith, f.1))
+    let f = next_fits _ _ _ _ _ t.loop-i.i (fit _ _ _ _ _ _ t.how_many-lines.ensures) t.loop-i-test.true in
+    (omega (arith, f.0), f.1)
 
 pub loop-i-init : goal.loop-i-init
-loop-i-init c = (omega arith, omega arith, omega arith, omega arith, refl, rw sub-zero)
+loop-i-init c = (omega arith, rw (add-zero, sub-zero, zero-mul))
+
+pub overflow_cast-i : goal.overflow_cast-i
+overflow_cast-i c = omega (arith, (fit_at (goal.at.overflow_cast-i c).At-loop-i).has_indices)
+
+pub overflow_add-index : goal.overflow_add-index
+overflow_add-index c = omega (arith, (fit_at (goal.at.overflow_add-index c).At-loop-i).has_indices)
+
+pub overflow_mul-i : goal.overflow_mul-i
+overflow_mul-i c = omega (arith, (next-at (goal.at.overflow_mul-i c).In-loop-i).1)
 
 pub put_firing-at-requires : goal.put_firing-at-requires
 put_firing-at-requires c = next-at (goal.at.put_firing-at-requires c).In-loop-i
 
-pub overflow_add-j : goal.overflow_add-j
-overflow_add-j c = omega (arith, (fit_at (goal.at.overflow_add-j c).At-loop-i).has_indices)
-
 pub loop-i-preserved : goal.loop-i-preserved
 loop-i-preserved c =
     let a = c.args in
-    let e = c.put_firing-at.ensures in (
+    let i = c.loop-i.i in
+    let e = c.put_firing-at.ensures in
+    let j : a.index + (i + 1) ≡ a.index + i + 1 = omega arith in
+    let from : (i + 1) * a.size ≡ i * a.size + a.size = omega arith in (
       omega arith,
-      omega arith,
-      omega arith,
-      omega arith,
-      omega arith,
-      rw (e.0, e.1)
-          (line_on a.words.now a.size c.loop-i.j c.loop-i.i c.how_many-lines.result c.loop-i.out c.loop-i.at c.loop-i.from
+      rw (e.0, e.1, j, from)
+          (line_on a.words.now a.size (a.index + i) i c.how_many-lines.result c.loop-i.out c.loop-i.at (i * a.size)
           c.loop-i-test.true (next-at (goal.at.loop-i-preserved c).In-loop-i).1)
-          ∙ c.loop-i.invariant.5,
+          ∙ c.loop-i.invariant.1,
     )
-
-pub shape_of-out : goal.shape_of-out
-shape_of-out c = c.loop-i.invariant.4
 
 pub returns : goal.returns
 returns c =
+    let a = c.args in
+    let i = c.loop-i.i in
     let v = c.loop-i.invariant in
-    all_laid _ _ _ _ _ _ _ _ _ c.loop-i.from c.loop-i.j c.how_many-lines.ensures v.0 c.loop-i-test.false v.3 v.5
+    all_laid _ _ _ _ _ _ _ _ _ (i * a.size) (a.index + i) c.how_many-lines.ensures c.loop-i.auto.i-end c.loop-i-test.false v.0 v.1

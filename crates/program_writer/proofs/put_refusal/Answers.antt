@@ -11,4 +11,4 @@ shape_of-out c = simp length-set (omega arith)
 
 pub returns : goal.returns
 returns c =
-    rw (c.put_byte-2.ensures, c.number_of.ensures, c.put_byte.ensures) (refusal_laid _ _ c.if-out-lt5.false)
+    rw (c.put_byte-2.ensures, c.from.ensures, c.put_byte.ensures) (refusal_laid _ _ c.if-out-lt5.false)

@@ -24,19 +24,16 @@ short c =
 pub loop-i-init : goal.loop-i-init
 unfolding cells_above
 loop-i-init c =
-    (omega arith, few_count c.args.count c.args.rows.now (good c), omega arith, refl, filled_first 513 (cells_above (rows_of c.args.count c.args.rows.now)) refl)
+    (few_count c.args.count c.args.rows.now (good c), omega arith, refl, filled_first 513 (cells_above (rows_of c.args.count c.args.rows.now)) refl)
 
 pub overflow_add-cells : goal.overflow_add-cells
-overflow_add-cells c = omega (arith, short c, c.loop-i.invariant.2)
-
-pub bounds-to-at : goal.bounds-to-at
-bounds-to-at c = omega (arith, c.wide_usize-at.ensures.0)
+overflow_add-cells c = omega (arith, short c)
 
 pub loop-i-preserved : goal.loop-i-preserved
 loop-i-preserved c =
-    let next = ap₂ ◌+◌ c.loop-i.invariant.3 c.length_of-cells.ensures ∙ above_next (rows_of c.args.count c.args.rows.now) c.loop-i.i in
-    (omega arith, c.loop-i.invariant.1, omega (arith, short (goal.at.loop-i-preserved c).After-length_of-cells, c.loop-i.invariant.2), next, filled_at 513 (cells_above (rows_of c.args.count c.args.rows.now)) (c.loop-i.i + 1) _ c.loop-i.to _ c.wide_usize-at.ensures.0 (omega arith) next c.loop-i.invariant.4)
+    let next = ap₂ ◌+◌ c.loop-i.invariant.2 c.length_of-cells.ensures ∙ above_next (rows_of c.args.count c.args.rows.now) c.loop-i.i in
+    (c.loop-i.invariant.0, omega (arith, short (goal.at.loop-i-preserved c).After-length_of-cells), next, filled_at 513 (cells_above (rows_of c.args.count c.args.rows.now)) (c.loop-i.i + 1) _ c.loop-i.to _ refl (omega arith) next c.loop-i.invariant.3)
 
 pub returns : goal.returns
 returns c =
-    filled_up_to 513 0 (cells_above (rows_of c.args.count c.args.rows.now)) (c.loop-i.i + 1) _ c.loop-i.to (omega arith ∙ above_good c.args.count c.args.rows.now (good (goal.at.returns c).Else-bad_rows)) c.loop-i.invariant.4
+    filled_up_to 513 0 (cells_above (rows_of c.args.count c.args.rows.now)) (c.loop-i.i + 1) _ c.loop-i.to (omega arith ∙ above_good c.args.count c.args.rows.now (good (goal.at.returns c).Else-bad_rows)) c.loop-i.invariant.3

@@ -1,4 +1,4 @@
-use Prim.Native.Nat.{◌+◌, ◌-◌, ◌*◌, ◌≤◌}
+use Prim.Native.Nat.{◌+◌, ◌*◌, ◌≤◌}
 use mathlib.Core.Path.{◌≡◌}
 use Rattle.model.specs.Grounds.{cells_above}
 use Rattle.model.specs.Values.{rows_of}
@@ -6,7 +6,4 @@ use Rattle.geometry.specs.Parts.{Filled}
 use Rattle.row_courses.proofs.cells_above.Given as goal
 
 abbrev pub invariant-loop-i : goal.invariant-loop-i
-invariant-loop-i l = (l.i ≤ l.count) × (l.count ≤ 512) × (l.cells ≤ 1024 * l.i) × (l.cells ≡ cells_above (rows_of l.count l.rows) l.i) × Filled 513 0 (cells_above (rows_of l.count l.rows)) (l.i + 1) l.to
-
-abbrev pub decreases-loop-i : goal.decreases-loop-i
-decreases-loop-i l = l.count - l.i
+invariant-loop-i l = (l.count ≤ 512) × (l.cells ≤ 1024 * l.i) × (l.cells ≡ cells_above (rows_of l.count l.rows) l.i) × Filled 513 0 (cells_above (rows_of l.count l.rows)) (l.i + 1) l.to

@@ -12,22 +12,15 @@ use Rattle.row_courses.proofs.distances_in.Goals as goal
 
 pub loop-v-init : goal.loop-v-init
 loop-v-init c =
-    (omega arith, filled_zeros 31 (λ k. greatest (part (distance_at (rows_of c.args.count c.args.rows.now) c.args.above.now c.args.course k) c.args.course.height c.args.course.height)) (looked c.args.course - 1) (λ k. sym (greatest_none (distance_at (rows_of c.args.count c.args.rows.now) c.args.above.now c.args.course k) c.args.course.height)))
-
-pub widened-next-requires : goal.widened-next-requires
-widened-next-requires c =
-    let f = c.loop-v.invariant.1 in
-    (c.requires (c.loop-v.v - 1) (omega arith), record { long = f.long; done = λ i h. refl; left = f.left })
+    filled_zeros 31 (λ k. greatest (part (distance_at (rows_of c.args.count c.args.rows.now) c.args.above.now c.args.course k) c.args.course.height c.args.course.height)) (looked c.args.course - 1) (λ k. sym (greatest_none (distance_at (rows_of c.args.count c.args.rows.now) c.args.above.now c.args.course k) c.args.course.height))
 
 pub loop-v-preserved : goal.loop-v-preserved
 loop-v-preserved c =
-    let f = c.loop-v.invariant.1 in (
-      omega arith,
-      filled_same 31 _ (λ k. greatest (part (distance_at (rows_of c.args.count c.args.rows.now) c.args.above.now c.args.course k) (c.loop-v.v - 1) c.args.course.height)) _ _ _ refl
-          (λ k h. ap (max (distance_at (rows_of c.args.count c.args.rows.now) c.args.above.now c.args.course k (c.loop-v.v - 1))) (f.done k h) ∙ greatest_back (distance_at (rows_of c.args.count c.args.rows.now) c.args.above.now c.args.course k) c.loop-v.v c.args.course.height (omega arith) c.loop-v.invariant.0)
-          c.widened-next.ensures,
-    )
+    let f = c.loop-v.invariant in
+    filled_same 31 _ (λ k. greatest (part (distance_at (rows_of c.args.count c.args.rows.now) c.args.above.now c.args.course k) (c.loop-v.v - 1) c.args.course.height)) _ _ _ refl
+    (λ k h. ap (max (distance_at (rows_of c.args.count c.args.rows.now) c.args.above.now c.args.course k (c.loop-v.v - 1))) (f.done k h) ∙ greatest_back (distance_at (rows_of c.args.count c.args.rows.now) c.args.above.now c.args.course k) c.loop-v.v c.args.course.height (omega arith) (omega arith))
+    c.widened-r.ensures
 
 pub returns : goal.returns
 returns c =
-    filled_same 31 _ (λ k. greatest (tabulate c.args.course.height (distance_at (rows_of c.args.count c.args.rows.now) c.args.above.now c.args.course k))) _ _ _ refl (λ k h. greatest_all (distance_at (rows_of c.args.count c.args.rows.now) c.args.above.now c.args.course k) c.loop-v.v c.args.course.height (omega arith)) c.loop-v.invariant.1
+    filled_same 31 _ (λ k. greatest (tabulate c.args.course.height (distance_at (rows_of c.args.count c.args.rows.now) c.args.above.now c.args.course k))) _ _ _ refl (λ k h. greatest_all (distance_at (rows_of c.args.count c.args.rows.now) c.args.above.now c.args.course k) c.loop-v.v c.args.course.height (omega arith)) c.loop-v.invariant

@@ -1,11 +1,8 @@
-use Prim.Native.Nat.{◌-◌, ◌≤◌, ◌<◌}
+use Prim.Native.Nat.{◌≤◌, ◌<◌}
 use Rattle.model.specs.Values.{rows_of}
 use Rattle.geometry.specs.Parts.{Filled}
 use Rattle.row_courses.proofs.TableLaws.{read_by}
 use Rattle.row_courses.proofs.reads.Given as goal
 
 abbrev pub invariant-loop-k : goal.invariant-loop-k
-invariant-loop-k l = (l.k ≤ l.n) × (l.n ≤ 32) × (l.u < 8589934592) × (l.column ≤ 8192) × Filled 32 0 (read_by (rows_of l.count l.rows) l.above l.down l.on l.u l.column) l.k l.to
-
-abbrev pub decreases-loop-k : goal.decreases-loop-k
-decreases-loop-k l = l.n - l.k
+invariant-loop-k l = (l.n ≤ 32) × (l.u < 8589934592) × (l.column ≤ 8192) × Filled 32 0 (read_by (rows_of l.count l.rows) l.above l.course.down l.course.on l.u l.column) l.k l.to

@@ -1,19 +1,12 @@
 use mathlib.Core.Path.{sym, ◌∙◌}
-use native.Mathlib.Omega.{arith}
 use Rattle.model.specs.Values.{rows_of}
-use Rattle.row_courses.proofs.DistanceLaws.{widen_none, reads_near, widen_some}
+use Rattle.row_courses.proofs.DistanceLaws.{widen_none, widen_some}
 use Rattle.row_courses.proofs.widened.Goals as goal
 
 pub returns-then-row_length-eq0 : goal.returns-then-row_length-eq0
 returns-then-row_length-eq0 c =
     widen_none (rows_of c.args.count c.args.rows.now) c.args.above.now c.args.course c.args.v c.args.r.now _ (sym c.row_length.ensures ∙ c.if-row_length-eq0.true) c.requires.1
 
-pub farther-requires : goal.farther-requires
-farther-requires c = (
-  omega (arith, c.lesser-n.ensures),
-  reads_near (rows_of c.args.count c.args.rows.now) c.args.above.now c.args.course c.args.v c.args.r.now _ c.reads.ensures _ c.lesser-n.ensures c.requires.0 (λ z. c.if-row_length-eq0.false (c.row_length.ensures ∙ z)),
-)
-
 pub returns : goal.returns
 returns c =
-    widen_some (rows_of c.args.count c.args.rows.now) c.args.above.now c.args.course c.args.v c.args.r.now _ c.reads.ensures _ c.lesser-n.ensures _ (λ z. c.if-row_length-eq0.false (c.row_length.ensures ∙ z)) c.farther.ensures
+    widen_some (rows_of c.args.count c.args.rows.now) c.args.above.now c.args.course c.args.v c.args.r.now _ c.reads.ensures _ c.min-n.ensures _ (λ z. c.if-row_length-eq0.false (c.row_length.ensures ∙ z)) c.farther.ensures

@@ -1,11 +1,15 @@
-use Prim.Native.Nat.{◌+◌, ◌-◌, ◌*◌, ◌≤◌, min}
+-- The loop's invariant: `cells`, and what the rows from i on add, make the sum.
+use Prim.Native.Nat.{ℕ, ◌+◌, ◌*◌, ◌≤◌, min}
 use mathlib.Core.Path.{◌≡◌}
-use Rattle.model.specs.Lists.{sum}
+use mathlib.Core.List.{List}
+use Rattle.model.specs.Lists.{tabulate, sum}
 use Rattle.geometry.specs.Parts.{part, number_at}
 use Rattle.rows.proofs.cells_in.Given as goal
 
-abbrev pub invariant-loop-i : goal.invariant-loop-i
-invariant-loop-i l = (l.i ≤ l.n) × (l.n ≡ l.count) × (l.cells ≤ 1024 * (l.n - l.i)) × (l.cells ≡ sum (part (λ i. min (number_at l.rows (2 * i + 1)) 1024) l.i l.n))
+-- The cells of a row.
+abbrev pub cells_of : List ℕ → (i : ℕ) → ℕ
+cells_of rows i = min (number_at rows (2 * i + 1)) 1024
 
-abbrev pub decreases-loop-i : goal.decreases-loop-i
-decreases-loop-i l = l.i
+abbrev pub invariant-loop-i : goal.invariant-loop-i
+invariant-loop-i l =
+    (l.cells ≤ 1024 * l.i) × (l.cells + sum (part (cells_of l.rows) l.i l.count) ≡ sum (tabulate l.count (cells_of l.rows)))

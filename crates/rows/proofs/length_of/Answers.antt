@@ -1,8 +1,6 @@
-use Prim.Native.Nat.{ℕ, ◌+◌, ◌*◌}
 use mathlib.Core.Path.{◌∙◌, sym, ap}
 use native.Mathlib.Omega.{arith}
 use Rattle.model.specs.Grounds.{Row}
-use Rattle.geometry.specs.Parts.{number_at}
 use Rattle.rows.proofs.LentLaws.{row_past, row_lent}
 use Rattle.rows.proofs.length_of.Goals as goal
 
@@ -11,5 +9,4 @@ returns-then-count-i c = omega (arith, ap (λ (r : Row). r.length) (row_past c.a
 
 pub returns : goal.returns
 returns c =
-    c.number_at.ensures ∙ ap (λ (i : ℕ). number_at c.args.rows.now (2 * i + 1)) c.wide_usize.ensures.0
-    ∙ sym (ap (λ (r : Row). r.length) (row_lent c.args.count c.args.rows.now c.args.i c.if-count-i.false))
+    c.number_at.ensures ∙ sym (ap (λ (r : Row). r.length) (row_lent c.args.count c.args.rows.now c.args.i c.if-count-i.false))

@@ -7,7 +7,7 @@ use Rattle.rows.proofs.survey.Goals as goal
 use Rattle.rows.proofs.survey.Goals.{Else-bad_count, Else-bad_rows}
 
 pub returns-then-bad_rows : goal.returns-then-bad_rows
-returns-then-bad_rows c = c.unsurveyed.ensures ∙ survey_rows c.args.count c.args.rows.now c.args.window c.args.bounds (sym c.bad_rows.ensures ∙ c.if-bad_rows.true)
+returns-then-bad_rows c = survey_rows c.args.count c.args.rows.now c.args.window c.args.bounds (sym c.bad_rows.ensures ∙ c.if-bad_rows.true)
 
 -- Past the tests neither 16 nor 4 holds.
 good-rows : (e : Else-bad_rows) → let a = e.args in bad_rows (rows_of a.count a.rows.now) ≡ false
@@ -17,16 +17,12 @@ good-count : (e : Else-bad_count) → bad_count e.args.window.count ≡ false
 good-count e = sym e.bad_count.ensures ∙ e.if-bad_count.false
 
 pub returns-then-bad_count : goal.returns-then-bad_count
-returns-then-bad_count c = c.unsurveyed-then-bad_count.ensures ∙ survey_count c.args.count c.args.rows.now c.args.window c.args.bounds (good-rows (goal.at.returns-then-bad_count c).Else-bad_rows) (sym c.bad_count.ensures ∙ c.if-bad_count.true)
+returns-then-bad_count c = survey_count c.args.count c.args.rows.now c.args.window c.args.bounds (good-rows (goal.at.returns-then-bad_count c).Else-bad_rows) (sym c.bad_count.ensures ∙ c.if-bad_count.true)
 
 pub returns-then-repeats : goal.returns-then-repeats
 returns-then-repeats c =
-    c.unsurveyed-then-repeats.ensures
-    ∙ survey_repeats c.args.count c.args.rows.now c.args.window c.args.bounds (good-rows (goal.at.returns-then-repeats c).Else-bad_rows) (good-count (goal.at.returns-then-repeats c).Else-bad_count) (sym (repeats_is c.args.count c.args.rows.now c.args.window c.args.bounds (good-rows (goal.at.returns-then-repeats c).Else-bad_rows) (good-count (goal.at.returns-then-repeats c).Else-bad_count)) ∙ sym c.repeats.ensures ∙ c.if-repeats.true)
+    survey_repeats c.args.count c.args.rows.now c.args.window c.args.bounds (good-rows (goal.at.returns-then-repeats c).Else-bad_rows) (good-count (goal.at.returns-then-repeats c).Else-bad_count) (sym (repeats_is c.args.count c.args.rows.now c.args.window c.args.bounds (good-rows (goal.at.returns-then-repeats c).Else-bad_rows) (good-count (goal.at.returns-then-repeats c).Else-bad_count)) ∙ sym c.repeats.ensures ∙ c.if-repeats.true)
 
 pub survey_in-requires : goal.survey_in-requires
 survey_in-requires c =
     (good-rows (goal.at.survey_in-requires c).Else-bad_rows, good-count (goal.at.survey_in-requires c).Else-bad_count, sym (repeats_is c.args.count c.args.rows.now c.args.window c.args.bounds (good-rows (goal.at.survey_in-requires c).Else-bad_rows) (good-count (goal.at.survey_in-requires c).Else-bad_count)) ∙ sym c.repeats.ensures ∙ c.if-repeats.false)
-
-pub returns : goal.returns
-returns c = c.survey_in.ensures

@@ -27,8 +27,7 @@ fits-requires c = few_references c.args.window c.requires.1.count_pass
 pub returns-then-not-fits : goal.returns-then-not-fits
 returns-then-not-fits c =
     let a = c.args in
-    c.unsurveyed.ensures
-    ∙ box_refused a.count a.rows.now a.window a.bounds a.known c.requires.1 c.requires.0 c.placed_at-at.result (at-is (goal.at.returns-then-not-fits c).After-placed_at-at) (c.fits.ensures.1 c.if-not-fits.true)
+    box_refused a.count a.rows.now a.window a.bounds a.known c.requires.1 c.requires.0 c.placed_at-at.result (at-is (goal.at.returns-then-not-fits c).After-placed_at-at) (c.fits.ensures.1 c.if-not-fits.true)
 
 pub iterations-iterations-requires : goal.iterations-iterations-requires
 iterations-iterations-requires c =

@@ -1,5 +1,3 @@
-use mathlib.Core.Path.{◌∙◌}
-use Rattle.model.specs.declared.Verdict.TheVariants as verdict
 use Rattle.geometry.proofs.GridLaws.{few_references}
 use Rattle.rows.specs.Surveys.{Known}
 use Rattle.rows.proofs.SurveyLaws.{few_count, survey_iterations, known, surveyed}
@@ -13,7 +11,7 @@ pub returns-then-iterations-eq0 : goal.returns-then-iterations-eq0
 returns-then-iterations-eq0 c =
     let s = (goal.at.returns-then-iterations-eq0 c).After-iterations_in-iterations in
     let a = s.args in
-    c.unsurveyed.ensures ∙ survey_iterations a.count a.rows.now a.window a.bounds s.requires.0 s.requires.1 s.requires.2 c.whole_course-course.result c.whole_course-course.ensures c.iterations_in-iterations.result c.iterations_in-iterations.ensures c.if-iterations-eq0.true
+    survey_iterations a.count a.rows.now a.window a.bounds s.requires.0 s.requires.1 s.requires.2 c.whole_course-course.result c.whole_course-course.ensures c.iterations_in-iterations.result c.iterations_in-iterations.ensures c.if-iterations-eq0.true
 
 pub cells_in-cells-requires : goal.cells_in-cells-requires
 cells_in-cells-requires c = let s = (goal.at.cells_in-cells-requires c).After-iterations_in-iterations in let a = s.args in few_count a.count a.rows.now a.window a.bounds s.requires.0 s.requires.1
@@ -23,7 +21,6 @@ all_pass : (c : After-centre-centre) →
     let a = c.args in
     Known a.count a.rows.now a.window
     (record {
-      verdict = verdict.Accepted;
       centre = c.centre-centre.result;
       cells = c.cells_in-cells.result;
       iterations = c.iterations_in-iterations.result;
@@ -37,9 +34,6 @@ all_pass c =
 
 pub survey_box-requires : goal.survey_box-requires
 survey_box-requires c = (c.if-bounds.true, all_pass (goal.at.survey_box-requires c).After-centre-centre)
-
-pub returns-then-bounds : goal.returns-then-bounds
-returns-then-bounds c = c.survey_box.ensures
 
 pub returns : goal.returns
 returns c = let a = (goal.at.returns c).After-iterations_in-iterations.args in surveyed a.count a.rows.now a.window a.bounds _ (all_pass (goal.at.returns c).After-centre-centre) c.if-bounds.false

@@ -1,5 +1,5 @@
 -- The places of the FIFOs, one after the other. Assumes nothing.
-use Prim.Native.Nat.{ℕ, ◌+◌, ◌-◌, ◌≤◌, ◌<◌}
+use Prim.Native.Nat.{ℕ, ◌+◌, ◌<◌}
 use mathlib.Core.Path.{◌≡◌}
 use lib.ListN.{get_or}
 use Rattle.model_run.specs.Store.{first_place}
@@ -8,8 +8,5 @@ use Rattle.run_fill.specs.Fills.{GoodRing}
 use Rattle.run_fill.proofs.bad_rings.Given as goal
 
 abbrev pub invariant-loop-k : goal.invariant-loop-k
-invariant-loop-k l = (l.k ≤ 32) × (l.from ≡ first_place (of l.caps) l.k)
+invariant-loop-k l = (l.from ≡ first_place (of l.caps) l.k)
     × ((j : ℕ) → j < l.k → GoodRing (first_place (of l.caps) j) l.room (get_or l.caps j 0) (get_or l.bases j 0) (get_or l.tops j 0) (get_or l.ps j 0) (get_or l.ps (j + 1) 0))
-
-abbrev pub decreases-loop-k : goal.decreases-loop-k
-decreases-loop-k l = l.n - l.k

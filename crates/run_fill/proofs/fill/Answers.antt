@@ -1,5 +1,4 @@
 -- The test, the ring places, and the clocks. Assumes nothing.
-use mathlib.Core.Bool.{false≢true}
 use mathlib.Core.Path.{◌≡◌, refl}
 use native.Mathlib.Omega.{arith}
 use lib.ListN.{length}
@@ -21,18 +20,15 @@ there e = omega (arith, e.well_formed.1.1.1.1.1.1.1.0)
 pub returns-then-bad_counters : goal.returns-then-bad_counters
 returns-then-bad_counters c = (
   λ L walk iterations fired H. absurd (c.bad_counters.ensures.1 c.if-bad_counters.true (sound _ _ _ _ _ _ _ _ _ _ _ _ _ H).counted),
-  (λ _. record { stopped = refl; none_taken_lem = refl; no_clocks = refl; counters = refl; not_full = refl; puts_kept = refl; gets_kept = refl; store_kept = refl }, λ S. absurd (c.bad_counters.ensures.1 c.if-bad_counters.true S.counted)),
-  λ f. absurd (false≢true f),
+  (λ _. record { none_made = refl; puts_kept = refl; gets_kept = refl; store_kept = refl }, λ S. absurd (c.bad_counters.ensures.1 c.if-bad_counters.true S.counted)),
+  tt,
 )
-
-pub bad_rings-requires : goal.bad_rings-requires
-bad_rings-requires c = (c.bad_counters.ensures.0 c.if-bad_counters.false).few
 
 pub returns-then-bad_rings : goal.returns-then-bad_rings
 returns-then-bad_rings c = (
   λ L walk iterations fired H. absurd (c.bad_rings.ensures.1 c.if-bad_rings.true (sound _ _ _ _ _ _ _ _ _ _ _ _ _ H).housed),
-  (λ _. record { stopped = refl; none_taken_lem = refl; no_clocks = refl; counters = refl; not_full = refl; puts_kept = refl; gets_kept = refl; store_kept = refl }, λ S. absurd (c.bad_rings.ensures.1 c.if-bad_rings.true S.housed)),
-  λ f. absurd (false≢true f),
+  (λ _. record { none_made = refl; puts_kept = refl; gets_kept = refl; store_kept = refl }, λ S. absurd (c.bad_rings.ensures.1 c.if-bad_rings.true S.housed)),
+  tt,
 )
 
 pub places-requires : goal.places-requires

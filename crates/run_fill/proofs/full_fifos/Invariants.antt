@@ -1,10 +1,7 @@
 -- `full_fifos` finds no FIFO with a place left. Assumes nothing.
-use Prim.Native.Nat.{◌+◌, ◌-◌, ◌≤◌}
+use Prim.Native.Nat.{◌+◌}
 use Rattle.loop_laws.specs.Passes.{FullFifos}
 use Rattle.run_fill.proofs.full_fifos.Given as goal
 
 abbrev pub invariant-loop-k : goal.invariant-loop-k
-invariant-loop-k l = (l.k ≤ 32) × FullFifos (l.k + 1) l.caps l.passed
-
-abbrev pub decreases-loop-k : goal.decreases-loop-k
-decreases-loop-k l = 32 - l.k
+invariant-loop-k l = FullFifos (l.k + 1) l.caps l.passed

@@ -1,5 +1,4 @@
 use native.Mathlib.Omega.{arith}
-use Rattle.loop_laws.proofs.AgainLaws.{keeps_once}
 use Rattle.loop_laws.proofs.SpanLaws.{rests_wanted, rests_full, rests_still, keeps_moving}
 use Rattle.run_fill.proofs.keeps.Goals as goal
 
@@ -12,8 +11,5 @@ returns-then-sg-eq0 c = λ hs hb e m. (m, omega arith, rests_still _ _ _ _ _ _ _
 pub returns-then-p-s : goal.returns-then-p-s
 returns-then-p-s c = λ hs hb e m. (m, omega arith, rests_full _ _ _ _ _ _ _ _ c.if-g-eq0.true hb c.requires.2 c.if-p-w.false e c.if-p-s.true)
 
-pub returns-then-g-eq0 : goal.returns-then-g-eq0
-returns-then-g-eq0 c = λ hs hb e m. (omega arith, omega arith, keeps_once _ _ _ _ _ _ _ _ (omega arith) e)
-
 pub returns : goal.returns
-returns c = let pre = c.requires in keeps_moving _ _ _ _ _ _ _ _ _ _ _ c.if-g-eq0.false pre.0 pre.1 pre.2 c.lesser-t.ensures c.bounded-u.ensures c.bounded.ensures
+returns c = let pre = c.requires in keeps_moving _ _ _ _ _ _ _ _ _ _ _ c.if-g-eq0.false pre.0 pre.1 pre.2 c.min-t.ensures c.bounded-u.ensures c.bounded.ensures

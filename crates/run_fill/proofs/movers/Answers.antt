@@ -1,15 +1,9 @@
 use Prim.Native.Nat.{◌-◌}
-use mathlib.Core.Path.{◌≡◌, ◌∙◌}
+use mathlib.Core.Path.{◌∙◌}
 use native.Mathlib.Omega.{arith}
 use Rattle.loop_laws.proofs.SweepLaws.{source_before}
-use Rattle.loop_laws.proofs.LookLaws.{looked_start, looked_on, looked_end, behind_most, next_least}
+use Rattle.loop_laws.proofs.LookLaws.{looked_on, behind_most, next_least}
 use Rattle.run_fill.proofs.movers.Goals as goal
-
-pub loop-k-init : goal.loop-k-init
-loop-k-init c = looked_start _ _ _ _ _ _ _ c.requires.n_bound.1
-
-pub source_of-src-requires : goal.source_of-src-requires
-source_of-src-requires c = omega (arith, c.loop-k.invariant.range, c.requires.n_bound.0, c.loop-k-test.true)
 
 pub room_for-b-requires : goal.room_for-b-requires
 room_for-b-requires c =
@@ -18,9 +12,6 @@ room_for-b-requires c =
       c.requires.by_index (c.loop-k.k - 1) (omega (arith, s.range, c.loop-k-test.true)),
       λ h. omega (arith, behind_most _ _ _ _ _ _ _ _ _ s (omega arith), c.requires.by_index c.loop-k.k (omega arith), c.requires.by_index_2 (c.loop-k.k - 1) (omega arith)),
     )
-
-pub turn-next-requires : goal.turn-next-requires
-turn-next-requires c = c.requires.by_index (c.loop-k.k - 1) (omega (arith, c.loop-k.invariant.range, c.loop-k-test.true))
 
 pub overflow_sub-g : goal.overflow_sub-g
 overflow_sub-g c =
@@ -43,6 +34,3 @@ pub loop-k-preserved : goal.loop-k-preserved
 loop-k-preserved c =
     looked_on _ _ _ _ _ _ _ _ _ c.loop-k.invariant c.loop-k-test.true c.requires.n_bound.0 _ _ _ (c.source_of-src.ensures ∙ source_before _ c.args.ps.now (c.loop-k.k - 1))
     c.room_for-b.ensures c.turn-next.ensures
-
-pub returns : goal.returns
-returns c = let z : c.loop-k.k ≡ 0 = omega (arith, c.loop-k-test.false) in looked_end _ _ _ _ _ _ _ _ (rw z at c.loop-k.invariant)

@@ -5,6 +5,3 @@ use Rattle.run_fill.proofs.movers.Given as goal
 
 abbrev pub invariant-loop-k : goal.invariant-loop-k
 invariant-loop-k l = Looked l.n l.size (of l.wants) (of l.caps) (of l.ps) l.goes l.count l.behind l.k
-
-abbrev pub decreases-loop-k : goal.decreases-loop-k
-decreases-loop-k l = l.k

@@ -1,9 +1,5 @@
-use Prim.Native.Nat.{◌-◌, ◌≤◌}
 use Rattle.run_fill.proofs.PlaceLaws.{Ringing}
 use Rattle.run_fill.proofs.places.Given as goal
 
 abbrev pub invariant-loop-k : goal.invariant-loop-k
-invariant-loop-k l = (l.k ≤ 32) × Ringing l.n l.bases l.caps l.ps l.puts l.gets l.k
-
-abbrev pub decreases-loop-k : goal.decreases-loop-k
-decreases-loop-k l = 32 - l.k
+invariant-loop-k l = Ringing l.n l.bases l.caps l.ps l.puts l.gets l.k

@@ -1,12 +1,8 @@
-use Prim.Native.Nat.{◌+◌}
 use mathlib.Core.Path.{sym}
 use native.Mathlib.Numerals.{add-one}
 use native.Mathlib.Omega.{arith}
 use Rattle.loop_laws.proofs.AgainLaws.{room_at_inner, room_at_last}
 use Rattle.run_fill.proofs.room_at.Goals as goal
-
-pub overflow_add-result-then-k-n : goal.overflow_add-result-then-k-n
-overflow_add-result-then-k-n c = omega (arith, c.requires.by_index (c.args.k + 1) (omega arith), c.requires.by_index_2 c.args.k (omega arith))
 
 pub returns-then-k-n : goal.returns-then-k-n
 returns-then-k-n c = rw (add-one, room_at_inner c.args.n c.args.k _ _ _ (omega (arith, c.if-k-n.true)))

@@ -4,9 +4,6 @@ use native.Mathlib.Omega.{arith}
 use Rattle.loop_laws.proofs.AgainLaws.{room_inner, room_last}
 use Rattle.run_fill.proofs.room_for.Goals as goal
 
-pub overflow_add-result : goal.overflow_add-result
-overflow_add-result c = omega (arith, c.requires.2 c.if-k-n.true)
-
 pub returns-then-k-n : goal.returns-then-k-n
 returns-then-k-n c = sym (room_inner c.args.n c.args.k c.args.cap c.args.p c.args.q (omega (arith, c.if-k-n.true)))
 

@@ -1,11 +1,7 @@
 -- How long the same filters move: the loop keeps `Spanning`. Assumes nothing.
-use Prim.Native.Nat.{◌-◌}
 use Rattle.loop_laws.specs.Passes.{of}
 use Rattle.loop_laws.proofs.SpanLaws.{Spanning}
 use Rattle.run_fill.proofs.span.Given as goal
 
 abbrev pub invariant-loop-k : goal.invariant-loop-k
 invariant-loop-k l = Spanning l.n l.size (of l.wants) (of l.caps) (of l.ps) (of l.goes) l.most l.t l.s l.sg l.k
-
-abbrev pub decreases-loop-k : goal.decreases-loop-k
-decreases-loop-k l = l.n - l.k

@@ -6,15 +6,9 @@ use lib.ListN.{length, get_or}
 use Rattle.loop_laws.specs.Passes.{of}
 use Rattle.loop_laws.specs.Sweeps.{Again}
 use Rattle.loop_laws.proofs.AgainLaws.{goes_most, again_now, again_on, cells_last, swept_none}
-use Rattle.loop_laws.proofs.FillLaws.{filling_start, filling_again, idle, in_place, at_small, small, may_turn, stops_spent, stops_starved, stops_stalled}
+use Rattle.loop_laws.proofs.FillLaws.{filling_again, idle, in_place, at_small, small, may_turn, stops_spent, stops_starved, stops_stalled}
 use Rattle.run_fill.proofs.until_aligned.Goals as goal
-use Rattle.run_fill.proofs.until_aligned.Goals.{After-movers, After-span-t, In-loop-i}
-
-pub loop-clocks-init : goal.loop-clocks-init
-loop-clocks-init c = λ L walk iterations fired F. filling_start _ _ _ _ _ _ _ _ _ _ _ _ _ _ _ _ _ F
-
-pub shape_of-store-then-cells-taken : goal.shape_of-store-then-cells-taken
-shape_of-store-then-cells-taken c = (c.loop-clocks.invariant _ _ _ _ c.requires.fills).store_length
+use Rattle.run_fill.proofs.until_aligned.Goals.{After-movers, After-span-t, In-loop}
 
 pub returns-then-cells-taken : goal.returns-then-cells-taken
 returns-then-cells-taken c =
@@ -40,9 +34,6 @@ lined-requires c =
     let s = c.loop-clocks.invariant _ _ _ _ F in
     record { n_bound = F.tables.few; by_index = small _ _ _ _ _ _ _ _ _ _ _ _ _ _ _ _ _ F _ _ _ _ _ _ s; by_index_2 = at_small _ _ _ _ _ _ _ _ _ _ _ _ _ _ _ c.args.cells.now c.args.allowance F }
 
-pub shape_of-store-then-lined : goal.shape_of-store-then-lined
-shape_of-store-then-lined c = (c.loop-clocks.invariant _ _ _ _ c.requires.fills).store_length
-
 pub returns-then-lined : goal.returns-then-lined
 returns-then-lined c =
     λ L walk iterations fired F.
@@ -67,9 +58,6 @@ movers-requires c =
     let s = c.loop-clocks.invariant _ _ _ _ F in
     record { n_bound = (F.tables.few, refl); by_index = small _ _ _ _ _ _ _ _ _ _ _ _ _ _ _ _ _ F _ _ _ _ _ _ s; by_index_2 = F.tables.small }
 
-pub shape_of-store-then-movers-eq0 : goal.shape_of-store-then-movers-eq0
-shape_of-store-then-movers-eq0 c = (c.loop-clocks.invariant _ _ _ _ c.requires.fills).store_length
-
 pub returns-then-movers-eq0 : goal.returns-then-movers-eq0
 returns-then-movers-eq0 c =
     λ L walk iterations fired F.
@@ -90,12 +78,6 @@ returns-then-movers-eq0 c =
           c.loop-clocks-test.true c.if-cells-taken.false refl;
     }
 
-pub overflow_sub-cells : goal.overflow_sub-cells
-overflow_sub-cells c = omega (arith, c.if-cells-taken.false)
-
-pub overflow_sub-allowance : goal.overflow_sub-allowance
-overflow_sub-allowance c = omega (arith, c.loop-clocks-test.true)
-
 pub span-t-requires : goal.span-t-requires
 span-t-requires c =
     let F = c.requires.fills in
@@ -114,23 +96,22 @@ goes-few : (m : After-movers) → get_or m.movers.new.goes 0 0 ≤ 1
 goes-few m = goes_most _ _ _ _ _ _ m.movers.ensures.1 0 m.requires.fills.tables.some
 
 -- The clock has a cell.
-presented : (i : In-loop-i) → i.loop-i.taken < length i.args.cells.now
-presented i = omega (arith, i.loop-i.invariant.2 0 (omega (arith, i.loop-i-test.true)))
+presented : (i : In-loop) → i.loop.taken < length i.args.cells.now
+presented i = omega (arith, i.loop.invariant.1 0 (omega (arith, i.loop-test.true)))
 
-pub loop-i-init : goal.loop-i-init
-loop-i-init c =
-    let A = spans (goal.at.loop-i-init c).After-span-t in (
-      omega arith,
+pub loop-init : goal.loop-init
+loop-init c =
+    let A = spans (goal.at.loop-init c).After-span-t in (
       rw sub-zero A.2,
-      (λ j h. cells_last _ _ _ _ _ c.if-cells-taken.false (goes-few (goal.at.loop-i-init c).After-movers) A.1 c.reach-most.ensures.2 j (omega arith)),
+      (λ j h. cells_last _ _ _ _ _ c.if-cells-taken.false (goes-few (goal.at.loop-init c).After-movers) A.1 c.reach-most.ensures.2 j (omega arith)),
       λ L walk iterations fired p u g s F f. let z : c.loop-clocks.clocks + 0 ≡ c.loop-clocks.clocks = omega arith in rw z f,
     )
 
 pub offset_bounds-cells-taken : goal.offset_bounds-cells-taken
-offset_bounds-cells-taken c = omega (arith, presented (goal.at.offset_bounds-cells-taken c).In-loop-i)
+offset_bounds-cells-taken c = omega (arith, presented (goal.at.offset_bounds-cells-taken c).In-loop)
 
 pub bounds-cells-taken : goal.bounds-cells-taken
-bounds-cells-taken c = presented (goal.at.bounds-cells-taken c).In-loop-i
+bounds-cells-taken c = presented (goal.at.bounds-cells-taken c).In-loop
 
 pub go-requires : goal.go-requires
 go-requires c =
@@ -140,55 +121,37 @@ go-requires c =
       cells = c.args.size;
       wants = c.args.wants.now;
       caps = c.args.caps.now;
-      turns = may_turn _ _ _ _ _ _ _ _ _ _ _ _ _ _ _ _ _ F _ _ _ _ _ _ (c.loop-i.invariant.3 _ _ _ _ _ _ _ _ F (c.loop-clocks.invariant _ _ _ _ F));
-      each = again_now _ _ _ _ _ _ _ (omega (arith, c.loop-i-test.true)) c.loop-i.invariant.1;
+      turns = may_turn _ _ _ _ _ _ _ _ _ _ _ _ _ _ _ _ _ F _ _ _ _ _ _ (c.loop.invariant.2 _ _ _ _ _ _ _ _ F (c.loop-clocks.invariant _ _ _ _ F));
+      each = again_now _ _ _ _ _ _ _ (omega (arith, c.loop-test.true)) c.loop.invariant.0;
     }
 
 pub overflow_add-taken : goal.overflow_add-taken
 overflow_add-taken c =
-    omega (arith, presented (goal.at.overflow_add-taken c).In-loop-i, goes-few (goal.at.overflow_add-taken c).After-movers)
+    omega (arith, presented (goal.at.overflow_add-taken c).In-loop, goes-few (goal.at.overflow_add-taken c).After-movers)
 
-pub overflow_add-i : goal.overflow_add-i
-overflow_add-i c =
-    omega (arith, c.loop-i-test.true, (spans (goal.at.overflow_add-i c).After-span-t).1, c.reach-most.ensures.1)
-
-pub loop-i-smaller : goal.loop-i-smaller
-loop-i-smaller c = omega (arith, c.loop-i-test.true)
-
-pub loop-i-preserved : goal.loop-i-preserved
-loop-i-preserved c =
+pub loop-preserved : goal.loop-preserved
+loop-preserved c =
     let F₀ = c.requires.fills in
-    let S₀ = c.loop-i.invariant.3 _ _ _ _ _ _ _ _ F₀ (c.loop-clocks.invariant _ _ _ _ F₀) in
-    let G = again_now _ _ _ _ _ _ _ (omega (arith, c.loop-i-test.true)) c.loop-i.invariant.1 in
+    let S₀ = c.loop.invariant.2 _ _ _ _ _ _ _ _ F₀ (c.loop-clocks.invariant _ _ _ _ F₀) in
+    let G = again_now _ _ _ _ _ _ _ (omega (arith, c.loop-test.true)) c.loop.invariant.0 in
     let who = c.movers.ensures.2.one (omega (arith, c.if-movers-eq0.false)) in
     let r₀ = c.go.ensures _ c.args.size c.args.wants.now c.args.caps.now (may_turn _ _ _ _ _ _ _ _ _ _ _ _ _ _ _ _ _ F₀ _ _ _ _ _ _ S₀) G in
-    let one : c.span-t.result - c.loop-i.i ≡ suc (c.span-t.result - (c.loop-i.i + 1)) = omega (arith, c.loop-i-test.true) in
-    let next : c.loop-clocks.clocks + c.loop-i.i + 1 ≡ c.loop-clocks.clocks + (c.loop-i.i + 1) = omega arith in (
-      omega (arith, c.loop-i-test.true),
-      again_on _ _ _ _ _ _ _ _ r₀.on (rw one at c.loop-i.invariant.1),
-      (λ j h. omega (arith, c.loop-i.invariant.2 (suc j) (omega arith))),
+    let one : c.span-t.result - c.loop.counter ≡ suc (c.span-t.result - (c.loop.counter + 1)) = omega (arith, c.loop-test.true) in
+    let next : c.loop-clocks.clocks + c.loop.counter + 1 ≡ c.loop-clocks.clocks + (c.loop.counter + 1) = omega arith in (
+      again_on _ _ _ _ _ _ _ _ r₀.on (rw one at c.loop.invariant.0),
+      (λ j h. omega (arith, c.loop.invariant.1 (suc j) (omega arith))),
       λ L walk iterations fired p₀ u₀ g₀ s₀ F f.
-          let S = c.loop-i.invariant.3 L walk iterations fired p₀ u₀ g₀ s₀ F f in
+          let S = c.loop.invariant.2 L walk iterations fired p₀ u₀ g₀ s₀ F f in
           let r = c.go.ensures _ c.args.size c.args.wants.now c.args.caps.now (may_turn _ _ _ _ _ _ _ _ _ _ _ _ _ _ _ _ _ F _ _ _ _ _ _ S) G in
           rw next at
           (filling_again _ _ _ _ _ _ _ _ _ _ _ _ _ _ _ _ _ F _ _ _ _ _ _ S _ _ _ _ _ _ _ G
-          (omega (arith, c.loop-i-test.true, (spans (goal.at.loop-i-preserved c).After-span-t).1, c.reach-most.ensures.1, c.loop-clocks-test.true)) (presented (goal.at.loop-i-preserved c).In-loop-i) refl who.1 who.2 r),
+          (omega (arith, c.loop-test.true, (spans (goal.at.loop-preserved c).After-span-t).1, c.reach-most.ensures.1, c.loop-clocks-test.true)) (presented (goal.at.loop-preserved c).In-loop) refl who.1 who.2 r),
     )
-
-pub overflow_add-clocks : goal.overflow_add-clocks
-overflow_add-clocks c =
-    omega (arith, (spans (goal.at.overflow_add-clocks c).After-span-t).1, c.reach-most.ensures.1, c.loop-clocks-test.true)
-
-pub loop-clocks-smaller : goal.loop-clocks-smaller
-loop-clocks-smaller c = omega (arith, (spans (goal.at.loop-clocks-smaller c).After-span-t).0, c.loop-clocks-test.true)
 
 pub loop-clocks-preserved : goal.loop-clocks-preserved
 loop-clocks-preserved c =
-    let all : c.loop-i.i ≡ c.span-t.result = omega (arith, c.loop-i.invariant.0, c.loop-i-test.false) in
-    λ L walk iterations fired F. rw all at (c.loop-i.invariant.3 L walk iterations fired _ _ _ _ F (c.loop-clocks.invariant L walk iterations fired F))
-
-pub shape_of-store : goal.shape_of-store
-shape_of-store c = (c.loop-clocks.invariant _ _ _ _ c.requires.fills).store_length
+    let all : c.loop.counter ≡ c.span-t.result = omega (arith, c.loop-test.false) in
+    λ L walk iterations fired F. rw all at (c.loop.invariant.2 L walk iterations fired _ _ _ _ F (c.loop-clocks.invariant L walk iterations fired F))
 
 pub returns : goal.returns
 returns c =

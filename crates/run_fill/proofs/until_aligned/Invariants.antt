@@ -1,7 +1,7 @@
 -- The clocks of the call's definition until the filters are found aligned, those in which the same filters move together. Assumes nothing.
 -- ---- where things stand
 -- ---- the clocks in which the same filters move
-use Prim.Native.Nat.{ℕ, ◌+◌, ◌-◌, ◌*◌, ◌≤◌, ◌<◌}
+use Prim.Native.Nat.{ℕ, ◌+◌, ◌-◌, ◌*◌, ◌<◌}
 use mathlib.Core.List.{List}
 use lib.ListN.{length, get_or}
 use Rattle.model_run.specs.Clock.{Layout}
@@ -11,18 +11,14 @@ use Rattle.loop_laws.specs.LoopTables.{Fills}
 use Rattle.loop_laws.proofs.FillLaws.{Filling}
 use Rattle.run_fill.proofs.until_aligned.Given as goal
 
--- i of the t clocks are made: the same filters move in the others, each of which has a cell, and what remains is what the whole gives.
-abbrev pub invariant-loop-i : goal.invariant-loop-i
-invariant-loop-i l =
-    (l.i ≤ l.t)
-    × Again l.n l.size (of l.wants) (of l.caps) (of l.goes) (of l.passed) (l.t - l.i)
-    × ((j : ℕ) → j < l.t - l.i → l.taken + j * get_or l.goes 0 0 < length l.cells)
+-- `counter` of the t clocks are made: the same filters move in the others, each of which has a cell, and what remains is what the whole gives.
+abbrev pub invariant-loop : goal.invariant-loop
+invariant-loop l =
+    Again l.n l.size (of l.wants) (of l.caps) (of l.goes) (of l.passed) (l.t - l.counter)
+    × ((j : ℕ) → j < l.t - l.counter → l.taken + j * get_or l.goes 0 0 < length l.cells)
     × ((L : Layout) (walk : ℕ → ℕ) (iterations fired : ℕ) (p u g s : List ℕ) → Fills L walk l.n l.size iterations fired l.at l.wants l.caps l.bases l.tops p u g s
     → Filling L walk l.n l.size iterations fired l.at l.wants l.caps l.bases l.tops p u g s l.cells l.allowance l.initial.passed l.initial.puts l.initial.gets l.initial.store l.initial.taken l.clocks
-    → Filling L walk l.n l.size iterations fired l.at l.wants l.caps l.bases l.tops p u g s l.cells l.allowance l.passed l.puts l.gets l.store l.taken (l.clocks + l.i))
-
-abbrev pub decreases-loop-i : goal.decreases-loop-i
-decreases-loop-i l = l.t - l.i
+    → Filling L walk l.n l.size iterations fired l.at l.wants l.caps l.bases l.tops p u g s l.cells l.allowance l.passed l.puts l.gets l.store l.taken (l.clocks + l.counter))
 
 abbrev pub invariant-loop-clocks : goal.invariant-loop-clocks
 invariant-loop-clocks l =

@@ -1,10 +1,6 @@
 -- `exchange` does what `pass_of` says, with one table for both places. Assumes nothing.
-use Prim.Native.Nat.{◌-◌}
 use Rattle.loop_laws.proofs.PassLaws.{Passing}
 use Rattle.run_glide.proofs.exchange.Given as goal
 
 abbrev pub invariant-loop-k : goal.invariant-loop-k
 invariant-loop-k l = Passing l.bases l.tops l.initial.puts l.initial.puts l.initial.store l.initial.words l.word l.m l.puts l.puts l.store l.words l.carry l.k
-
-abbrev pub decreases-loop-k : goal.decreases-loop-k
-decreases-loop-k l = l.m - l.k

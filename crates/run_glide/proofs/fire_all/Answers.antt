@@ -9,10 +9,8 @@ use Rattle.model.specs.declared.Kernel.TheVariants as kernels
 use Rattle.model.specs.contracts.Kernel.{the_type}
 use native.Mathlib.Omega.{arith}
 use lib.ListN.{length}
-use borrow.Author.Rules.{scaled_Fits}
-use Rattle.run_glide.proofs.FitLaws.{next_fits, sum_fits, up_to_fits}
 use Rattle.run_glide.proofs.FireLaws.{fires_kernel}
-use Rattle.run_glide.proofs.ManyLaws.{in_store, fired_none, fired_room, fired_more, fired_all, raw_passes, raw_room}
+use Rattle.run_glide.proofs.ManyLaws.{in_store, fired_none, fired_room, fired_more, raw_passes, raw_room}
 use Rattle.run_glide.proofs.fire_all.Goals as goal
 use Rattle.run_glide.proofs.fire_all.Goals.{In-loop-i}
 
@@ -20,12 +18,6 @@ pub pass_all-requires : goal.pass_all-requires
 pass_all-requires c =
     let p = c.requires in
     record { rung = (p.rung.0, p.rung.2); step_le_n = (omega arith, raw_room _ _ _ _ _ _ c.in-Raw.is p.width_value.0 p.width_value.1) }
-
-pub shape_of-store-in-Raw : goal.shape_of-store-in-Raw
-shape_of-store-in-Raw c = c.pass_all.ensures.1.room_is
-
-pub shape_of-out-in-Raw : goal.shape_of-out-in-Raw
-shape_of-out-in-Raw c = c.pass_all.ensures.2
 
 pub returns-in-Raw : goal.returns-in-Raw
 returns-in-Raw c =
@@ -42,33 +34,6 @@ room i =
 pub loop-i-init : goal.loop-i-init
 loop-i-init c = let p = c.requires.rung in (fired_none _ _ _ _ _ _ _ _ _ _ _ _ _ _ _ p.0, p.1)
 
-pub overflow_add-newest : goal.overflow_add-newest
-overflow_add-newest c =
-    sum_fits _ _ (length c.args.cells.now) (omega (arith, c.requires.rung.2)) (omega (arith, c.requires.rung.2, c.loop-i-test.true)) (omega arith)
-
-pub offset_bounds-cells-from : goal.offset_bounds-cells-from
-offset_bounds-cells-from c =
-    scaled_Fits _ (length c.args.cells.now) _ (omega (arith, c.requires.rung.2, c.loop-i-test.true)) (omega arith)
-
-pub bounds-cells-from : goal.bounds-cells-from
-bounds-cells-from c = omega (arith, c.requires.rung.2, c.loop-i-test.true)
-
-pub pass-requires : goal.pass-requires
-pass-requires c =
-    let v = c.loop-i.invariant in
-    let r = v.0.rung in
-    record { n_nonzero = (r.rings.some, r.rings.few, omega (arith, v.1.there, r.rings.few)); in_store = in_store _ _ _ _ _ _ _ r }
-
-pub overflow_add-at : goal.overflow_add-at
-overflow_add-at c =
-    up_to_fits _ _ (room (goal.at.overflow_add-at c).In-loop-i) (omega (arith, c.loop-i.invariant.0.out_length))
-
-pub overflow_add-i : goal.overflow_add-i
-overflow_add-i c = next_fits _ _ c.loop-i-test.true (omega arith)
-
-pub loop-i-smaller : goal.loop-i-smaller
-loop-i-smaller c = omega (arith, c.loop-i-test.true)
-
 -- A kernel that is not raw is one of the others.
 others : (k : Kernel) → (k ≡ kernels.Raw → ⊥) → OneOf (1 ∷ 2 ∷ 3 ∷ []) (tag_of the_type k)
 others kernels.Raw n = absurd (n refl)
@@ -82,15 +47,3 @@ loop-i-preserved c =
     let r = v.0.rung in
     let f = fires_kernel _ _ _ _ _ _ _ _ _ r.rings.some (in_store _ _ _ _ _ _ _ r) _ _ _ _ _ _ _ _ _ _ v.1 r.rings.few c.requires.width_value.0 (room (goal.at.loop-i-preserved c).In-loop-i) c.pass.ensures (others _ c.in_default.not-Raw) c.apply.ensures in
     (fired_more _ _ _ _ _ _ _ _ _ _ _ _ _ _ _ _ _ _ _ _ _ v.0 _ _ _ _ _ c.loop-i-test.true refl f.0, f.1)
-
-pub shape_of-store : goal.shape_of-store
-shape_of-store c = c.loop-i.invariant.0.rung.room_is
-
-pub shape_of-out : goal.shape_of-out
-shape_of-out c = c.loop-i.invariant.0.out_length
-
-pub returns : goal.returns
-returns c =
-    let v = c.loop-i.invariant in
-    let s = v.0 in
-    (fired_all _ _ _ _ _ _ _ _ _ _ _ _ _ _ _ _ _ _ _ _ _ s c.loop-i-test.false, s.rung, v.1, s.out_length)

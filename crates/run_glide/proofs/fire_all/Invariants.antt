@@ -1,7 +1,6 @@
 -- `fire_all` makes the firings one after the other. Assumes nothing.
 -- ---- raw
 -- ---- the other kernels
-use Prim.Native.Nat.{◌-◌}
 use Rattle.loop_laws.specs.Passes.{heads}
 use Rattle.run_glide.specs.Glides.{Blank}
 use Rattle.run_glide.proofs.ManyLaws.{Fired}
@@ -10,6 +9,3 @@ use Rattle.run_glide.proofs.fire_all.Given as goal
 abbrev pub invariant-loop-i : goal.invariant-loop-i
 invariant-loop-i l =
     Fired l.kernel l.centre l.n l.width l.from l.o l.count l.bases l.tops l.cells l.initial.puts (heads l.full l.initial.puts l.initial.gets) l.initial.store l.initial.out l.terms l.puts (heads l.full l.puts l.gets) l.store l.out l.at l.i × Blank l.n l.row
-
-abbrev pub decreases-loop-i : goal.decreases-loop-i
-decreases-loop-i l = l.count - l.i

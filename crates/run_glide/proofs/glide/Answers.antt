@@ -1,12 +1,10 @@
 -- The test, and the clocks. Assumes nothing.
 use mathlib.Core.List.{[]}
 use mathlib.Core.Path.{refl, sym}
-use native.Mathlib.Omega.{arith}
 use lib.ListN.{length}
 use lib.Seq.{length-take-le}
 use Rattle.kernel_terms.proofs.TableLaws.{table_fits, table_terms}
 use Rattle.run_glide.specs.Glides.{Sound}
-use Rattle.run_glide.proofs.SlideLaws.{row_left, row_some, by_wait}
 use Rattle.run_glide.proofs.GlidingLaws.{named, sound}
 use Rattle.run_glide.proofs.glide.Goals as goal
 use Rattle.run_glide.proofs.glide.Goals.{Else-bad_places}
@@ -20,23 +18,14 @@ passes e =
 pub returns-then-bad_rows : goal.returns-then-bad_rows
 returns-then-bad_rows c = (
   λ L write size caps F G. absurd (c.bad_rows.ensures.1 c.if-bad_rows.true (sound _ _ _ _ _ _ _ _ _ _ _ _ _ _ _ _ _ _ _ _ _ _ _ [] [] 0 G).in_rows),
-  (λ _. record { stopped = refl; no_clocks = refl; no_firings = refl; store_kept = refl; out_kept = refl }, λ S. absurd (c.bad_rows.ensures.1 c.if-bad_rows.true S.in_rows)),
+  (λ _. record { none_made = refl; store_kept = refl; out_kept = refl }, λ S. absurd (c.bad_rows.ensures.1 c.if-bad_rows.true S.in_rows)),
 )
 
 pub returns-then-bad_places : goal.returns-then-bad_places
 returns-then-bad_places c = (
   λ L write size caps F G. absurd (c.bad_places.ensures.1 c.if-bad_places.true (sound _ _ _ _ _ _ _ _ _ _ _ _ _ _ _ _ _ _ _ _ _ _ _ [] [] 0 G).in_rings),
-  (λ _. record { stopped = refl; no_clocks = refl; no_firings = refl; store_kept = refl; out_kept = refl }, λ S. absurd (c.bad_places.ensures.1 c.if-bad_places.true S.in_rings)),
+  (λ _. record { none_made = refl; store_kept = refl; out_kept = refl }, λ S. absurd (c.bad_places.ensures.1 c.if-bad_places.true S.in_rings)),
 )
-
-pub overflow_sub-wanted : goal.overflow_sub-wanted
-overflow_sub-wanted c = (passes (goal.at.overflow_sub-wanted c).Else-bad_places).in_rows.due
-
-pub nonzero_rem-fired0 : goal.nonzero_rem-fired0
-nonzero_rem-fired0 c = (passes (goal.at.nonzero_rem-fired0 c).Else-bad_places).in_rows.some
-
-pub overflow_sub-row : goal.overflow_sub-row
-overflow_sub-row c = row_left _ _ (passes (goal.at.overflow_sub-row c).Else-bad_places).in_rows.some
 
 pub slice_bounds-filters-end : goal.slice_bounds-filters-end
 slice_bounds-filters-end c =
@@ -45,11 +34,6 @@ slice_bounds-filters-end c =
 pub slice_bounds-slide-end : goal.slice_bounds-slide-end
 slice_bounds-slide-end c =
     sym (length-take-le _ _ (table_fits _ _ _ _ (passes (goal.at.slice_bounds-slide-end c).Else-bad_places).in_rings.few _ c.terms_of-found.ensures))
-
-pub slide-requires : goal.slide-requires
-slide-requires c =
-    let r = (passes (goal.at.slide-requires c).Else-bad_places).in_rows in
-    record { width_value = c.width.ensures; puts_len = (omega arith, omega arith, (passes (goal.at.slide-requires c).Else-bad_places).in_rings); in_rows = (by_wait _ _ _ _ _ _ _ _ r, row_some _ _ r.some) }
 
 pub returns : goal.returns
 returns c = (

@@ -1,10 +1,6 @@
 -- `pass` does what `pass_of` says. Assumes nothing.
-use Prim.Native.Nat.{◌-◌}
 use Rattle.loop_laws.proofs.PassLaws.{Passing}
 use Rattle.run_glide.proofs.pass.Given as goal
 
 abbrev pub invariant-loop-k : goal.invariant-loop-k
 invariant-loop-k l = Passing l.bases l.tops l.initial.puts l.initial.gets l.initial.store l.initial.words l.word l.m l.puts l.gets l.store l.words l.carry l.k
-
-abbrev pub decreases-loop-k : goal.decreases-loop-k
-decreases-loop-k l = l.m - l.k

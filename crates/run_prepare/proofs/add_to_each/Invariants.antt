@@ -1,10 +1,7 @@
-use Prim.Native.Nat.{◌+◌, ◌-◌, ◌≤◌}
+use Prim.Native.Nat.{◌+◌}
 use Rattle.run_prepare.specs.Prepared.{number_at, Filled}
 use Rattle.run_prepare.proofs.add_to_each.Given as goal
 
 abbrev pub invariant-loop-k : goal.invariant-loop-k
 invariant-loop-k l =
-    (l.k ≤ l.n) × Filled l.initial.to (λ i. number_at l.from i + l.x) l.k l.to
-
-abbrev pub decreases-loop-k : goal.decreases-loop-k
-decreases-loop-k l = l.n - l.k
+    Filled l.initial.to (λ i. number_at l.from i + l.x) l.k l.to

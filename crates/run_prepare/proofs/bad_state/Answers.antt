@@ -13,7 +13,7 @@ pub returns-then-iterations-fired : goal.returns-then-iterations-fired
 returns-then-iterations-fired c = λ L h. too_many L c.args.fired _ (omega (arith, h.iterations_are))
 
 pub loop-k-init : goal.loop-k-init
-loop-k-init c = (omega arith, λ L h. by_filters L c.args.fired _ (omega (arith, h.iterations_are)))
+loop-k-init c = λ L h. by_filters L c.args.fired _ (omega (arith, h.iterations_are))
 
 -- What the two calls answer, of each layout that the arrays hold.
 counter-is : (c : After-bad_counter) (L : Layout) →
@@ -33,27 +33,20 @@ pub returns-then-bad_counter : goal.returns-then-bad_counter
 returns-then-bad_counter c = λ L h.
     counter_bad L c.args.n c.loop-k.k c.args.passed.now c.args.fired c.loop-k-test.true c.requires.1
     (sym c.if-bad_counter.true ∙ counter-is (goal.at.returns-then-bad_counter c).After-bad_counter L h)
-    ∙ sym (c.loop-k.invariant.1 L h)
-
-pub bad_fifo-requires : goal.bad_fifo-requires
-bad_fifo-requires c =
-    (omega arith, c.requires.0, c.requires.1, c.requires.2, c.requires.3)
+    ∙ sym (c.loop-k.invariant L h)
 
 pub returns-then-bad_fifo : goal.returns-then-bad_fifo
 returns-then-bad_fifo c = λ L h.
     fifo_bad L c.args.n c.loop-k.k c.args.passed.now c.args.fired c.loop-k-test.true c.requires.1
     (sym c.if-bad_counter.false ∙ counter-is (goal.at.returns-then-bad_fifo c).After-bad_counter L h) (sym c.if-bad_fifo.true ∙ fifo-is (goal.at.returns-then-bad_fifo c).After-bad_fifo L h)
-    ∙ sym (c.loop-k.invariant.1 L h)
+    ∙ sym (c.loop-k.invariant L h)
 
 pub loop-k-preserved : goal.loop-k-preserved
-loop-k-preserved c = (
-  omega arith,
-  λ L h.
-      c.loop-k.invariant.1 L h
-      ∙ next_filter L c.args.n c.loop-k.k c.args.passed.now c.args.fired c.loop-k-test.true c.requires.1
-      (sym c.if-bad_counter.false ∙ counter-is (goal.at.loop-k-preserved c).After-bad_counter L h) (sym c.if-bad_fifo.false ∙ fifo-is (goal.at.loop-k-preserved c).After-bad_fifo L h),
-)
+loop-k-preserved c = λ L h.
+    c.loop-k.invariant L h
+    ∙ next_filter L c.args.n c.loop-k.k c.args.passed.now c.args.fired c.loop-k-test.true c.requires.1
+    (sym c.if-bad_counter.false ∙ counter-is (goal.at.loop-k-preserved c).After-bad_counter L h) (sym c.if-bad_fifo.false ∙ fifo-is (goal.at.loop-k-preserved c).After-bad_fifo L h)
 
 pub returns : goal.returns
 returns c = λ L h.
-    no_filter L c.args.n c.loop-k.k c.args.passed.now c.args.fired c.loop-k-test.false ∙ sym (c.loop-k.invariant.1 L h)
+    no_filter L c.args.n c.loop-k.k c.args.passed.now c.args.fired c.loop-k-test.false ∙ sym (c.loop-k.invariant L h)

@@ -1,4 +1,3 @@
-use Prim.Native.Nat.{◌-◌, ◌≤◌}
 use mathlib.Core.Path.{◌≡◌}
 use lib.ListN.{take}
 use lib.Seq.{slice}
@@ -9,9 +8,5 @@ use Rattle.run_prepare.proofs.bad_state.Given as goal
 
 abbrev pub invariant-loop-k : goal.invariant-loop-k
 invariant-loop-k l =
-    (l.k ≤ l.n)
-    × ((L : Layout) → Laid L l.n l.cells l.iterations l.fired l.caps l.wants l.last
+    ((L : Layout) → Laid L l.n l.cells l.iterations l.fired l.caps l.wants l.last
     → bad_state L (record { fired = l.fired; passed = take l.n l.passed }) ≡ bad_filters L l.fired l.k (slice l.k l.n l.passed))
-
-abbrev pub decreases-loop-k : goal.decreases-loop-k
-decreases-loop-k l = l.n - l.k

@@ -1,4 +1,4 @@
-use Prim.Native.Nat.{◌+◌, ◌-◌, ◌*◌, ◌≤◌}
+use Prim.Native.Nat.{◌+◌, ◌*◌, ◌≤◌}
 use mathlib.Core.Path.{◌≡◌}
 use Rattle.model_run.specs.Store.{first_place}
 use Rattle.run_prepare.specs.Prepared.{number_at, blank, Filled}
@@ -6,8 +6,5 @@ use Rattle.run_prepare.proofs.bases_of.Given as goal
 
 abbrev pub invariant-loop-k : goal.invariant-loop-k
 invariant-loop-k l =
-    (l.k ≤ l.n - 1) × (l.places ≤ 4294967296 * l.k) × (l.places ≡ first_place (number_at l.caps) l.k)
+    (l.places ≤ 4294967296 * l.k) × (l.places ≡ first_place (number_at l.caps) l.k)
     × Filled blank (first_place (number_at l.caps)) l.k l.bases × Filled blank (λ i. first_place (number_at l.caps) i + number_at l.caps i) l.k l.tops
-
-abbrev pub decreases-loop-k : goal.decreases-loop-k
-decreases-loop-k l = l.n - l.k

@@ -13,13 +13,13 @@ use Rattle.run_prepare.proofs.spans_of.Goals as goal
 use Rattle.run_prepare.proofs.spans_of.Goals.{After-behind-1}
 
 pub loop-d-init : goal.loop-d-init
-loop-d-init c = (omega arith, refl, product_none (number_at c.args.extents.now) c.args.dims c.args.dims (omega arith), λ i h k. absurd (omega arith))
+loop-d-init c = (refl, product_none (number_at c.args.extents.now) c.args.dims c.args.dims (omega arith), λ i h k. absurd (omega arith))
 
 -- One dimension further to the front.
 back : (c : After-behind-1) →
     c.loop-d.behind * number_at c.args.extents.now (c.loop-d.d - 1) ≡ product (part (number_at c.args.extents.now) (c.loop-d.d - 1) c.args.dims)
 back c =
-    product_back (number_at c.args.extents.now) c.loop-d.d c.args.dims c.loop-d.behind (omega arith) c.loop-d.invariant.0 c.loop-d.invariant.2
+    product_back (number_at c.args.extents.now) c.loop-d.d c.args.dims c.loop-d.behind (omega arith) c.loop-d.auto.d c.loop-d.invariant.1
 
 pub overflow_mul-behind : goal.overflow_mul-behind
 overflow_mul-behind c = omega (arith, back (goal.at.overflow_mul-behind c).After-behind-1, c.requires.1 (c.loop-d.d - 1))
@@ -36,12 +36,8 @@ pub loop-d-preserved : goal.loop-d-preserved
 loop-d-preserved c =
     let d = c.loop-d.d in
     let next : d ≡ d - 1 + 1 = omega arith in (
-      omega arith,
-      length-set c.loop-d.spans (d - 1) c.loop-d.behind ∙ c.loop-d.invariant.1,
+      length-set c.loop-d.spans (d - 1) c.loop-d.behind ∙ c.loop-d.invariant.0,
       back (goal.at.loop-d-preserved c).After-behind-1,
       filled-back (λ i. product (part (number_at c.args.extents.now) (i + 1) c.args.dims)) c.loop-d.spans (d - 1) d c.loop-d.behind c.args.dims next (omega arith)
-          (c.loop-d.invariant.2 ∙ ap (λ (i : ℕ). product (part (number_at c.args.extents.now) i c.args.dims)) next) c.loop-d.invariant.3,
+          (c.loop-d.invariant.1 ∙ ap (λ (i : ℕ). product (part (number_at c.args.extents.now) i c.args.dims)) next) c.loop-d.invariant.2,
     )
-
-pub returns : goal.returns
-returns c = λ i h. c.loop-d.invariant.3 i (omega arith) h

@@ -9,8 +9,5 @@ use Rattle.run_prepare.proofs.spans_of.Given as goal
 
 abbrev pub invariant-loop-d : goal.invariant-loop-d
 invariant-loop-d l =
-    (l.d ≤ l.dims) × (length l.spans ≡ 4) × (l.behind ≡ product (part (number_at l.extents) l.d l.dims))
+    (length l.spans ≡ 4) × (l.behind ≡ product (part (number_at l.extents) l.d l.dims))
     × ((i : ℕ) → l.d ≤ i → i < l.dims → number_at l.spans i ≡ product (part (number_at l.extents) (i + 1) l.dims))
-
-abbrev pub decreases-loop-d : goal.decreases-loop-d
-decreases-loop-d l = l.d

@@ -6,12 +6,6 @@ use Rattle.run_prepare.proofs.PrepareWalks.{walk_none, walk_last}
 use Rattle.run_prepare.proofs.walk.Goals as goal
 use Rattle.run_prepare.proofs.walk.Goals.{After-cells-1}
 
-pub loop-d-init : goal.loop-d-init
-loop-d-init c = (omega arith, omega arith)
-
-pub nonzero_rem-cells : goal.nonzero_rem-cells
-nonzero_rem-cells c = c.requires.some (c.loop-d.d - 1) (omega arith)
-
 -- What is walked and what is left make the whole way.
 whole : (c : After-cells-1) →
     let d = c.loop-d.d - 1 in
@@ -19,7 +13,7 @@ whole : (c : After-cells-1) →
     + walk_by (number_at c.args.extents.now) (number_at c.args.strides.now) d (c.loop-d.rest / number_at c.args.extents.now d)
     ≡ walk_by (number_at c.args.extents.now) (number_at c.args.strides.now) c.args.dims c.args.j
 whole c =
-    omega (arith, c.loop-d.invariant.1, walk_last (number_at c.args.extents.now) (number_at c.args.strides.now) c.loop-d.d c.loop-d.rest (omega arith))
+    omega (arith, c.loop-d.invariant, walk_last (number_at c.args.extents.now) (number_at c.args.strides.now) c.loop-d.d c.loop-d.rest (omega arith))
 
 pub overflow_mul-cells : goal.overflow_mul-cells
 overflow_mul-cells c = omega (arith, whole (goal.at.overflow_mul-cells c).After-cells-1, c.requires.near)
@@ -27,12 +21,9 @@ overflow_mul-cells c = omega (arith, whole (goal.at.overflow_mul-cells c).After-
 pub overflow_add-cells : goal.overflow_add-cells
 overflow_add-cells c = omega (arith, whole (goal.at.overflow_add-cells c).After-cells-1, c.requires.near)
 
-pub nonzero_div-rest : goal.nonzero_div-rest
-nonzero_div-rest c = c.requires.some (c.loop-d.d - 1) (omega arith)
-
 pub loop-d-preserved : goal.loop-d-preserved
-loop-d-preserved c = (omega arith, whole (goal.at.loop-d-preserved c).After-cells-1)
+loop-d-preserved c = (whole (goal.at.loop-d-preserved c).After-cells-1)
 
 pub returns : goal.returns
 returns c =
-    omega (arith, c.loop-d.invariant.1, walk_none (number_at c.args.extents.now) (number_at c.args.strides.now) c.loop-d.d c.loop-d.rest (omega arith))
+    omega (arith, c.loop-d.invariant, walk_none (number_at c.args.extents.now) (number_at c.args.strides.now) c.loop-d.d c.loop-d.rest (omega arith))

@@ -9,35 +9,35 @@ use Rattle.run_prepare.proofs.with_store.Goals as goal
 
 pub take_up-requires : goal.take_up-requires
 take_up-requires c =
-    (c.requires.capable.small, (_, chain_shaped c.args.chain c.requires.capable.accepted c.args.shape _ _ _ c.requires.shape_value.0 c.widen4.ensures c.widen4-2.ensures c.widen32.ensures))
+    (c.requires.capable.small, (_, chain_shaped c.args.chain c.requires.capable.accepted c.args.shape _ _ _ c.requires.shape_value.0 c.widen-extents.ensures c.widen.ensures c.widen-2.ensures))
 
 pub returns-then-take_up : goal.returns-then-take_up
 returns-then-take_up c =
     λ bases tops store T.
-    readied_refused (flattened c.args.chain) [] _ _ _ _ _ _ _ _ _ _ _ _ c.refused.ensures
+    readied_refused (flattened c.args.chain) [] _ _ _ _ _ _ _ _ _ _ _
     (judged_bad (flattened c.args.chain) [] _ _ T.capable.accepted T.long
-    (sym (c.take_up.ensures _ (chain_shaped c.args.chain c.requires.capable.accepted c.args.shape _ _ _ c.requires.shape_value.0 c.widen4.ensures c.widen4-2.ensures c.widen32.ensures) T.capable.capped).bad_is ∙ c.if-take_up.true))
+    (sym (c.take_up.ensures _ (chain_shaped c.args.chain c.requires.capable.accepted c.args.shape _ _ _ c.requires.shape_value.0 c.widen-extents.ensures c.widen.ensures c.widen-2.ensures) T.capable.capped).bad_is ∙ c.if-take_up.true))
 
 pub spans_of-requires : goal.spans_of-requires
 spans_of-requires c =
-    let S = (chain_shaped c.args.chain c.requires.capable.accepted c.args.shape _ _ _ c.requires.shape_value.0 c.widen4.ensures c.widen4-2.ensures c.widen32.ensures) in
+    let S = (chain_shaped c.args.chain c.requires.capable.accepted c.args.shape _ _ _ c.requires.shape_value.0 c.widen-extents.ensures c.widen.ensures c.widen-2.ensures) in
     ((some_dimensions c.args.chain S).1, extents_small c.args.chain S)
 
 pub overflow_sub-result : goal.overflow_sub-result
 overflow_sub-result c =
-    omega (arith, (some_dimensions c.args.chain (chain_shaped c.args.chain c.requires.capable.accepted c.args.shape _ _ _ c.requires.shape_value.0 c.widen4.ensures c.widen4-2.ensures c.widen32.ensures)).0)
+    omega (arith, (some_dimensions c.args.chain (chain_shaped c.args.chain c.requires.capable.accepted c.args.shape _ _ _ c.requires.shape_value.0 c.widen-extents.ensures c.widen.ensures c.widen-2.ensures)).0)
 
 pub offset_bounds-extents-dims : goal.offset_bounds-extents-dims
 offset_bounds-extents-dims c =
-    omega (arith, some_dimensions c.args.chain (chain_shaped c.args.chain c.requires.capable.accepted c.args.shape _ _ _ c.requires.shape_value.0 c.widen4.ensures c.widen4-2.ensures c.widen32.ensures))
+    omega (arith, some_dimensions c.args.chain (chain_shaped c.args.chain c.requires.capable.accepted c.args.shape _ _ _ c.requires.shape_value.0 c.widen-extents.ensures c.widen.ensures c.widen-2.ensures))
 
 pub bounds-extents-dims : goal.bounds-extents-dims
 bounds-extents-dims c =
-    omega (arith, some_dimensions c.args.chain (chain_shaped c.args.chain c.requires.capable.accepted c.args.shape _ _ _ c.requires.shape_value.0 c.widen4.ensures c.widen4-2.ensures c.widen32.ensures))
+    omega (arith, some_dimensions c.args.chain (chain_shaped c.args.chain c.requires.capable.accepted c.args.shape _ _ _ c.requires.shape_value.0 c.widen-extents.ensures c.widen.ensures c.widen-2.ensures))
 
 pub returns : goal.returns
 returns c =
-    let S = (chain_shaped c.args.chain c.requires.capable.accepted c.args.shape _ _ _ c.requires.shape_value.0 c.widen4.ensures c.widen4-2.ensures c.widen32.ensures) in
+    let S = (chain_shaped c.args.chain c.requires.capable.accepted c.args.shape _ _ _ c.requires.shape_value.0 c.widen-extents.ensures c.widen.ensures c.widen-2.ensures) in
     λ bases tops store T.
-    readied (taken c.args.chain _ _ _ _ _ _ _ _ _ _ _ _ _ T S c.widen32.ensures.long (c.take_up.ensures _ S T.capable.capped) c.if-take_up.false) _ _ _ _
+    readied (taken c.args.chain _ _ _ _ _ _ _ _ _ _ _ _ _ T S c.widen-2.ensures.long (c.take_up.ensures _ S T.capable.capped) c.if-take_up.false) _ _ _ _
     c.spans_of.ensures refl c.requires.shape_value.1 refl

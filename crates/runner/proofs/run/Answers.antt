@@ -5,4 +5,4 @@ use Rattle.runner.proofs.run.Goals as goal
 
 pub returns : goal.returns
 returns c =
-    c.run_flat.ensures ∙ run_none_lent c.args.chain c.if-grid.false c.args.rows.now _ _ _ _ _
+    c.run_flat.ensures ∙ run_none_lent c.args.chain c.if-chain.false c.args.rows.now _ _ _ _ _

@@ -5,10 +5,6 @@ use Rattle.model.specs.Values.{trimmed}
 use Rattle.runner.proofs.RunLaws.{run_ended}
 use Rattle.runner.proofs.run_ready.Goals as goal
 
-pub clocks-stopped-requires : goal.clocks-stopped-requires
-clocks-stopped-requires c =
-    (c.requires.0, c.requires.2.tables, c.requires.2.begins, c.requires.3)
-
 pub state_of-requires : goal.state_of-requires
 unfolding trimmed
 state_of-requires c =

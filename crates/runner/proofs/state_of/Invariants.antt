@@ -1,4 +1,3 @@
-use Prim.Native.Nat.{◌-◌, ◌≤◌}
 use mathlib.Core.Path.{◌≡◌}
 use lib.ListN.{length}
 use Rattle.runner.proofs.PrepareCounters.{put_back}
@@ -6,7 +5,4 @@ use Rattle.runner.proofs.state_of.Given as goal
 
 abbrev pub invariant-loop-k : goal.invariant-loop-k
 invariant-loop-k l =
-    (l.k ≤ l.n) × (l.to ≡ put_back l.k l.passed l.initial.to) × (length l.initial.to ≡ 32)
-
-abbrev pub decreases-loop-k : goal.decreases-loop-k
-decreases-loop-k l = l.n - l.k
+    (l.to ≡ put_back l.k l.passed l.initial.to) × (length l.initial.to ≡ 32)

@@ -13,7 +13,7 @@ use Rattle.shape.proofs.place_of.Goals as goal
 use Rattle.shape.proofs.place_of.Goals.{After-at-1}
 
 pub loop-d-init : goal.loop-d-init
-loop-d-init c = (omega arith, sum_start (steps c.args.offsets.now c.args.lows.now c.args.strides.now c.args.k) c.args.dims)
+loop-d-init c = sum_start (steps c.args.offsets.now c.args.lows.now c.args.strides.now c.args.k) c.args.dims
 
 -- What is at hand and what is left make the whole.
 whole : (c : After-at-1) →
@@ -26,7 +26,7 @@ whole c =
     let left = sum (part (steps c.args.offsets.now c.args.lows.now c.args.strides.now c.args.k) (c.loop-d.d + 1) c.args.dims) in
     ap (λ (h : ℕ). c.loop-d.at + h * number_at c.args.strides.now c.loop-d.d + left)
     (c.height.ensures ∙ ap₂ above x low)
-    ∙ sum_on (steps c.args.offsets.now c.args.lows.now c.args.strides.now c.args.k) c.loop-d.at c.loop-d.d c.args.dims (omega arith) ∙ c.loop-d.invariant.1
+    ∙ sum_on (steps c.args.offsets.now c.args.lows.now c.args.strides.now c.args.k) c.loop-d.at c.loop-d.d c.args.dims (omega arith) ∙ c.loop-d.invariant
 
 pub overflow_mul-at : goal.overflow_mul-at
 overflow_mul-at c = omega (arith, whole c, c.requires.2)
@@ -35,8 +35,8 @@ pub overflow_add-at : goal.overflow_add-at
 overflow_add-at c = omega (arith, whole c, c.requires.2)
 
 pub loop-d-preserved : goal.loop-d-preserved
-loop-d-preserved c = (omega arith, whole c)
+loop-d-preserved c = whole c
 
 pub returns : goal.returns
 returns c =
-    sum_end (steps c.args.offsets.now c.args.lows.now c.args.strides.now c.args.k) c.loop-d.at c.loop-d.d c.args.dims (omega arith) ∙ c.loop-d.invariant.1
+    sum_end (steps c.args.offsets.now c.args.lows.now c.args.strides.now c.args.k) c.loop-d.at c.loop-d.d c.args.dims (omega arith) ∙ c.loop-d.invariant

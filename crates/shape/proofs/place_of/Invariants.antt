@@ -1,5 +1,5 @@
 -- The loop's invariant: `at`, and what the entries from d on add, make the position.
-use Prim.Native.Nat.{ℕ, ◌+◌, ◌-◌, ◌*◌, ◌≤◌}
+use Prim.Native.Nat.{ℕ, ◌+◌, ◌*◌}
 use mathlib.Core.Path.{◌≡◌}
 use mathlib.Core.List.{List}
 use lib.IntN.{ℤ, pos}
@@ -15,7 +15,4 @@ steps offsets lows strides k d = above (entry_at offsets k d) (get_or lows d (po
 
 abbrev pub invariant-loop-d : goal.invariant-loop-d
 invariant-loop-d l =
-    (l.d ≤ l.dims) × (l.at + sum (part (steps l.offsets l.lows l.strides l.k) l.d l.dims) ≡ place_by l.dims l.lows l.strides l.offsets l.k)
-
-abbrev pub decreases-loop-d : goal.decreases-loop-d
-decreases-loop-d l = l.dims - l.d
+    l.at + sum (part (steps l.offsets l.lows l.strides l.k) l.d l.dims) ≡ place_by l.dims l.lows l.strides l.offsets l.k

@@ -1,105 +1,35 @@
-use borrow.Author.Tests.{eq-eqb, ne_eqb}
+use mathlib.Core.Logic.{inl, inr}
+use native.Mathlib.Omega.{arith}
+use borrow.Author.Tests.{ne_eqb}
 use Rattle.model_sheet.specs.Reading.{bad_form}
 use Rattle.sheet_forms.proofs.bad_form.Goals as goal
 
-pub returns-then-kind-eq1 : goal.returns-then-kind-eq1
+pub returns-in-1 : goal.returns-in-1
 unfolding bad_form
-returns-then-kind-eq1 c = simp (eq-eqb _ _ c.if-kind-eq1.true)
+returns-in-1 c = rw c.in-1.is
 
-pub returns-then-kind-eq2 : goal.returns-then-kind-eq2
+pub returns-in-2 : goal.returns-in-2
 unfolding bad_form
-returns-then-kind-eq2 c = simp (ne_eqb _ _ c.if-kind-eq1.false, eq-eqb _ _ c.if-kind-eq2.true)
+returns-in-2 c = elim c.in-2.is [ inl e ↦ rw e | inr r ↦ elim r [ inl e ↦ rw e | inr e ↦ rw e ] ]
 
-pub returns-then-kind-eq3 : goal.returns-then-kind-eq3
+pub returns-in-3 : goal.returns-in-3
 unfolding bad_form
-returns-then-kind-eq3 c = simp (ne_eqb _ _ c.if-kind-eq1.false, ne_eqb _ _ c.if-kind-eq2.false, eq-eqb _ _ c.if-kind-eq3.true)
+returns-in-3 c = elim c.in-3.is [ inl e ↦ rw e | inr e ↦ rw e ]
 
-pub returns-then-kind-eq4 : goal.returns-then-kind-eq4
+pub returns-in-4 : goal.returns-in-4
 unfolding bad_form
-returns-then-kind-eq4 c =
-    simp (
-      ne_eqb _ _ c.if-kind-eq1.false,
-      ne_eqb _ _ c.if-kind-eq2.false,
-      ne_eqb _ _ c.if-kind-eq3.false,
-      eq-eqb _ _ c.if-kind-eq4.true,
-    ) c.bad_kernel.ensures
+returns-in-4 c = rw c.in-4.is c.bad_kernel.ensures
 
-pub returns-then-kind-eq5 : goal.returns-then-kind-eq5
+pub returns-in-7 : goal.returns-in-7
 unfolding bad_form
-returns-then-kind-eq5 c =
-    simp (
-      ne_eqb _ _ c.if-kind-eq1.false,
-      ne_eqb _ _ c.if-kind-eq2.false,
-      ne_eqb _ _ c.if-kind-eq3.false,
-      ne_eqb _ _ c.if-kind-eq4.false,
-      eq-eqb _ _ c.if-kind-eq5.true,
-    )
+returns-in-7 c = rw c.in-7.is
 
-pub returns-then-kind-eq6 : goal.returns-then-kind-eq6
+pub returns-in-9 : goal.returns-in-9
 unfolding bad_form
-returns-then-kind-eq6 c =
-    simp (
-      ne_eqb _ _ c.if-kind-eq1.false,
-      ne_eqb _ _ c.if-kind-eq2.false,
-      ne_eqb _ _ c.if-kind-eq3.false,
-      ne_eqb _ _ c.if-kind-eq4.false,
-      ne_eqb _ _ c.if-kind-eq5.false,
-      eq-eqb _ _ c.if-kind-eq6.true,
-    )
+returns-in-9 c = rw c.in-9.is
 
-pub returns-then-kind-eq7 : goal.returns-then-kind-eq7
+pub returns-in_default : goal.returns-in_default
 unfolding bad_form
-returns-then-kind-eq7 c =
-    simp (
-      ne_eqb _ _ c.if-kind-eq1.false,
-      ne_eqb _ _ c.if-kind-eq2.false,
-      ne_eqb _ _ c.if-kind-eq3.false,
-      ne_eqb _ _ c.if-kind-eq4.false,
-      ne_eqb _ _ c.if-kind-eq5.false,
-      ne_eqb _ _ c.if-kind-eq6.false,
-      eq-eqb _ _ c.if-kind-eq7.true,
-    )
-
-pub returns-then-kind-eq8 : goal.returns-then-kind-eq8
-unfolding bad_form
-returns-then-kind-eq8 c =
-    simp (
-      ne_eqb _ _ c.if-kind-eq1.false,
-      ne_eqb _ _ c.if-kind-eq2.false,
-      ne_eqb _ _ c.if-kind-eq3.false,
-      ne_eqb _ _ c.if-kind-eq4.false,
-      ne_eqb _ _ c.if-kind-eq5.false,
-      ne_eqb _ _ c.if-kind-eq6.false,
-      ne_eqb _ _ c.if-kind-eq7.false,
-      eq-eqb _ _ c.if-kind-eq8.true,
-    )
-
-pub returns-then-kind-eq9 : goal.returns-then-kind-eq9
-unfolding bad_form
-returns-then-kind-eq9 c =
-    simp (
-      ne_eqb _ _ c.if-kind-eq1.false,
-      ne_eqb _ _ c.if-kind-eq2.false,
-      ne_eqb _ _ c.if-kind-eq3.false,
-      ne_eqb _ _ c.if-kind-eq4.false,
-      ne_eqb _ _ c.if-kind-eq5.false,
-      ne_eqb _ _ c.if-kind-eq6.false,
-      ne_eqb _ _ c.if-kind-eq7.false,
-      ne_eqb _ _ c.if-kind-eq8.false,
-      eq-eqb _ _ c.if-kind-eq9.true,
-    )
-
-pub returns : goal.returns
-unfolding bad_form
-returns c =
-    simp (
-      ne_eqb _ _ c.if-kind-eq1.false,
-      ne_eqb _ _ c.if-kind-eq2.false,
-      ne_eqb _ _ c.if-kind-eq3.false,
-      ne_eqb _ _ c.if-kind-eq4.false,
-      ne_eqb _ _ c.if-kind-eq5.false,
-      ne_eqb _ _ c.if-kind-eq6.false,
-      ne_eqb _ _ c.if-kind-eq7.false,
-      ne_eqb _ _ c.if-kind-eq8.false,
-      ne_eqb _ _ c.if-kind-eq9.false,
-    )
+returns-in_default c =
+    let k = c.args.kind in
+    simp (ne_eqb k 1 (omega arith), ne_eqb k 2 (grind arith), ne_eqb k 3 (grind arith), ne_eqb k 4 (omega arith), ne_eqb k 5 (grind arith), ne_eqb k 6 (grind arith), ne_eqb k 7 (omega arith), ne_eqb k 8 (grind arith), ne_eqb k 9 (omega arith))

@@ -1,19 +1,22 @@
-use borrow.Author.Tests.{eq-eqb, le-leb, lt-leb, ne_eqb}
+use native.Mathlib.Omega.{arith}
+use borrow.Author.Tests.{le-leb, lt-leb, ne_eqb}
 use Rattle.model_sheet.specs.Reading.{bad_kernel}
 use Rattle.sheet_forms.proofs.bad_kernel.Goals as goal
 
-pub returns-then-second-le1 : goal.returns-then-second-le1
+pub returns-in-0 : goal.returns-in-0
 unfolding bad_kernel
-returns-then-second-le1 c = simp (le-leb _ _ c.if-second-le1.true)
+returns-in-0 c = simp (le-leb c.args.second 1 (omega arith))
 
-pub returns-then-second-eq2 : goal.returns-then-second-eq2
+pub returns-in-2 : goal.returns-in-2
 unfolding bad_kernel
-returns-then-second-eq2 c = simp (lt-leb _ _ c.if-second-le1.false, eq-eqb _ _ c.if-second-eq2.true)
+returns-in-2 c = rw c.in-2.is
 
-pub returns-then-second-eq3 : goal.returns-then-second-eq3
+pub returns-in-3 : goal.returns-in-3
 unfolding bad_kernel
-returns-then-second-eq3 c = simp (lt-leb _ _ c.if-second-le1.false, ne_eqb _ _ c.if-second-eq2.false, eq-eqb _ _ c.if-second-eq3.true)
+returns-in-3 c = rw c.in-3.is
 
-pub returns : goal.returns
+pub returns-in_default : goal.returns-in_default
 unfolding bad_kernel
-returns c = simp (lt-leb _ _ c.if-second-le1.false, ne_eqb _ _ c.if-second-eq2.false, ne_eqb _ _ c.if-second-eq3.false)
+returns-in_default c =
+    let s = c.args.second in
+    simp (lt-leb s 1 (omega arith), ne_eqb s 2 (omega arith), ne_eqb s 3 (omega arith))

@@ -1,51 +1,30 @@
-use borrow.Author.Tests.{eq-eqb, ne_eqb}
+use native.Mathlib.Omega.{arith}
+use borrow.Author.Tests.{ne_eqb}
 use Rattle.model_sheet.specs.Reading.{bad_length}
 use Rattle.sheet_forms.proofs.bad_length.Goals as goal
 
-pub returns-then-kind-eq1 : goal.returns-then-kind-eq1
+pub returns-in-1 : goal.returns-in-1
 unfolding bad_length
-returns-then-kind-eq1 c = simp (eq-eqb _ _ c.if-kind-eq1.true)
+returns-in-1 c = rw c.in-1.is
 
-pub returns-then-kind-eq9 : goal.returns-then-kind-eq9
+pub returns-in-9 : goal.returns-in-9
 unfolding bad_length
-returns-then-kind-eq9 c = simp (
-  ne_eqb _ _ c.if-kind-eq1.false,
-  eq-eqb _ _ c.if-kind-eq9.true,
-)
+returns-in-9 c = rw c.in-9.is
 
-pub returns-then-kind-eq2 : goal.returns-then-kind-eq2
+pub returns-in-2 : goal.returns-in-2
 unfolding bad_length
-returns-then-kind-eq2 c = simp (
-  ne_eqb _ _ c.if-kind-eq1.false,
-  ne_eqb _ _ c.if-kind-eq9.false,
-  eq-eqb _ _ c.if-kind-eq2.true,
-)
+returns-in-2 c = rw c.in-2.is
 
-pub returns-then-kind-eq6 : goal.returns-then-kind-eq6
+pub returns-in-6 : goal.returns-in-6
 unfolding bad_length
-returns-then-kind-eq6 c = simp (
-  ne_eqb _ _ c.if-kind-eq1.false,
-  ne_eqb _ _ c.if-kind-eq9.false,
-  ne_eqb _ _ c.if-kind-eq2.false,
-  eq-eqb _ _ c.if-kind-eq6.true,
-)
+returns-in-6 c = rw c.in-6.is
 
-pub returns-then-kind-eq8 : goal.returns-then-kind-eq8
+pub returns-in-8 : goal.returns-in-8
 unfolding bad_length
-returns-then-kind-eq8 c = simp (
-  ne_eqb _ _ c.if-kind-eq1.false,
-  ne_eqb _ _ c.if-kind-eq9.false,
-  ne_eqb _ _ c.if-kind-eq2.false,
-  ne_eqb _ _ c.if-kind-eq6.false,
-  eq-eqb _ _ c.if-kind-eq8.true,
-)
+returns-in-8 c = rw c.in-8.is
 
-pub returns : goal.returns
+pub returns-in_default : goal.returns-in_default
 unfolding bad_length
-returns c = simp (
-  ne_eqb _ _ c.if-kind-eq1.false,
-  ne_eqb _ _ c.if-kind-eq9.false,
-  ne_eqb _ _ c.if-kind-eq2.false,
-  ne_eqb _ _ c.if-kind-eq6.false,
-  ne_eqb _ _ c.if-kind-eq8.false,
-)
+returns-in_default c =
+    let k = c.args.kind in
+    simp (ne_eqb k 1 (omega arith), ne_eqb k 9 (omega arith), ne_eqb k 2 (omega arith), ne_eqb k 6 (omega arith), ne_eqb k 8 (omega arith))

@@ -1,12 +1,8 @@
 -- The loop's invariant: the first k numbers stand in their places.
-use Prim.Native.Nat.{◌-◌, ◌≤◌}
 use mathlib.Core.Path.{◌≡◌}
 use Rattle.model_sheet.specs.Frames.{bytes_of}
 use Rattle.sheet_frames.proofs.NumberLaws.{first_on}
 use Rattle.sheet_frames.proofs.numbers_on.Given as goal
 
 abbrev pub invariant-loop-k : goal.invariant-loop-k
-invariant-loop-k l = (l.k ≤ 1024) × (l.numbers ≡ first_on l.k (bytes_of l.line))
-
-abbrev pub decreases-loop-k : goal.decreases-loop-k
-decreases-loop-k l = 1024 - l.k
+invariant-loop-k l = l.numbers ≡ first_on l.k (bytes_of l.line)

@@ -5,19 +5,19 @@ use Rattle.sheet_order.proofs.comes_in_request.Goals as goal
 
 pub returns-in-Nothing : goal.returns-in-Nothing
 unfolding next_in_request
-returns-in-Nothing c = rw c.in-Nothing.is c.of_two.ensures
+returns-in-Nothing c = rw c.in-Nothing.is c.among.ensures
 
 pub returns-in-Grid : goal.returns-in-Grid
 unfolding next_in_request
-returns-in-Grid c = rw c.in-Grid.is c.of_two-in-Grid.ensures
+returns-in-Grid c = rw c.in-Grid.is c.among-in-Grid.ensures
 
 pub returns-in-Offset : goal.returns-in-Offset
 unfolding next_in_request
-returns-in-Offset c = rw c.in-Offset.is c.of_three.ensures
+returns-in-Offset c = rw c.in-Offset.is c.among-in-Offset.ensures
 
 pub returns-in-Name : goal.returns-in-Name
 unfolding next_in_request
-returns-in-Name c = rw c.in-Name.is c.of_two-in-Name.ensures
+returns-in-Name c = rw c.in-Name.is c.among-in-Name.ensures
 
 pub returns-in-Box : goal.returns-in-Box
 unfolding next_in_request

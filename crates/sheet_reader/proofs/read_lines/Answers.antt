@@ -40,15 +40,15 @@ told c =
     ap (λ g. line_verdict c.args.chained c.args.rows.now c.loop-at.r (shown g)) (sym (c.frame-f.ensures ∙ ap (feeds empty_frame) c.line-line.ensures))
     ∙ sym c.line_verdict-v.ensures
 
-pub returns-in-Refused : goal.returns-in-Refused
-returns-in-Refused c =
-    turned_back_lem _ _ _ c.loop-at.r c.loop-at.at c.loop-at-test.true (omega (arith, ap length c.line-line.ensures, less (within (goal.at.returns-in-Refused c).After-line-line) c.if-end-sheet.false))
-    c.loop-at.invariant.1 _ (step_refused _ _ _ _ _ (told (goal.at.returns-in-Refused c).After-line_verdict-v ∙ c.in-Refused.is)) _ refl
+pub returns-in-Err : goal.returns-in-Err
+returns-in-Err c =
+    turned_back_lem _ _ _ c.loop-at.r c.loop-at.at c.loop-at-test.true (omega (arith, ap length c.line-line.ensures, less (within (goal.at.returns-in-Err c).After-line-line) c.if-end-sheet.false))
+    c.loop-at.invariant.1 _ (step_refused _ _ _ _ _ (told (goal.at.returns-in-Err c).After-line_verdict-v ∙ c.in-Err.is)) _ refl
     ∙ c.loop-at.invariant.2
 
 pub accept_line-next-requires : goal.accept_line-next-requires
 accept_line-next-requires c =
-    accepted_room _ _ _ _ (sym c.line_verdict-v.ensures ∙ c.in-Accepted.is)
+    accepted_room _ _ _ _ (sym c.line_verdict-v.ensures ∙ c.in-Ok.is)
 
 pub overflow_add-at : goal.overflow_add-at
 overflow_add-at c =
@@ -62,7 +62,7 @@ pub loop-at-preserved : goal.loop-at-preserved
 loop-at-preserved c =
     let short : c.loop-at.at + length c.line-line.result.now < length c.args.sheet.now = omega (arith, within (goal.at.loop-at-preserved c).After-line-line) in
     let first = c.frame-f.ensures ∙ ap (feeds empty_frame) c.line-line.ensures in
-    let stepped = step_accepted c.args.chained c.args.rows.now c.loop-at.r _ c.accept_line-next.result (told (goal.at.loop-at-preserved c).After-line_verdict-v ∙ c.in-Accepted.is) (c.accept_line-next.ensures ∙ ap (λ g. taken c.loop-at.r g.first) first) in (
+    let stepped = step_accepted c.args.chained c.args.rows.now c.loop-at.r _ c.accept_line-next.result (told (goal.at.loop-at-preserved c).After-line_verdict-v ∙ c.in-Ok.is) (c.accept_line-next.ensures ∙ ap (λ g. taken c.loop-at.r g.first) first) in (
       omega (arith, short),
       rw (ap (λ s. s.reading) stepped) (keeps_bounded _ _ c.loop-at.r _ c.loop-at.invariant.1),
       ap (λ n. read_from c.args.chained c.args.rows.now c.args.sheet.now c.accept_line-next.result (c.loop-at.at + n + 1)) (ap length c.line-line.ensures)

@@ -1,8 +1,8 @@
 use borrow.Author.Tests.{eq-eqb, ne_eqb}
 use Rattle.sheet_verdicts.proofs.bad_dims.Goals as goal
 
-pub returns-then-kind-ne1 : goal.returns-then-kind-ne1
-returns-then-kind-ne1 c = simp (ne_eqb _ _ c.if-kind-ne1.true)
+pub returns-else-kind-eq1 : goal.returns-else-kind-eq1
+returns-else-kind-eq1 c = simp (ne_eqb _ _ c.if-kind-eq1.false)
 
-pub returns : goal.returns
-returns c = simp (eq-eqb _ _ c.if-kind-ne1.false) c.bad_dims.ensures
+pub returns-then-kind-eq1 : goal.returns-then-kind-eq1
+returns-then-kind-eq1 c = simp (eq-eqb _ _ c.if-kind-eq1.true) c.bad_dims.ensures

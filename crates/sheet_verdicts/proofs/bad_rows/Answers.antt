@@ -1,8 +1,8 @@
 use borrow.Author.Tests.{eq-eqb, ne_eqb}
 use Rattle.sheet_verdicts.proofs.bad_rows.Goals as goal
 
-pub returns-then-kind-ne9 : goal.returns-then-kind-ne9
-returns-then-kind-ne9 c = simp (ne_eqb _ _ c.if-kind-ne9.true)
+pub returns-else-kind-eq9 : goal.returns-else-kind-eq9
+returns-else-kind-eq9 c = simp (ne_eqb _ _ c.if-kind-eq9.false)
 
-pub returns : goal.returns
-returns c = simp (eq-eqb _ _ c.if-kind-ne9.false) c.bad_rows.ensures
+pub returns-then-kind-eq9 : goal.returns-then-kind-eq9
+returns-then-kind-eq9 c = simp (eq-eqb _ _ c.if-kind-eq9.true) c.bad_rows.ensures

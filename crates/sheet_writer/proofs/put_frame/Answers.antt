@@ -1,29 +1,28 @@
-use mathlib.Core.Path.{refl, ◌∙◌}
+use Prim.Native.Nat.{ℕ, ◌+◌, ◌*◌}
+use mathlib.Core.Path.{◌≡◌, ap, ◌∙◌}
+use native.Mathlib.Nat.{add-zero}
 use native.Mathlib.Omega.{arith}
-use lib.ListN.{length-set}
-use borrow.Author.Rules.{rules}
+use lib.ListN.{set}
 use Rattle.sheet_writer.proofs.LayLaws.{frame_on, frame_end}
 use Rattle.sheet_writer.proofs.put_frame.Goals as goal
 
 pub loop-i-init : goal.loop-i-init
-loop-i-init c = (search rules, search rules, search rules, refl)
-
-pub bounds-out-p-in-loop-i : goal.bounds-out-p-in-loop-i
-bounds-out-p-in-loop-i c = simp length-set (omega arith)
+loop-i-init c = rw add-zero
 
 pub loop-i-preserved : goal.loop-i-preserved
-loop-i-preserved c = (
-  search rules,
-  search rules,
-  simp length-set c.loop-i.invariant.2,
-  rw (c.low_digit.ensures, c.high_digit.ensures)
-      (frame_on c.args.x c.loop-i.out c.args.len c.loop-i.p c.loop-i.i (omega arith) c.loop-i-test.true)
-      ∙ c.loop-i.invariant.3,
-)
-
-pub shape_of-out : goal.shape_of-out
-shape_of-out c = simp length-set c.loop-i.invariant.2
+loop-i-preserved c =
+    let a = c.args in
+    let e : a.at + 2 * (c.loop-i.i + 1) ≡ a.at + 2 * c.loop-i.i + 2 = omega arith in
+    rw (e, c.low_digit.ensures, c.high_digit.ensures)
+    (frame_on a.x c.loop-i.out a.len (a.at + 2 * c.loop-i.i) c.loop-i.i (omega arith) c.loop-i-test.true)
+    ∙ c.loop-i.invariant
 
 pub returns : goal.returns
 returns c =
-    (omega arith, frame_end c.args.x c.loop-i.out c.args.len c.loop-i.p c.loop-i.i (omega arith) c.loop-i-test.false ∙ c.loop-i.invariant.3)
+    let a = c.args in
+    let e : a.at + 2 * a.len ≡ a.at + 2 * c.loop-i.i = omega arith in (
+      omega arith,
+      ap (λ (p : ℕ). set c.loop-i.out p 10) e
+          ∙ frame_end a.x c.loop-i.out a.len (a.at + 2 * c.loop-i.i) c.loop-i.i (omega arith) c.loop-i-test.false
+          ∙ c.loop-i.invariant,
+    )

@@ -1,14 +1,11 @@
--- The loop's invariant: with the rest of the frame laid from `p` on, the output is what it is with the whole frame laid from `at` on.
-use Prim.Native.Nat.{◌+◌, ◌-◌, ◌*◌, ◌≤◌}
+-- The loop's invariant: with the rest of the frame laid on, the output is what it is with the whole frame laid from `at` on.
+use Prim.Native.Nat.{◌+◌, ◌*◌}
 use mathlib.Core.Path.{◌≡◌}
-use lib.ListN.{length, take, drop}
+use lib.ListN.{take, drop}
 use lib.Seq.{sets}
 use Rattle.model_sheet.specs.Frames.{framed}
 use Rattle.sheet_writer.proofs.put_frame.Given as goal
 
 abbrev pub invariant-loop-i : goal.invariant-loop-i
 invariant-loop-i l =
-    (l.i ≤ l.len) × (l.p ≡ l.at + 2 * l.i) × (length l.out ≡ length l.initial.out) × (sets l.out l.p (framed (drop l.i (take l.len l.x))) ≡ sets l.initial.out l.at (framed (take l.len l.x)))
-
-abbrev pub decreases-loop-i : goal.decreases-loop-i
-decreases-loop-i l = l.len - l.i
+    sets l.out (l.at + 2 * l.i) (framed (drop l.i (take l.len l.x))) ≡ sets l.initial.out l.at (framed (take l.len l.x))

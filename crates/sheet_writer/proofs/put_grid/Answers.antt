@@ -21,13 +21,13 @@ returns-then-g c =
 pub put_frame-requires : goal.put_frame-requires
 put_frame-requires c =
     let g = c.args.g in
-    (omega (arith, c.grid_len-len.ensures, flat_len g c.if-g.false, dims_flat g c.if-g.false, c.requires.0), omega (arith, c.grid_len-len.ensures, c.requires.2))
+    (omega (arith, c.grid_len.ensures, flat_len g c.if-g.false, dims_flat g c.if-g.false, c.requires.0), omega (arith, c.grid_len.ensures, c.requires.2))
 
 pub returns : goal.returns
 returns c =
     let g = c.args.g in
     let e = c.put_frame.ensures in (
-      omega (arith, e.0, c.grid_len-len.ensures),
-      rw (c.grid_row-x.ensures, c.grid_len-len.ensures, flat_len g c.if-g.false) at e.1
+      omega (arith, e.0, c.grid_len.ensures),
+      rw (c.grid_row.ensures, c.grid_len.ensures, flat_len g c.if-g.false) at e.1
           ∙ ap (sets c.args.out.now 0) (grid_laid g c.args.rows.now c.if-g.false (omega (arith, dims_flat g c.if-g.false, c.requires.0))),
     )

@@ -1,12 +1,9 @@
-use Prim.Native.Nat.{ℕ, ◌+◌, ◌*◌, ◌≤◌}
+use Prim.Native.Nat.{◌+◌, ◌*◌, ◌≤◌}
 use mathlib.Core.Path.{◌≡◌, sym, ap, subst, ◌∙◌}
 use native.Mathlib.Nat.{sub-zero}
 use native.Mathlib.Omega.{arith}
 use lib.ListN.{length}
-use lib.Seq.{sets, length-sets}
-use borrow.Author.Rules.{rules}
-use Rattle.model_sheet.specs.Frames.{framed}
-use Rattle.model_sheet.specs.Writing.{grid_line}
+use lib.Seq.{sets}
 use Rattle.sheet_laws.specs.declared.Part.{Part}
 use Rattle.sheet_laws.specs.Sections.{len_of, part_at}
 use Rattle.sheet_writer.specs.Laying.{Inside}
@@ -24,17 +21,13 @@ len : (c : After-line_len-len)
 len c =
     c.line_len-len.ensures ∙ ap (len_of c.args.c) c.part_at-p.ensures
 
--- The output keeps its length.
-long : (l : At-loop-m) → length l.loop-m.out ≡ length l.args.out.now
-long l = l.loop-m.invariant.1 ∙ ap length l.put_grid-at.ensures.1 ∙ length-sets {A = ℕ} l.args.out.now 0 (framed (grid_line l.args.c.grid l.args.rows.now))
-
 pub put_grid-at-requires : goal.put_grid-at-requires
 put_grid-at-requires c =
     let told = c.lines_behind-lines in
     (c.requires.0.dims, c.requires.1, omega (arith, c.requires.2, all_length c.args.c c.args.rows.now c.requires.0.dims c.requires.0.some c.requires.0.most told.result told.ensures))
 
 pub loop-m-init : goal.loop-m-init
-loop-m-init c = (search rules, search rules, rw sub-zero, rw sub-zero)
+loop-m-init c = (rw sub-zero, rw sub-zero)
 
 pub part_at-p-requires : goal.part_at-p-requires
 part_at-p-requires c = (c.requires.0.most, omega (arith, c.loop-m-test.true, most-lines (goal.at.part_at-p-requires c).At-loop-m))
@@ -54,8 +47,7 @@ put_frame-at-requires c =
       omega (
         arith,
         len (goal.at.put_frame-at-requires c).After-line_len-len,
-        long (goal.at.put_frame-at-requires c).At-loop-m,
-        c.loop-m.invariant.2,
+        c.loop-m.invariant.0,
         c.put_grid-at.ensures.0,
         c.requires.2,
         all_length a c.args.rows.now c.requires.0.dims c.requires.0.some c.requires.0.most told.result told.ensures,
@@ -67,24 +59,19 @@ pub loop-m-preserved : goal.loop-m-preserved
 loop-m-preserved c =
     let e = c.put_frame-at.ensures in
     let lines = c.lines_behind-lines.result in (
-      search rules,
-      ap length e.1 ∙ simp length-sets c.loop-m.invariant.1,
-      omega (arith, e.0, len (goal.at.loop-m-preserved c).After-line_len-len, c.loop-m.invariant.2, more_length c.args.c c.args.rows.now c.loop-m.m lines c.requires.0.dims c.requires.0.most c.loop-m-test.true),
+      omega (arith, e.0, len (goal.at.loop-m-preserved c).After-line_len-len, c.loop-m.invariant.0, more_length c.args.c c.args.rows.now c.loop-m.m lines c.requires.0.dims c.requires.0.most c.loop-m-test.true),
       rw (e.0, e.1, c.row-x.ensures, c.line_len-len.ensures, c.part_at-p.ensures)
           (line_on c.args.c c.args.rows.now c.loop-m.m lines c.requires.0.dims c.requires.0.most c.loop-m-test.true c.loop-m.out c.loop-m.at)
-          ∙ c.loop-m.invariant.3,
+          ∙ c.loop-m.invariant.1,
     )
-
-pub shape_of-out : goal.shape_of-out
-shape_of-out c = long (goal.at.shape_of-out c).At-loop-m
 
 pub returns : goal.returns
 returns c =
     let g = c.put_grid-at.ensures in
     let told = c.lines_behind-lines in
     let none = no_more c.args.c c.args.rows.now c.loop-m.m told.result c.loop-m-test.false in (
-      omega (arith, c.loop-m.invariant.2, ap length none, g.0, all_length c.args.c c.args.rows.now c.requires.0.dims c.requires.0.some c.requires.0.most told.result told.ensures),
+      omega (arith, c.loop-m.invariant.0, ap length none, g.0, all_length c.args.c c.args.rows.now c.requires.0.dims c.requires.0.some c.requires.0.most told.result told.ensures),
       ap (λ t. sets c.loop-m.out c.loop-m.at t) (sym none)
-          ∙ c.loop-m.invariant.3
+          ∙ c.loop-m.invariant.1
           ∙ all_laid c.args.c c.args.rows.now c.requires.0.dims c.requires.0.some c.requires.0.most told.result told.ensures _ _ _ g.0 g.1,
     )

@@ -7,11 +7,11 @@ pub offset_row-requires : goal.offset_row-requires
 offset_row-requires c =
     omega (arith, c.requires.0, offset_inside _ _ _ c.requires.1 c.in-Offset.is)
 
-pub offset_bounds-capacities-k : goal.offset_bounds-capacities-k
-offset_bounds-capacities-k c = omega (arith, capacity_inside _ _ _ c.requires.1 c.in-Capacity.is, c.requires.0)
+pub offset_bounds-c-k : goal.offset_bounds-c-k
+offset_bounds-c-k c = omega (arith, capacity_inside _ _ _ c.requires.1 c.in-Capacity.is, c.requires.0)
 
-pub bounds-capacities-k : goal.bounds-capacities-k
-bounds-capacities-k c = omega (arith, capacity_inside _ _ _ c.requires.1 c.in-Capacity.is, c.requires.0)
+pub bounds-c-k : goal.bounds-c-k
+bounds-c-k c = omega (arith, capacity_inside _ _ _ c.requires.1 c.in-Capacity.is, c.requires.0)
 
 pub returns-in-Offset : goal.returns-in-Offset
 unfolding row_of

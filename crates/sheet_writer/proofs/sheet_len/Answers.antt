@@ -3,7 +3,6 @@ use mathlib.Core.Path.{◌≡◌, ap, ◌∙◌}
 use native.Mathlib.Nat.{sub-zero}
 use native.Mathlib.Omega.{arith}
 use lib.ListN.{length}
-use borrow.Author.Rules.{rules}
 use Rattle.model_sheet.specs.Frames.{kept}
 use Rattle.sheet_laws.specs.Sections.{len_of, part_at}
 use Rattle.sheet_writer.proofs.LayLaws.{fit, few_bytes, few_lines, more_length, no_more, all_length}
@@ -39,7 +38,7 @@ pub overflow_add-total : goal.overflow_add-total
 overflow_add-total c = omega (arith, grid-few c)
 
 pub loop-m-init : goal.loop-m-init
-loop-m-init c = (search rules, omega (arith, grid-few c), λ rows. rw sub-zero)
+loop-m-init c = (omega (arith, grid-few c), λ rows. rw sub-zero)
 
 pub part_at-requires : goal.part_at-requires
 part_at-requires c = (c.requires.most, omega (arith, c.loop-m-test.true, most-lines (goal.at.part_at-requires c).At-loop-m))
@@ -55,12 +54,11 @@ overflow_add-total-in-loop-m-2 c = omega (arith, short c, most-lines (goal.at.ov
 
 pub loop-m-preserved : goal.loop-m-preserved
 loop-m-preserved c = (
-  search rules,
   omega (arith, short c),
   λ rows. omega (
     arith,
     len c,
-    c.loop-m.invariant.2 rows,
+    c.loop-m.invariant.1 rows,
     more_length c.args.c rows c.loop-m.m c.lines_behind-lines.result c.requires.dims c.requires.most c.loop-m-test.true,
   ),
 )
@@ -70,4 +68,4 @@ returns c = λ rows.
     let told = c.lines_behind-lines in
     let none = no_more c.args.c rows c.loop-m.m told.result c.loop-m-test.false in
     let all = all_length c.args.c rows c.requires.dims c.requires.some c.requires.most told.result told.ensures in
-    omega (arith, c.loop-m.invariant.2 rows, c.grid_len.ensures, ap length none, all)
+    omega (arith, c.loop-m.invariant.1 rows, c.grid_len.ensures, ap length none, all)

@@ -9,7 +9,4 @@ use Rattle.sheet_writer.proofs.sheet_len.Given as goal
 
 abbrev pub invariant-loop-m : goal.invariant-loop-m
 invariant-loop-m l =
-    (l.m ≤ l.lines) × (l.total ≤ 2 * 2051 + 1 + (2 * kept + 1) * l.m) × ((rows : List ℕ) → l.total + length (lines_from l.c rows (1 + l.m) (l.lines - l.m)) ≡ l.initial.total + length (lines_from l.c rows 1 l.lines))
-
-abbrev pub decreases-loop-m : goal.decreases-loop-m
-decreases-loop-m l = l.lines - l.m
+    (l.total ≤ 2 * 2051 + 1 + (2 * kept + 1) * l.m) × ((rows : List ℕ) → l.total + length (lines_from l.c rows (1 + l.m) (l.lines - l.m)) ≡ l.initial.total + length (lines_from l.c rows 1 l.lines))

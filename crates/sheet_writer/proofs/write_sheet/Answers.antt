@@ -17,7 +17,7 @@ fine : (c : Else-bad_rows) → (let a = c.args in (a.c.grid.skewed && bad_rows (
 fine c = sym c.bad_rows.ensures ∙ c.if-bad_rows.false
 
 dims : (c : Else-bad_dims) → bad_dims (dims_of c.args.c.grid) ≡ false
-dims c = rw c.dims_of-dims.ensures at (sym c.bad_dims.ensures ∙ c.if-bad_dims.false)
+dims c = rw c.dims_of.ensures at (sym c.bad_dims.ensures ∙ c.if-bad_dims.false)
 
 count : (c : Else-bad_count) → bad_count c.args.c.window.count ≡ false
 count c = sym c.bad_count.ensures ∙ c.if-bad_count.false
@@ -27,7 +27,7 @@ returns-then-bad_rows c = rows_turned _ _ _ (sym c.bad_rows.ensures ∙ c.if-bad
 
 pub returns-then-bad_dims : goal.returns-then-bad_dims
 returns-then-bad_dims c =
-    dims_turned _ _ _ (fine (goal.at.returns-then-bad_dims c).Else-bad_rows) (rw c.dims_of-dims.ensures at (sym c.bad_dims.ensures ∙ c.if-bad_dims.true))
+    dims_turned _ _ _ (fine (goal.at.returns-then-bad_dims c).Else-bad_rows) (rw c.dims_of.ensures at (sym c.bad_dims.ensures ∙ c.if-bad_dims.true))
 
 pub returns-then-bad_count : goal.returns-then-bad_count
 returns-then-bad_count c =
@@ -39,7 +39,7 @@ fit c = let a = c.args in rows_fit a.c.grid a.rows.now (fine c)
 counts : (c : Else-bad_count) → Counted c.args.c
 counts c =
     let dims-now : bad_dims (dims_of c.args.c.grid) ≡ false =
-    rw c.dims_of-dims.ensures at (sym c.bad_dims.ensures ∙ c.if-bad_dims.false) in
+    rw c.dims_of.ensures at (sym c.bad_dims.ensures ∙ c.if-bad_dims.false) in
     let fine-now : (let a = c.args in (a.c.grid.skewed && bad_rows (rows_of a.c.grid.rows a.rows.now)) ≡ false) =
     sym c.bad_rows.ensures ∙ c.if-bad_rows.false in
     let fit-now : (let a = c.args in RowsFit a.c.grid a.rows.now) =
@@ -59,13 +59,13 @@ returns-then-out-sheet_len c =
     let a = c.args in
     no_room _ _ _ (fine (goal.at.returns-then-out-sheet_len c).Else-bad_rows) (dims (goal.at.returns-then-out-sheet_len c).Else-bad_dims) (count (goal.at.returns-then-out-sheet_len c).Else-bad_count) (omega (arith, c.sheet_len.ensures a.rows.now, c.if-out-sheet_len.true))
 
-pub put_sheet-bytes-requires : goal.put_sheet-bytes-requires
-put_sheet-bytes-requires c =
+pub put_sheet-requires : goal.put_sheet-requires
+put_sheet-requires c =
     let a = c.args in
-    (counts (goal.at.put_sheet-bytes-requires c).Else-bad_count, fit (goal.at.put_sheet-bytes-requires c).Else-bad_rows, omega (arith, c.sheet_len.ensures a.rows.now, c.if-out-sheet_len.false))
+    (counts (goal.at.put_sheet-requires c).Else-bad_count, fit (goal.at.put_sheet-requires c).Else-bad_rows, omega (arith, c.sheet_len.ensures a.rows.now, c.if-out-sheet_len.false))
 
 pub returns : goal.returns
 returns c =
     let a = c.args in
     laid _ _ _ (fine (goal.at.returns c).Else-bad_rows) (dims (goal.at.returns c).Else-bad_dims) (count (goal.at.returns c).Else-bad_count) _ _ (omega (arith, c.sheet_len.ensures a.rows.now, c.if-out-sheet_len.false))
-    c.put_sheet-bytes.ensures.0 c.put_sheet-bytes.ensures.1
+    c.put_sheet.ensures.0 c.put_sheet.ensures.1

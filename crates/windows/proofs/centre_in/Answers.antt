@@ -10,8 +10,7 @@ use Rattle.windows.proofs.centre_in.Goals as goal
 use Rattle.windows.proofs.centre_in.Goals.{After-same_offset}
 
 pub loop-k-init : goal.loop-k-init
-loop-k-init c =
-    (omega arith, zero-add _ ∙ ap centre_of (part_all (offset_at c.args.dims c.args.offsets.now) c.args.count))
+loop-k-init c = zero-add _ ∙ ap centre_of (part_all (offset_at c.args.dims c.args.offsets.now) c.args.count)
 
 -- What the test says of reference k.
 tested : (c : After-same_offset) →
@@ -22,15 +21,13 @@ tested c =
 
 pub returns-then-same_offset : goal.returns-then-same_offset
 returns-then-same_offset c =
-    centre_here (offset_at c.args.dims c.args.offsets.now) c.loop-k.k c.args.count (omega arith) (sym (tested (goal.at.returns-then-same_offset c).After-same_offset) ∙ c.if-same_offset.true) ∙ c.loop-k.invariant.1
+    centre_here (offset_at c.args.dims c.args.offsets.now) c.loop-k.k c.args.count (omega arith) (sym (tested (goal.at.returns-then-same_offset c).After-same_offset) ∙ c.if-same_offset.true) ∙ c.loop-k.invariant
 
 pub loop-k-preserved : goal.loop-k-preserved
-loop-k-preserved c = (
-  omega arith,
-  centre_on (offset_at c.args.dims c.args.offsets.now) c.loop-k.k c.args.count (omega arith) (sym (tested (goal.at.loop-k-preserved c).After-same_offset) ∙ c.if-same_offset.false) ∙ c.loop-k.invariant.1,
-)
+loop-k-preserved c =
+    centre_on (offset_at c.args.dims c.args.offsets.now) c.loop-k.k c.args.count (omega arith) (sym (tested (goal.at.loop-k-preserved c).After-same_offset) ∙ c.if-same_offset.false) ∙ c.loop-k.invariant
 
 pub returns : goal.returns
 returns c =
     let e : c.args.count ≡ c.loop-k.k = omega arith in
-    e ∙ centre_end (offset_at c.args.dims c.args.offsets.now) c.loop-k.k c.args.count c.loop-k-test.false ∙ c.loop-k.invariant.1
+    e ∙ centre_end (offset_at c.args.dims c.args.offsets.now) c.loop-k.k c.args.count c.loop-k-test.false ∙ c.loop-k.invariant

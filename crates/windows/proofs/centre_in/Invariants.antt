@@ -1,4 +1,4 @@
-use Prim.Native.Nat.{◌+◌, ◌-◌, ◌≤◌}
+use Prim.Native.Nat.{◌+◌}
 use mathlib.Core.Path.{◌≡◌}
 use Rattle.model.specs.Lists.{tabulate}
 use Rattle.model.specs.Windows.{centre_of}
@@ -6,7 +6,4 @@ use Rattle.geometry.specs.Parts.{part, offset_at}
 use Rattle.windows.proofs.centre_in.Given as goal
 
 abbrev pub invariant-loop-k : goal.invariant-loop-k
-invariant-loop-k l = (l.k ≤ l.count) × (l.k + centre_of (part (offset_at l.dims l.offsets) l.k l.count) ≡ centre_of (tabulate l.count (offset_at l.dims l.offsets)))
-
-abbrev pub decreases-loop-k : goal.decreases-loop-k
-decreases-loop-k l = l.count - l.k
+invariant-loop-k l = l.k + centre_of (part (offset_at l.dims l.offsets) l.k l.count) ≡ centre_of (tabulate l.count (offset_at l.dims l.offsets))

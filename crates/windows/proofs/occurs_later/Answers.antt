@@ -7,7 +7,7 @@ use Rattle.windows.proofs.occurs_later.Goals as goal
 use Rattle.windows.proofs.occurs_later.Goals.{After-same_offset}
 
 pub loop-j-init : goal.loop-j-init
-loop-j-init c = (omega arith, omega arith, refl)
+loop-j-init c = refl
 
 -- What the test compares.
 tested : (c : After-same_offset) →
@@ -20,16 +20,13 @@ tested c =
 pub returns-then-same_offset : goal.returns-then-same_offset
 returns-then-same_offset c =
     any_here (offset_at c.args.dims c.args.offsets.now) c.loop-j.j c.args.count (equal (offset_at c.args.dims c.args.offsets.now c.args.k)) (omega arith)
-    (sym (tested (goal.at.returns-then-same_offset c).After-same_offset) ∙ c.if-same_offset.true) ∙ c.loop-j.invariant.2
+    (sym (tested (goal.at.returns-then-same_offset c).After-same_offset) ∙ c.if-same_offset.true) ∙ c.loop-j.invariant
 
 pub loop-j-preserved : goal.loop-j-preserved
-loop-j-preserved c = (
-  omega arith,
-  omega arith,
-  any_on (offset_at c.args.dims c.args.offsets.now) c.loop-j.j c.args.count (equal (offset_at c.args.dims c.args.offsets.now c.args.k)) (omega arith)
-      (sym (tested (goal.at.loop-j-preserved c).After-same_offset) ∙ c.if-same_offset.false) ∙ c.loop-j.invariant.2,
-)
+loop-j-preserved c =
+    any_on (offset_at c.args.dims c.args.offsets.now) c.loop-j.j c.args.count (equal (offset_at c.args.dims c.args.offsets.now c.args.k)) (omega arith)
+    (sym (tested (goal.at.loop-j-preserved c).After-same_offset) ∙ c.if-same_offset.false) ∙ c.loop-j.invariant
 
 pub returns : goal.returns
 returns c =
-    any_end (offset_at c.args.dims c.args.offsets.now) c.loop-j.j c.args.count (equal (offset_at c.args.dims c.args.offsets.now c.args.k)) (omega arith) ∙ c.loop-j.invariant.2
+    any_end (offset_at c.args.dims c.args.offsets.now) c.loop-j.j c.args.count (equal (offset_at c.args.dims c.args.offsets.now c.args.k)) (omega arith) ∙ c.loop-j.invariant

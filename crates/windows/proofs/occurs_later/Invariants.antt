@@ -1,5 +1,5 @@
 -- The loop's invariant: the references from j on decide.
-use Prim.Native.Nat.{◌+◌, ◌-◌, ◌≤◌, ◌<◌}
+use Prim.Native.Nat.{◌+◌}
 use mathlib.Core.Path.{◌≡◌}
 use Rattle.model.specs.Lists.{any}
 use Rattle.model.specs.Vectors.{equal}
@@ -8,8 +8,4 @@ use Rattle.windows.proofs.occurs_later.Given as goal
 
 abbrev pub invariant-loop-j : goal.invariant-loop-j
 invariant-loop-j l =
-    (l.k < l.j) × (l.j ≤ l.count)
-    × (any (equal (offset_at l.dims l.offsets l.k)) (part (offset_at l.dims l.offsets) l.j l.count) ≡ any (equal (offset_at l.dims l.offsets l.k)) (part (offset_at l.dims l.offsets) (l.k + 1) l.count))
-
-abbrev pub decreases-loop-j : goal.decreases-loop-j
-decreases-loop-j l = l.count - l.j
+    any (equal (offset_at l.dims l.offsets l.k)) (part (offset_at l.dims l.offsets) l.j l.count) ≡ any (equal (offset_at l.dims l.offsets l.k)) (part (offset_at l.dims l.offsets) (l.k + 1) l.count)

@@ -1,3 +1,4 @@
+use borrow.Author.Rules.{rules}
 use Rattle.geometry.proofs.EntryLaws.{entry_back}
 use Rattle.windows.proofs.OffsetLaws.{no_offset, offset_there}
 use Rattle.windows.proofs.offset_of.Goals as goal
@@ -7,4 +8,4 @@ returns-then-k-ge32 c = no_offset c.args.offsets.now c.args.k c.if-k-ge32.true
 
 pub returns : goal.returns
 returns c =
-    offset_there c.args.offsets.now c.args.k _ _ _ _ c.if-k-ge32.false (entry_back _ c.w-1.given) (entry_back _ c.x-1.given) (entry_back _ c.y-1.given) (entry_back _ c.z-1.given)
+    offset_there c.args.offsets.now c.args.k _ _ _ _ c.if-k-ge32.false (entry_back _ (search rules)) (entry_back _ (search rules)) (entry_back _ (search rules)) (entry_back _ (search rules))

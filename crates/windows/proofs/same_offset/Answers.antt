@@ -1,31 +1,10 @@
-use mathlib.Core.Path.{◌∙◌, ap₂}
+use mathlib.Core.Path.{◌∙◌}
 use native.Mathlib.Omega.{arith}
-use Rattle.model.specs.Vectors.{equal}
-use Rattle.geometry.proofs.PartLaws.{part_all}
-use Rattle.geometry.proofs.EntryLaws.{same_bits, other_bits}
-use Rattle.windows.proofs.OffsetLaws.{equal_on, equal_not, equal_end, past_four}
-use Rattle.windows.proofs.same_offset.Invariants.{at}
+use Rattle.windows.proofs.OffsetLaws.{equal_slices, first_four}
 use Rattle.windows.proofs.same_offset.Goals as goal
-
-pub loop-d-init : goal.loop-d-init
-loop-d-init c =
-    (c.lesser-n.ensures, omega arith, ap₂ equal (part_all (at c.args.a) c.args.dims) (part_all (at c.args.b) c.args.dims))
-
-pub returns-then-x-y : goal.returns-then-x-y
-returns-then-x-y c =
-    equal_not (at c.args.a) (at c.args.b) c.loop-d.d c.args.dims (omega arith) (other_bits _ _ c.if-x-y.true) ∙ c.loop-d.invariant.2
-
-pub loop-d-preserved : goal.loop-d-preserved
-loop-d-preserved c =
-    let x = at c.args.a c.loop-d.d in
-    let y = at c.args.b c.loop-d.d in (
-      c.loop-d.invariant.0,
-      omega arith,
-      equal_on (at c.args.a) (at c.args.b) c.loop-d.d c.args.dims (omega arith)
-          (same_bits x y c.x-1.given c.y-1.given c.if-x-y.false) ∙ c.loop-d.invariant.2,
-    )
 
 pub returns : goal.returns
 returns c =
-    equal_end (at c.args.a) (at c.args.b) c.loop-d.d c.args.dims (past_four c.args.a c.args.b c.args.dims c.loop-d.d (omega arith) (omega arith) (omega arith))
-    ∙ c.loop-d.invariant.2
+    let a = first_four c.min-n.result c.args.dims c.args.a c.min-n.ensures (omega arith) in
+    let b = first_four c.min-n.result c.args.dims c.args.b c.min-n.ensures (omega arith) in
+    rw (a, b) at c.eq.ensures ∙ equal_slices c.args.dims c.args.a c.args.b (omega arith)

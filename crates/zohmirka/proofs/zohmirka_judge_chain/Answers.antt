@@ -7,4 +7,4 @@ use Rattle.zohmirka.proofs.zohmirka_judge_chain.Goals as goal
 pub returns : goal.returns
 returns c =
     let rows = c.args.rows.now in
-    c.number.ensures ∙ ap verdict_number (c.judge_chain-judged.ensures ∙ ap (λ (x : Chain). judge_chain x rows) c.chain_in.ensures)
+    c.number.ensures ∙ ap verdict_number (c.judge_chain.ensures ∙ ap (λ (x : Chain). judge_chain x rows) c.chain_in.ensures)

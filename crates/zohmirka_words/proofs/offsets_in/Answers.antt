@@ -11,15 +11,13 @@ use Rattle.zohmirka_words.proofs.WordLaws.{front_none, front_more, front_whole}
 use Rattle.zohmirka_words.proofs.offsets_in.Goals as goal
 
 pub loop-i-init : goal.loop-i-init
-loop-i-init c = (omega arith, front_none (λ j. signed (word_at c.args.words.now (c.args.from + j) % 65536)) (replicate 128 (pos 0)))
+loop-i-init c = front_none (λ j. signed (word_at c.args.words.now (c.args.from + j) % 65536)) (replicate 128 (pos 0))
 
 pub loop-i-preserved : goal.loop-i-preserved
-loop-i-preserved c = (
-  omega arith,
-  front_more (λ j. signed (word_at c.args.words.now (c.args.from + j) % 65536)) c.loop-i.i (replicate 128 (pos 0)) c.loop-i.offsets _ (rw length-replicate (omega arith))
-      (to_z-of_z {w = w16} {z = c.entry-x.result} (record { sfits = c.entry-x.type_inv }) ∙ c.entry-x.ensures ∙ ap signed c.low_half.ensures) c.loop-i.invariant.1,
-)
+loop-i-preserved c =
+    front_more (λ j. signed (word_at c.args.words.now (c.args.from + j) % 65536)) c.loop-i.i (replicate 128 (pos 0)) c.loop-i.offsets _ (rw length-replicate (omega arith))
+    (to_z-of_z {w = w16} {z = c.entry.result} (record { sfits = c.entry.type_inv }) ∙ c.entry.ensures ∙ ap signed c.low_half.ensures) c.loop-i.invariant
 
 pub returns : goal.returns
 returns c =
-    front_whole (λ j. signed (word_at c.args.words.now (c.args.from + j) % 65536)) 128 (pos 0) c.loop-i.i c.loop-i.offsets (omega arith) (omega arith) c.loop-i.invariant.1
+    front_whole (λ j. signed (word_at c.args.words.now (c.args.from + j) % 65536)) 128 (pos 0) c.loop-i.i c.loop-i.offsets (omega arith) (omega arith) c.loop-i.invariant

@@ -1,4 +1,4 @@
-use Prim.Native.Nat.{◌+◌, ◌-◌, ◌%◌, ◌≤◌}
+use Prim.Native.Nat.{◌+◌, ◌%◌}
 use mathlib.Core.Path.{◌≡◌}
 use lib.IntN.{pos}
 use lib.ListN.{replicate}
@@ -8,7 +8,4 @@ use Rattle.zohmirka_words.proofs.WordLaws.{front}
 use Rattle.zohmirka_words.proofs.offsets_in.Given as goal
 
 abbrev pub invariant-loop-i : goal.invariant-loop-i
-invariant-loop-i l = (l.i ≤ 128) × (l.offsets ≡ front (λ j. signed (word_at l.words (l.from + j) % 65536)) l.i (replicate 128 (pos 0)))
-
-abbrev pub decreases-loop-i : goal.decreases-loop-i
-decreases-loop-i l = 128 - l.i
+invariant-loop-i l = l.offsets ≡ front (λ j. signed (word_at l.words (l.from + j) % 65536)) l.i (replicate 128 (pos 0))

@@ -7,13 +7,13 @@ use Rattle.zohmirka_words.proofs.WordLaws.{front_none, front_more, front_whole, 
 use Rattle.zohmirka_words.proofs.order_in.Goals as goal
 
 pub loop-t-init : goal.loop-t-init
-loop-t-init c = (omega arith, front_none (λ i. count_in (word_at c.args.words.now (169 + i))) (replicate 32 0))
+loop-t-init c = front_none (λ i. count_in (word_at c.args.words.now (169 + i))) (replicate 32 0)
 
 pub loop-t-preserved : goal.loop-t-preserved
 loop-t-preserved c =
-    (omega arith, front_more (λ i. count_in (word_at c.args.words.now (169 + i))) c.loop-t.t (replicate 32 0) c.loop-t.filters _ (rw length-replicate (omega arith)) c.count_in.ensures c.loop-t.invariant.1)
+    front_more (λ i. count_in (word_at c.args.words.now (169 + i))) c.loop-t.t (replicate 32 0) c.loop-t.filters _ (rw length-replicate (omega arith)) c.count_in.ensures c.loop-t.invariant
 
 pub returns : goal.returns
 returns c =
     order_of_words _ _ _ refl
-    (front_whole (λ i. count_in (word_at c.args.words.now (169 + i))) 32 0 c.loop-t.t c.loop-t.filters (omega arith) (omega arith) c.loop-t.invariant.1)
+    (front_whole (λ i. count_in (word_at c.args.words.now (169 + i))) 32 0 c.loop-t.t c.loop-t.filters (omega arith) (omega arith) c.loop-t.invariant)

@@ -1,4 +1,4 @@
-use Prim.Native.Nat.{◌+◌, ◌-◌, ◌≤◌}
+use Prim.Native.Nat.{◌+◌}
 use mathlib.Core.Path.{◌≡◌}
 use lib.ListN.{replicate}
 use Rattle.zohmirka_words.specs.Words.{word_at, count_in}
@@ -6,7 +6,4 @@ use Rattle.zohmirka_words.proofs.WordLaws.{front}
 use Rattle.zohmirka_words.proofs.order_in.Given as goal
 
 abbrev pub invariant-loop-t : goal.invariant-loop-t
-invariant-loop-t l = (l.t ≤ 32) × (l.filters ≡ front (λ i. count_in (word_at l.words (169 + i))) l.t (replicate 32 0))
-
-abbrev pub decreases-loop-t : goal.decreases-loop-t
-decreases-loop-t l = 32 - l.t
+invariant-loop-t l = l.filters ≡ front (λ i. count_in (word_at l.words (169 + i))) l.t (replicate 32 0)

@@ -19,21 +19,19 @@ returns-then-n-eq0 c = (
 
 pub loop-k-init : goal.loop-k-init
 loop-k-init c = (
-  omega arith,
   c.columns_of-last.ensures.0 ∙ greatest_last (λ i. (row (rows_of c.args.count c.args.rows.now) (number_at c.args.down.now i + c.args.u)).start - number_at c.args.on.now i) c.args.n (omega arith),
   c.columns_of-last.ensures.1 ∙ smallest_last (λ i. end_of (row (rows_of c.args.count c.args.rows.now) (number_at c.args.down.now i + c.args.u)) - number_at c.args.on.now i) c.args.n (omega arith),
 )
 
 pub loop-k-preserved : goal.loop-k-preserved
 loop-k-preserved c = (
-  omega arith,
-  c.greater-start.ensures ∙ ap₂ max c.columns_of-here.ensures.0 c.loop-k.invariant.1 ∙ greatest_back (λ i. (row (rows_of c.args.count c.args.rows.now) (number_at c.args.down.now i + c.args.u)).start - number_at c.args.on.now i) c.loop-k.k c.args.n (omega arith) (omega (arith, c.loop-k.invariant.0)),
-  c.lesser-end.ensures ∙ ap₂ min c.columns_of-here.ensures.1 c.loop-k.invariant.2 ∙ smallest_back (λ i. end_of (row (rows_of c.args.count c.args.rows.now) (number_at c.args.down.now i + c.args.u)) - number_at c.args.on.now i) c.loop-k.k c.args.n (omega arith) c.loop-k.invariant.0,
+  c.max-start.ensures ∙ ap₂ max c.columns_of-here.ensures.0 c.loop-k.invariant.0 ∙ greatest_back (λ i. (row (rows_of c.args.count c.args.rows.now) (number_at c.args.down.now i + c.args.u)).start - number_at c.args.on.now i) c.loop-k.k c.args.n (omega arith) (omega arith),
+  c.min-end.ensures ∙ ap₂ min c.columns_of-here.ensures.1 c.loop-k.invariant.1 ∙ smallest_back (λ i. end_of (row (rows_of c.args.count c.args.rows.now) (number_at c.args.down.now i + c.args.u)) - number_at c.args.on.now i) c.loop-k.k c.args.n (omega arith) (omega arith),
 )
 
 pub returns : goal.returns
 unfolding start_in end_in
 returns c = (
-  c.loop-k.invariant.1 ∙ greatest_all (λ i. (row (rows_of c.args.count c.args.rows.now) (number_at c.args.down.now i + c.args.u)).start - number_at c.args.on.now i) c.loop-k.k c.args.n (omega arith),
-  c.loop-k.invariant.2 ∙ smallest_all (λ i. end_of (row (rows_of c.args.count c.args.rows.now) (number_at c.args.down.now i + c.args.u)) - number_at c.args.on.now i) c.loop-k.k c.args.n (omega arith),
+  c.loop-k.invariant.0 ∙ greatest_all (λ i. (row (rows_of c.args.count c.args.rows.now) (number_at c.args.down.now i + c.args.u)).start - number_at c.args.on.now i) c.loop-k.k c.args.n (omega arith),
+  c.loop-k.invariant.1 ∙ smallest_all (λ i. end_of (row (rows_of c.args.count c.args.rows.now) (number_at c.args.down.now i + c.args.u)) - number_at c.args.on.now i) c.loop-k.k c.args.n (omega arith),
 )

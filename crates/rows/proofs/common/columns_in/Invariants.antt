@@ -1,4 +1,4 @@
-use Prim.Native.Nat.{◌+◌, ◌-◌, ◌<◌}
+use Prim.Native.Nat.{◌+◌, ◌-◌}
 use mathlib.Core.Path.{◌≡◌}
 use Rattle.model.specs.Lists.{greatest}
 use Rattle.model.specs.Courses.{smallest}
@@ -9,9 +9,5 @@ use Rattle.rows.proofs.common.columns_in.Given as goal
 
 abbrev pub invariant-loop-k : goal.invariant-loop-k
 invariant-loop-k l =
-    (l.k < l.n)
-    × (l.start ≡ greatest (part (λ i. (row (rows_of l.count l.rows) (number_at l.down i + l.u)).start - number_at l.on i) l.k l.n))
+    (l.start ≡ greatest (part (λ i. (row (rows_of l.count l.rows) (number_at l.down i + l.u)).start - number_at l.on i) l.k l.n))
     × (l.end ≡ smallest (part (λ i. end_of (row (rows_of l.count l.rows) (number_at l.down i + l.u)) - number_at l.on i) l.k l.n))
-
-abbrev pub decreases-loop-k : goal.decreases-loop-k
-decreases-loop-k l = l.k

@@ -18,7 +18,7 @@ returns-then-take_up_rows c =
     let cells = c.cells_above.ensures in
     let rows = c.iterations_above.ensures in
     λ bases tops store T.
-    rows_refused (in_rows c.args.chain) _ _ _ _ _ _ _ _ _ _ _ c.refused.ensures
+    rows_refused (in_rows c.args.chain) _ _ _ _ _ _ _ _ _ _
     (judged_bad (in_rows c.args.chain) _ _ _ ok T.long
     (sym (c.take_up_rows.ensures _ (found_counted c.args.chain _ ok c.args.found c.requires.0 _ _ cells rows) (found_read c.args.chain _ ok c.args.found c.requires.0 _ _ cells rows) T.capable.capped).1.bad_is
     ∙ c.if-take_up_rows.true))

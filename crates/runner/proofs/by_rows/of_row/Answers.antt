@@ -1,14 +1,14 @@
 -- `of_row` makes the clocks of the row's stretch. Assumes nothing.
-use Rattle.runner.proofs.RowTableLaws.{few, row_none, at_small, row_stretching}
+use Rattle.runner.proofs.RowTableLaws.{row_none, at_small, row_stretching}
 use Rattle.runner.proofs.by_rows.of_row.Goals as goal
 
 pub returns-then-length-fired : goal.returns-then-length-fired
-returns-then-length-fired c = λ t T A. row_none T A.below A c.if-length-fired.true _ _ _
+returns-then-length-fired c = λ t T A. rw c.no_clocks.ensures (row_none T A.below A c.if-length-fired.true _ _ _)
 
-pub advance-requires : goal.advance-requires
-advance-requires c =
+pub advance-requires-clause-by_index : goal.advance-requires-clause-by_index
+advance-requires-clause-by_index c =
     let P = c.requires in
-    record { n_bound = (few P.1, c.reads.ensures.long); by_index = at_small P.1 P.2.below c.reads.ensures P.2 c.if-length-fired.false }
+    at_small P.1 P.2.below c.reads.ensures P.2 c.if-length-fired.false
 
 pub stretch_clocks-requires : goal.stretch_clocks-requires
 stretch_clocks-requires c =

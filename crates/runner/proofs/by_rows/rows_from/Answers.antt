@@ -1,69 +1,17 @@
 use Prim.Native.Nat.{◌+◌, ◌≤◌}
-use mathlib.Core.Path.{◌∙◌}
 use native.Mathlib.Omega.{arith}
 use lib.ListN.{length}
-use Rattle.runner.proofs.FitLaws.{small_fits, bytes_fit}
+use Rattle.runner.proofs.FitLaws.{small_fits}
 use Rattle.runner.proofs.RowTableLaws.{few_rows}
-use Rattle.runner.proofs.RowCallLaws.{rows_start, so_far, rows_done, out_so, row_order, row_begun, at_row, row_counts, rows_on, rows_stopped}
+use Rattle.runner.proofs.RowCallLaws.{rows_done, at_row, row_counts, rows_on, rows_stopped}
 use Rattle.runner.proofs.by_rows.rows_from.Goals as goal
 use Rattle.runner.proofs.by_rows.rows_from.Goals.{After-of_row-s}
-
-pub loop-v-init : goal.loop-v-init
-loop-v-init c = λ t R. rows_start R c.width-width.ensures c.requires.lies_in
 
 pub entry-from-requires : goal.entry-from-requires
 entry-from-requires c = let P = c.requires.row_call in omega (arith, few_rows P.1.tables, c.loop-v-test.true)
 
-pub overflow_add-v : goal.overflow_add-v
-overflow_add-v c = let P = c.requires.row_call in record { fits = omega (arith, few_rows P.1.tables, c.loop-v-test.true) }
-
 pub entry-upto-requires : goal.entry-upto-requires
 entry-upto-requires c = let P = c.requires.row_call in omega (arith, few_rows P.1.tables, c.loop-v-test.true)
-
-pub overflow_mul-o : goal.overflow_mul-o
-overflow_mul-o c =
-    let P = c.requires.row_call in
-    let G = c.loop-v.invariant P.0 P.1 in
-    record { fits = omega (arith, G.room, G.same_out) }
-
-pub overflow_sub-upto : goal.overflow_sub-upto
-overflow_sub-upto c =
-    let P = c.requires.row_call in
-    row_order P.1 c.width-width.ensures (c.loop-v.invariant P.0 P.1) c.loop-v-test.true c.entry-from.ensures c.entry-upto.ensures
-
-pub overflow_add-fired0 : goal.overflow_add-fired0
-overflow_add-fired0 c = let P = c.requires.row_call in small_fits _ (omega (arith, so_far P.1 c.width-width.ensures (c.loop-v.invariant P.0 P.1)))
-
-pub overflow_sub-fired0 : goal.overflow_sub-fired0
-overflow_sub-fired0 c =
-    let P = c.requires.row_call in
-    row_begun P.1 c.width-width.ensures (c.loop-v.invariant P.0 P.1) c.loop-v-test.true c.entry-from.ensures c.entry-upto.ensures
-
-pub offset_bounds-cells-taken : goal.offset_bounds-cells-taken
-offset_bounds-cells-taken c =
-    let P = c.requires.row_call in
-    bytes_fit _ _ (c.loop-v.invariant P.0 P.1).had (omega arith)
-
-pub slice_bounds-of_row-count : goal.slice_bounds-of_row-count
-slice_bounds-of_row-count c = let P = c.requires.row_call in (c.loop-v.invariant P.0 P.1).had
-
-pub slice_bounds-of_row-start : goal.slice_bounds-of_row-start
-slice_bounds-of_row-start c = let P = c.requires.row_call in omega (arith, (c.loop-v.invariant P.0 P.1).had)
-
-pub offset_bounds-out-o : goal.offset_bounds-out-o
-offset_bounds-out-o c =
-    let P = c.requires.row_call in
-    let G = c.loop-v.invariant P.0 P.1 in
-    bytes_fit _ _ G.room (omega (arith, G.same_out))
-
-pub slice_bounds-of_row-count-in-loop-v : goal.slice_bounds-of_row-count-in-loop-v
-slice_bounds-of_row-count-in-loop-v c = let P = c.requires.row_call in (c.loop-v.invariant P.0 P.1).room
-
-pub slice_bounds-of_row-start-in-loop-v : goal.slice_bounds-of_row-start-in-loop-v
-slice_bounds-of_row-start-in-loop-v c = let P = c.requires.row_call in omega (arith, (c.loop-v.invariant P.0 P.1).room)
-
-pub overflow_sub-allowance : goal.overflow_sub-allowance
-overflow_sub-allowance c = let P = c.requires.row_call in (c.loop-v.invariant P.0 P.1).allowed
 
 pub of_row-s-requires : goal.of_row-s-requires
 of_row-s-requires c =
@@ -96,16 +44,6 @@ overflow_add-firings c = record { fits = omega (arith, (counts-after (goal.at.ov
 pub overflow_add-fired0-in-loop-v : goal.overflow_add-fired0-in-loop-v
 overflow_add-fired0-in-loop-v c = small_fits _ (omega (arith, (counts-after (goal.at.overflow_add-fired0-in-loop-v c).After-of_row-s).3))
 
-pub shape_of-store-then-fired0-firings : goal.shape_of-store-then-fired0-firings
-shape_of-store-then-fired0-firings c =
-    let P = c.requires.row_call in
-    c.of_row-s.auto.store ∙ (c.loop-v.invariant P.0 P.1).same_store
-
-pub shape_of-out-then-fired0-firings : goal.shape_of-out-then-fired0-firings
-shape_of-out-then-fired0-firings c =
-    let P = c.requires.row_call in
-    out_so P.1 c.width-width.ensures (c.loop-v.invariant P.0 P.1) c.of_row-s.new.out c.of_row-s.auto.out
-
 pub returns-then-fired0-firings : goal.returns-then-fired0-firings
 returns-then-fired0-firings c =
     λ t R.
@@ -117,12 +55,6 @@ returns-then-fired0-firings c =
     let S = c.of_row-s.ensures t R.tables (at_row R w G v from upto) in
     rows_stopped R w G v from upto S c.if-fired0-firings.true
 
-pub overflow_add-v-in-loop-v : goal.overflow_add-v-in-loop-v
-overflow_add-v-in-loop-v c = let P = c.requires.row_call in record { fits = omega (arith, few_rows P.1.tables, c.loop-v-test.true) }
-
-pub loop-v-smaller : goal.loop-v-smaller
-loop-v-smaller c = omega (arith, c.loop-v-test.true)
-
 pub loop-v-preserved : goal.loop-v-preserved
 loop-v-preserved c =
     λ t R.
@@ -133,12 +65,6 @@ loop-v-preserved c =
     let upto = c.entry-upto.ensures in
     let S = c.of_row-s.ensures t R.tables (at_row R w G v from upto) in
     rows_on R w G v from upto S c.if-fired0-firings.false c.of_row-s.auto.store c.of_row-s.auto.out
-
-pub shape_of-store : goal.shape_of-store
-shape_of-store c = let P = c.requires.row_call in (c.loop-v.invariant P.0 P.1).same_store
-
-pub shape_of-out : goal.shape_of-out
-shape_of-out c = let P = c.requires.row_call in (c.loop-v.invariant P.0 P.1).same_out
 
 pub returns : goal.returns
 returns c = λ t R. rows_done R c.width-width.ensures (c.loop-v.invariant t R) c.loop-v-test.false

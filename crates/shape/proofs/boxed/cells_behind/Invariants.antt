@@ -1,5 +1,5 @@
 -- The loop's invariant: `cells`, and what the indices from d on add, make the sum.
-use Prim.Native.Nat.{ℕ, ◌+◌, ◌-◌, ◌*◌, ◌≤◌}
+use Prim.Native.Nat.{ℕ, ◌+◌, ◌*◌}
 use mathlib.Core.Path.{◌≡◌}
 use mathlib.Core.List.{List}
 use Rattle.model.specs.Lists.{tabulate, sum}
@@ -12,7 +12,4 @@ steps firsts strides d = number_at firsts d * number_at strides d
 
 abbrev pub invariant-loop-d : goal.invariant-loop-d
 invariant-loop-d l =
-    (l.d ≤ l.dims) × (l.cells + sum (part (steps l.firsts l.strides) l.d l.dims) ≡ sum (tabulate l.dims (steps l.firsts l.strides)))
-
-abbrev pub decreases-loop-d : goal.decreases-loop-d
-decreases-loop-d l = l.dims - l.d
+    l.cells + sum (part (steps l.firsts l.strides) l.d l.dims) ≡ sum (tabulate l.dims (steps l.firsts l.strides))

@@ -1,21 +1,7 @@
 use Prim.Native.Nat.{◌+◌}
-use mathlib.Core.Path.{refl}
-use native.Mathlib.Omega.{arith}
 use Rattle.geometry.specs.Parts.{number_at}
-use Rattle.geometry.proofs.FillLaws.{filled_none, filled_more, filled_up_to}
+use Rattle.geometry.proofs.FillLaws.{filled_none}
 use Rattle.shape.proofs.boxed.further.Goals as goal
 
 pub loop-k-init : goal.loop-k-init
-loop-k-init c = (omega arith, filled_none 32 0 (λ i. number_at c.args.at.now i + c.args.cells))
-
-pub overflow_add-r : goal.overflow_add-r
-overflow_add-r c =
-    omega (arith, c.requires.1 c.loop-k.k (omega arith))
-
-pub loop-k-preserved : goal.loop-k-preserved
-loop-k-preserved c =
-    (omega arith, filled_more 32 0 (λ i. number_at c.args.at.now i + c.args.cells) c.loop-k.k c.loop-k.r _ (omega arith) refl c.loop-k.invariant.1)
-
-pub returns : goal.returns
-returns c =
-    filled_up_to 32 0 (λ i. number_at c.args.at.now i + c.args.cells) c.loop-k.k c.args.count c.loop-k.r (omega arith) c.loop-k.invariant.1
+loop-k-init c = filled_none 32 0 (λ i. number_at c.args.at.now i + c.args.cells)

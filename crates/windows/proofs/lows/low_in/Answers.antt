@@ -1,13 +1,12 @@
-use Prim.Native.Nat.{ℕ, ◌+◌}
+use Prim.Native.Nat.{ℕ}
 use mir.Val.{to_z}
 use mir.Syntax.{w16}
 use mathlib.Core.Path.{sym, ◌∙◌, ap}
-use mathlib.Core.Bool.{cond}
 use native.Mathlib.Omega.{arith}
 use native.Mathlib.Nat.{zero-add}
 use lib.IntN.{ℤ, pos}
 use lib.ListN.{get_or}
-use lib.Signed.{lt_z}
+use borrow.Author.Rules.{rules}
 use Rattle.model.specs.Geometry.{least_from}
 use Rattle.geometry.specs.Parts.{part, entry_at}
 use Rattle.geometry.proofs.EntryLaws.{entry_back}
@@ -25,25 +24,17 @@ returns-then-d-ge4 c = low_past c.args.count c.args.offsets.now c.args.d c.if-d-
 
 pub loop-k-init : goal.loop-k-init
 loop-k-init c =
-    let first = entry_back (get_or c.args.offsets.now c.args.d (pos 0)) c.low-1.given ∙ ap (λ (i : ℕ). get_or c.args.offsets.now i (pos 0)) (sym (zero-add c.args.d)) in (
-      omega arith,
-      omega arith,
-      ap (λ (z : ℤ). least_from z (part (λ i. entry_at c.args.offsets.now i c.args.d) 1 c.args.count)) first
-          ∙ least_start (λ i. entry_at c.args.offsets.now i c.args.d) c.args.count (omega arith),
-    )
+    let first = entry_back (get_or c.args.offsets.now c.args.d (pos 0)) (search rules) ∙ ap (λ (i : ℕ). get_or c.args.offsets.now i (pos 0)) (sym (zero-add c.args.d)) in
+    ap (λ (z : ℤ). least_from z (part (λ i. entry_at c.args.offsets.now i c.args.d) 1 c.args.count)) first
+    ∙ least_start (λ i. entry_at c.args.offsets.now i c.args.d) c.args.count (omega arith)
 
 pub loop-k-preserved : goal.loop-k-preserved
 loop-k-preserved c =
-    let low = to_z w16 c.loop-k.low-bits in
     let x = entry_at c.args.offsets.now c.loop-k.k c.args.d in
-    let now-low = entry_back c.lesser-low.result c.lesser-low.type_inv ∙ c.lesser-low.ensures ∙ ap (λ (z : ℤ). cond (lt_z z low) z low) (entry_back x c.x-1.given) in (
-      omega arith,
-      omega arith,
-      ap (λ (z : ℤ). least_from z (part (λ i. entry_at c.args.offsets.now i c.args.d) (c.loop-k.k + 1) c.args.count)) now-low
-          ∙ least_on (λ i. entry_at c.args.offsets.now i c.args.d) low c.loop-k.k c.args.count c.loop-k-test.true ∙ c.loop-k.invariant.2,
-    )
+    least_on (λ i. entry_at c.args.offsets.now i c.args.d) (to_z w16 c.loop-k.low-bits) _ _ c.loop-k.k c.args.count c.loop-k-test.true (entry_back x (search rules)) (search rules)
+    c.loop-k.invariant
 
 pub returns : goal.returns
 returns c =
-    least_end (λ i. entry_at c.args.offsets.now i c.args.d) (to_z w16 c.loop-k.low-bits) c.loop-k.k c.args.count c.loop-k-test.false ∙ c.loop-k.invariant.2
+    least_end (λ i. entry_at c.args.offsets.now i c.args.d) (to_z w16 c.loop-k.low-bits) c.loop-k.k c.args.count c.loop-k-test.false ∙ c.loop-k.invariant
     ∙ sym (low_there c.args.count c.args.offsets.now c.args.d (omega arith) (omega arith))

@@ -1,5 +1,4 @@
 -- The loop's invariant: the least of `low` and the entries from reference k on is the least of all.
-use Prim.Native.Nat.{◌-◌, ◌≤◌}
 use mathlib.Core.Path.{◌≡◌}
 use Rattle.model.specs.Geometry.{least_from, least}
 use Rattle.geometry.specs.Parts.{part, entry_at, entries_in}
@@ -7,7 +6,4 @@ use Rattle.windows.proofs.lows.low_in.Given as goal
 
 abbrev pub invariant-loop-k : goal.invariant-loop-k
 invariant-loop-k l =
-    (1 ≤ l.k) × (l.k ≤ l.count) × (least_from l.low (part (λ i. entry_at l.offsets i l.d) l.k l.count) ≡ least (entries_in l.count l.offsets l.d))
-
-abbrev pub decreases-loop-k : goal.decreases-loop-k
-decreases-loop-k l = l.count - l.k
+    least_from l.low (part (λ i. entry_at l.offsets i l.d) l.k l.count) ≡ least (entries_in l.count l.offsets l.d)
