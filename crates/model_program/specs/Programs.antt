@@ -57,7 +57,7 @@ sheet_and_behind rows r (l ∷ ls) =
     let further = sheet_and_behind rows s.reading ls in
     by_verdict s.verdict (cond (complete s.reading) here further) (λ x. here)
 
--- The cells of `05` lines, up to the first line that is turned back; and that line's verdict, or Accepted where the input ends.
+-- The cells of `05` lines, up to the first line that is turned back; and that line's verdict, or `Ok` where the input ends.
 unfoldable pub cells_in : List Line → List ℕ
 cells_in [] = []
 cells_in (l ∷ ls) =

@@ -1,4 +1,4 @@
-// The values of document 01: the blank chain, a chain with a field set, its request; what an answer and a refusal hold.
+// The values of document 01: the blank chain, a chain with a field set, its request; what a call did.
 
 #![tactic(auto)]
 
