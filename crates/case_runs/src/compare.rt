@@ -36,7 +36,7 @@ fn agreeing_at(
     ensures { result
         ≡ agreed (loop_words l kernel window.now cells.now z y x) out.now width at end }
 {
-    let read = gather(l, window, cells, z, y, x);
+    let read = gather(l, window, cells, z, y, x, [0; 32]);
     let words = apply(kernel, references(window), l.centre, read);
     agreeing(&words, width, out, at, end)
 }
@@ -46,7 +46,7 @@ fn agreeing_at(
 fn reads_cells(l: Loops, window: &[u8], inside: &[u32], z: usize, y: usize, x: usize) -> usize
     ensures { result ≡ cells_read l window.now inside.now z y x }
 {
-    let cells = gather(l, window, inside, z, y, x);
+    let cells = gather(l, window, inside, z, y, x, [0; 32]);
     agreeing(&cells, references(window), &[1u32; 32], 0, 32)
 }
 

@@ -20,7 +20,7 @@ use Rattle.model.specs.declared.Refusal.TheVariants as refusal
 use Rattle.std.specs.Prelude.{Result, Ok, Err}
 use Rattle.grid_laws.proofs.ListLaws.{length_tabulate}
 use Rattle.grid_laws.proofs.ChainLaws.{dims_flat, on_flat, dims_skewed, on_skewed}
-use Rattle.grid_laws.proofs.CheckLaws.{then_checks, verdict_back, answer_back, WindowPasses, window_passes}
+use Rattle.grid_laws.proofs.CheckLaws.{then_checks, answer_back, WindowPasses, window_passes}
 use Rattle.windows.specs.Windows.{centre_in}
 use Rattle.shape.specs.Shapes.{survey_of, chain_shape}
 use Rattle.shape.specs.declared.Survey.{Survey}
@@ -29,7 +29,8 @@ use Rattle.shape.proofs.Answers.{centre_is, survey_verdict, survey_passed}
 use Rattle.rows.specs.Surveys.{row_survey_of}
 use Rattle.rows.specs.declared.RowSurvey.{RowSurvey}
 use Rattle.rows.proofs.SurveyLaws.{survey_verdict as rows-verdict, survey_passed as rows-passed, survey_answer}
-use Rattle.judging.specs.Checks.{judged_rest, judged_behind, examined_of, examined_rows}
+use Rattle.judging.specs.Checks.{judged_rest, judged_behind, told, examined_of, examined_rows}
+use Rattle.judging.specs.declared.Examined.{Examined}
 
 -- 14 is looked at where 7, 8 and 9 pass, and 9 goes by the sum of the capacities.
 module _ (k : Kernel) (b : Bool) (capacities : List ℕ) (n : ℕ) (order : List ℕ) where
@@ -49,9 +50,9 @@ module _ (k : Kernel) (b : Bool) (capacities : List ℕ) (n : ℕ) (order : List
 abbrev behind : Verdict → (dims : ℕ) → Chain → Verdict
 behind v dims c = by_verdict v (judged_rest c.kernel (centred (offsets_of dims c.window)) (capacities_of c) c.window.count (order_of c.window.count c.order)) Err
 
-verdict_behind : {A : Type 0} (found : Result A Refusal) (dims : ℕ) (c : Chain) → verdict_of (judged_behind found dims c) ≡ behind (verdict_of found) dims c
+verdict_behind : {A : Type 0} (found : Result A Refusal) (dims : ℕ) (c : Chain) → told (judged_behind found dims c) ≡ behind (verdict_of found) dims c
 unfolding judged_behind
-verdict_behind (Ok a) dims c = verdict_back (judged_rest c.kernel (centred (offsets_of dims c.window)) (capacities_of c) c.window.count (order_of c.window.count c.order)) a
+verdict_behind (Ok a) dims c = refl
 verdict_behind (Err x) dims c = refl
 
 -- A chain whose survey refuses, and one whose survey is answered.
@@ -59,9 +60,9 @@ pub behind_refused : {A : Type 0} (found : Result A Refusal) (dims : ℕ) (c : C
 unfolding judged_behind
 behind_refused found dims c x e = rw e
 
-pub behind_found : {A : Type 0} (found : Result A Refusal) (dims : ℕ) (c : Chain) (a : A) → judged_behind found dims c ≡ Ok a → found ≡ Ok a
+pub behind_found : {A : Type 0} (found : Result A Refusal) (dims : ℕ) (c : Chain) (a : Examined A) → judged_behind found dims c ≡ Ok a → found ≡ Ok a.survey
 unfolding judged_behind
-behind_found (Ok b) dims c a e = ap Ok (sym (answer_back _ b a e))
+behind_found (Ok b) dims c a e = let f : record { survey = b; verdict = judged_rest c.kernel (centred (offsets_of dims c.window)) (capacities_of c) c.window.count (order_of c.window.count c.order) } ≡ a = cc in ap Ok (ap (λ (t : Examined _). t.survey) f)
 behind_found (Err x) dims c a e = absurd (let z : ◌≡◌ {A = ℕ} 0 1 = cc in omega arith)
 
 -- There is a centre exactly if its number is below the count.
@@ -76,13 +77,9 @@ module _ {A : Type 0} (found : Result A Refusal) (dims : ℕ) (c : Chain) (a : A
       ∙ ap (ltb (centre_of (offsets_of dims c.window))) (sym (length_tabulate c.window.count (offset_of dims c.window))) ∙ below_count (offsets_of dims c.window)
       )
 
-  pub rest_refuses : (x : Refusal) → rest (ltb m c.window.count) ≡ Err x → Err x ≡ judged_behind found dims c
+  pub behind_is : Ok (record { survey = a; verdict = rest (ltb m c.window.count) }) ≡ judged_behind found dims c
   unfolding judged_behind
-  rest_refuses x r = sym (rw (e, sym rest_is ∙ r))
-
-  pub rest_passes : rest (ltb m c.window.count) ≡ Ok tt → Ok a ≡ judged_behind found dims c
-  unfolding judged_behind
-  rest_passes r = sym (rw (e, sym rest_is ∙ r))
+  behind_is = rw (e, rest_is)
 
 -- A chain: its window is judged, then the rest.
 by_rest : (c : Chain) (rows : List ℕ) → behind (judge_window c.grid rows c.window c.bounds) (dims_of c.grid) c ≡ judge_chain c rows
@@ -106,26 +103,26 @@ module _ (c : Chain) (flat : c.grid.skewed ≡ false) (rows : List ℕ) where
   flatly : judge_window c.grid rows c.window c.bounds ≡ judge_rectangle c.grid c.window c.bounds
   flatly = ap (λ (t : Trimmed). first_of (window_checks t)) (on_flat c.grid flat rows c.window c.bounds)
 
-  pub examined_verdict : verdict_of (examined_of c) ≡ judge_chain c rows
+  pub examined_verdict : told (examined_of c) ≡ judge_chain c rows
   unfolding examined_of
   examined_verdict =
       verdict_behind (survey_of c.grid c.window c.bounds) c.grid.dims c
       ∙ ap₂ (λ (v : Verdict) (n : ℕ). behind v n c) (survey_verdict c.grid c.window c.bounds ∙ sym flatly) (sym (dims_flat c.grid flat)) ∙ by_rest c rows
 
--- Of an accepted chain examining finds what its survey does: the centre and the shape.
-module _ (c : Chain) (s : Survey) (e : examined_of c ≡ Ok s) where
-  pub examined_survey : survey_of c.grid c.window c.bounds ≡ Ok s
+-- Examining finds what the survey does: the centre and the shape.
+module _ (c : Chain) (s : Examined Survey) (e : examined_of c ≡ Ok s) where
+  pub examined_survey : survey_of c.grid c.window c.bounds ≡ Ok s.survey
   unfolding examined_of
   examined_survey = behind_found (survey_of c.grid c.window c.bounds) c.grid.dims c s e
 
-  pub examined_shape : s.shape ≡ chain_shape c
+  pub examined_shape : s.survey.shape ≡ chain_shape c
   unfolding survey_of chain_shape
-  examined_shape = ap (λ (t : Survey). t.shape) (answer_back (judge_rectangle c.grid c.window c.bounds) _ s examined_survey)
+  examined_shape = ap (λ (t : Survey). t.shape) (answer_back (judge_rectangle c.grid c.window c.bounds) _ s.survey examined_survey)
 
-  pub examined_centre : s.centre ≡ centre_in c.grid.dims c.window
+  pub examined_centre : s.survey.centre ≡ centre_in c.grid.dims c.window
   examined_centre =
-      let p = parts_pass c.grid c.window c.bounds s examined_survey in
-      survey_centre c.grid c.window c.bounds s examined_survey ∙ sym (centre_is c.grid c.window p.grid p.count)
+      let p = parts_pass c.grid c.window c.bounds s.survey examined_survey in
+      survey_centre c.grid c.window c.bounds s.survey examined_survey ∙ sym (centre_is c.grid c.window p.grid p.count)
 
 -- ---- a chain on rows
 
@@ -137,7 +134,7 @@ module _ (n : ℕ) (rows : List ℕ) (w : Window) (x : Bounds) (s : RowSurvey) (
   rows_centre = (survey_answer n rows w x s e).centre
 
 module _ (c : Chain) (rows : List ℕ) where
-  pub rows_survey : (s : RowSurvey) → examined_rows c rows ≡ Ok s → row_survey_of c.grid.rows rows c.window c.bounds ≡ Ok s
+  pub rows_survey : (s : Examined RowSurvey) → examined_rows c rows ≡ Ok s → row_survey_of c.grid.rows rows c.window c.bounds ≡ Ok s.survey
   unfolding examined_rows
   rows_survey s e = behind_found (row_survey_of c.grid.rows rows c.window c.bounds) 2 c s e
 
@@ -145,7 +142,7 @@ module _ (c : Chain) (rows : List ℕ) where
     skewedly : judge_window c.grid rows c.window c.bounds ≡ judge_rows c.grid.rows rows c.window c.bounds
     skewedly = ap (λ (t : Trimmed). first_of (window_checks t)) (on_skewed c.grid skewed rows c.window c.bounds)
 
-    pub rows_examined : verdict_of (examined_rows c rows) ≡ judge_chain c rows
+    pub rows_examined : told (examined_rows c rows) ≡ judge_chain c rows
     unfolding examined_rows
     rows_examined =
         verdict_behind (row_survey_of c.grid.rows rows c.window c.bounds) 2 c

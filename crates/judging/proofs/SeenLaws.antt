@@ -34,7 +34,6 @@ module _ (n : ℕ) (f : ℕ → ℕ) where
   }
 
   module _ (t : ℕ) (seen : List Bool) (few : n ≤ 32) (s : Seen t seen) where
-    -- A number that is below n and not marked.
     -- All were looked at.
     pub seen_all : n ≤ t → false ≡ bad_order n (tabulate n f)
     seen_all h =

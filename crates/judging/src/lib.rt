@@ -3,7 +3,8 @@
 
 #![tactic(auto)]
 
-ghost use Rattle.std.specs.Prelude.{◌≡◌, false, ◌-◌, ◌≤◌};
+ghost use Rattle.std.specs.Prelude.{◌≡◌, false, ◌-◌, ◌≤◌, Err};
+ghost use Rattle.model.specs.Answers.{by_answer};
 ghost use Rattle.model.specs.Lists.{tabulate};
 ghost use Rattle.model.specs.Judging.{bad_count, lacks_centre, bad_order, judge_behind, judge_chain};
 ghost use Rattle.model.specs.Values.{order_of};
@@ -38,11 +39,17 @@ fn judge_total(kernel: Kernel, centred: bool, total: u64) -> Result<(), Refusal>
     Ok(())
 }
 
-// 7, 8 and 9 of a planned request, which 3 to 6 and 15 let pass; 9 goes by the total of its distances.
-pub fn judge_planned(dims: u8, window: Window, kernel: Kernel, total: u64) -> Result<(), Refusal>
-    ensures { result ≡ judge_behind kernel (has_centre dims window) total }
+// What 3 to 6 and 15 found of a request's window before it was planned; where they let pass, 7 and 8, and 9 by the total of
+// its distances.
+pub fn judge_planned(
+    found: Result<u64, Refusal>,
+    dims: u8,
+    window: Window,
+    kernel: Kernel,
+) -> Result<(), Refusal>
+    ensures { result ≡ by_answer found (judge_behind kernel (has_centre dims window)) Err }
 {
-    judge_total(kernel, windows::has_centre(dims, window), total)
+    judge_total(kernel, windows::has_centre(dims, window), found?)
 }
 
 // 14: the first n numbers are not each of 0 .. n - 1 once.
@@ -93,24 +100,31 @@ fn judge_rest(
     }
 }
 
-// What the survey of a chain finds, its grid taken for a rectangle, or the first of 3 to 9, 14 and 15 that turns it back.
-pub fn examine(c: Chain) -> Result<Survey, Refusal>
+// Of a chain that 3 to 6 and 15 let pass: what the survey of its window finds, and the first of 7 to 9 and 14 that turns it back.
+#[derive(Clone, Copy)]
+pub struct Examined<S> {
+    pub survey: S,
+    pub verdict: Result<(), Refusal>,
+}
+
+// A chain, its grid taken for a rectangle; or the first of 3 to 6 and 15 that turns it back.
+pub fn examine(c: Chain) -> Result<Examined<Survey>, Refusal>
     ensures { result ≡ examined_of c }
 {
     let survey = shape::survey_of(c.grid, c.window, c.bounds)?;
     let centred = survey.centre < c.window.count;
-    judge_rest(c.kernel, centred, c.window.count, &c.capacities, c.order)?;
-    Ok(survey)
+    let verdict = judge_rest(c.kernel, centred, c.window.count, &c.capacities, c.order);
+    Ok(Examined { survey, verdict })
 }
 
 // The same of a chain, its grid taken for rows: 16 in place of 3.
-pub fn examine_rows(c: Chain, rows: &[u32]) -> Result<RowSurvey, Refusal>
+pub fn examine_rows(c: Chain, rows: &[u32]) -> Result<Examined<RowSurvey>, Refusal>
     ensures { result ≡ examined_rows c rows.now }
 {
     let survey = rows::survey(c.grid.rows, rows, c.window, c.bounds)?;
     let centred = survey.centre < c.window.count;
-    judge_rest(c.kernel, centred, c.window.count, &c.capacities, c.order)?;
-    Ok(survey)
+    let verdict = judge_rest(c.kernel, centred, c.window.count, &c.capacities, c.order);
+    Ok(Examined { survey, verdict })
 }
 
 // The first of 3 (on rows 16) to 9, 14 and 15 that turns a chain back; 9 goes by the capacities given.
@@ -118,9 +132,8 @@ pub fn judge_chain(c: Chain, rows: &[u32]) -> Result<(), Refusal>
     ensures { result ≡ judge_chain c rows.now }
 {
     if c.grid.skewed {
-        examine_rows(c, rows)?;
+        examine_rows(c, rows)?.verdict
     } else {
-        examine(c)?;
+        examine(c)?.verdict
     }
-    Ok(())
 }

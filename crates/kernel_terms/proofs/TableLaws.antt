@@ -79,6 +79,13 @@ module _ (f : ℕ → ℕ) (k : ℕ) where
   but_few None = omega (arith, length_tabulate k f)
   but_few (Some c) = few c f k
 
+-- A centre that is none of them.
+pub absent : (c : ℕ) (f : ℕ → ℕ) (k : ℕ) → ((i : ℕ) → i < k → f i < c) → without c (tabulate k f) ≡ tabulate k f
+unfolding tabulate without
+absent c f zero h = refl
+absent c f (suc k) h =
+    with_other c f k (λ (e : f k ≡ c). omega (arith, h k (omega arith))) ∙ ap (λ (l : List ℕ). l ++ (f k ∷ [])) (absent c f k (λ i b. h i (omega arith))) ∙ sym (tabulate_snoc k f)
+
 -- The table with one entry more.
 module _ (ks : List ℕ) (v : ℕ) (h : length ks < 32) where
   abbrev old : List ℕ

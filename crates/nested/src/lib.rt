@@ -5,7 +5,7 @@
 pub mod requests;
 pub mod windows;
 
-ghost use Rattle.std.specs.Prelude.{◌≡◌, replicate};
+ghost use Rattle.std.specs.Prelude.{◌≡◌};
 ghost use Rattle.model_run.specs.Kernels.{float, word as word_of, width as width_of};
 ghost use Rattle.nested.specs.Nested.{added, word_in, values, squares, fired, moved_by, index_in, cell_of};
 ghost use Rattle.nested.specs.Nested.{gathered, agreed};
@@ -151,11 +151,19 @@ fn cell_at(l: Loops, cells: &[u32], z: usize, y: usize, x: usize) -> u32
     0x0BAD0BAD
 }
 
-// The cells that iteration [z][y][x] reads, in the window's order; 0 past the window's references.
-pub fn gather(l: Loops, window: &[u8], cells: &[u32], z: usize, y: usize, x: usize) -> [u32; 32]
-    ensures { result ≡ gathered l window.now cells.now z y x 0 32 (replicate 32 0) }
+// The cells that iteration [z][y][x] reads, in the window's order. Words past the window's references stay as they were.
+pub fn gather(
+    l: Loops,
+    window: &[u8],
+    cells: &[u32],
+    z: usize,
+    y: usize,
+    x: usize,
+    before: [u32; 32],
+) -> [u32; 32]
+    ensures { result ≡ gathered l window.now cells.now z y x 0 32 before }
 {
-    let mut words = [0u32; 32];
+    let mut words = before;
     for k in 0..32 {
         let at = 4 * k;
         if window.len() <= at + 2 {

@@ -159,7 +159,7 @@ fn same(l: Loops, kernel: Kernel, window: &[u8], cells: &[u32], out: &[u32]) -> 
     let mut seen: usize = 0;
     for y in 1..47 {
         for x in 1..63 {
-            let read = gather(l, window, cells, 0, y, x);
+            let read = gather(l, window, cells, 0, y, x, [0; 32]);
             let words = apply(kernel, n, l.centre, read);
             if agreeing(&words, size, out, at, out.len()) != size {
                 return seen;

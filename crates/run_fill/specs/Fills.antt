@@ -1,5 +1,5 @@
 -- The clocks before the filters are aligned: what they are handed, what they leave, and the test of what they are handed.
-use Rattle.std.specs.Prelude.{ℕ, zero, suc, ◌+◌, ◌-◌, ◌≤◌, ◌<◌, List, ◌≡◌, length, get_or, take, drop, Option, None}
+use Rattle.std.specs.Prelude.{ℕ, zero, suc, ◌+◌, ◌-◌, ◌≤◌, ◌<◌, false, List, ◌≡◌, length, get_or, take, drop}
 use Rattle.model_run.specs.Clock.{Layout}
 use Rattle.model_run.specs.Store.{first_place}
 use Rattle.model_run.specs.Running.{Spent, Starved, Stalled, Ended, call}
@@ -100,8 +100,12 @@ abbrev pub once : (n size : ℕ) (wants caps : List ℕ) → Layout
 once n size wants caps = record { wants = wants_once wants size; capacity = of caps; filters = n; cells = size; iterations = 1 }
 
 -- Nothing was done.
-pub record Left (r : Option Filled) (puts puts' gets gets' store store' : List ℕ) : Type 0 where
-  pub none_made : r ≡ None
+pub record Left (r : Filled) (passed puts puts' gets gets' store store' : List ℕ) : Type 0 where
+  pub stopped : r.how ≡ stop.Stalled
+  pub none_taken_lem : r.taken ≡ 0
+  pub no_clocks : r.clocks ≡ 0
+  pub counters : r.passed ≡ passed
+  pub not_full : r.full ≡ false
   pub puts_kept : puts' ≡ puts
   pub gets_kept : gets' ≡ gets
   pub store_kept : store' ≡ store

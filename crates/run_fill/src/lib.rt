@@ -2,12 +2,13 @@
 
 #![tactic(auto)]
 
-ghost use Rattle.std.specs.Prelude.{List, ◌≡◌, true, false, ℕ, suc, ◌+◌, ◌-◌, ◌*◌, ◌%◌, ◌<◌, ◌≤◌, length, get_or, IsSomeAnd, IfSome};
+ghost use Rattle.std.specs.Prelude.{List, ◌≡◌, true, false, ℕ, suc, ◌+◌, ◌-◌, ◌*◌, ◌%◌, ◌<◌, ◌≤◌, length, get_or};
 ghost use Rattle.model_run.specs.Clock.{Layout, turn as turn_of};
 ghost use Rattle.loop_laws.specs.Passes.{of, step, FullFifos};
 ghost use Rattle.loop_laws.specs.Sweeps.{source, Lined, Ringed, word_at, gets_on, PutOn, Turns, room_for, room_at, room_goes};
 ghost use Rattle.loop_laws.specs.Sweeps.{Goes, Again, Movers, Keeps, InPlace, Going, Gone};
 ghost use Rattle.loop_laws.specs.LoopTables.{Fills};
+ghost use Rattle.run_fill.specs.declared.Stop.TheVariants.{Stalled};
 ghost use Rattle.run_fill.specs.Fills.{Placing, Fillable, FillsTo, GoodCounter, GoodRing, Counted, Housed, Sound};
 ghost use Rattle.run_fill.specs.Fills.{Handed, Left, once, ByTest};
 
@@ -560,7 +561,20 @@ pub struct Filled {
     pub full: bool,
 }
 
-// The clocks of a call until its filters are found aligned. `None`: the tables are out of place, and nothing changes;
+// No clock is made. No `None`: `fill` answers whatever it is handed (`Left`).
+fn unmoved(counters: [usize; 32]) -> Filled
+    ensures { result ≡ record { how = Stalled; taken = 0; clocks = 0; passed = counters; full = false } }
+{
+    Filled {
+        how: Stop::Stalled,
+        taken: 0,
+        clocks: 0,
+        passed: counters,
+        full: false,
+    }
+}
+
+// The clocks of a call until its filters are found aligned. Tables that are out of place make no clock, and nothing changes;
 // all others are those of a layout of one iteration (`once`). Open are: in which of the clocks with aligned filters it stops,
 // and the entries of `puts` and `gets` past the n - 1 FIFOs, or of one without a place.
 pub fn fill(
@@ -577,29 +591,30 @@ pub fn fill(
     store: &mut [u32],
     cells: &[u32],
     allowance: usize,
-) -> Option<Filled>
+) -> Filled
     ensures { ((L : Layout) (walk : ℕ → ℕ) (iterations fired : ℕ)
         → Handed L walk n size iterations fired at.now wants.now caps.now
         bases.now tops.now counters store.old
-        → IsSomeAnd result (λ f. FillsTo f.how f.taken f.clocks L n fired at.now caps.now bases.now
-        counters f.passed puts.new gets.new store.old store.new
-        cells.now allowance))
+        → FillsTo result.how result.taken result.clocks L n fired at.now caps.now bases.now
+        counters result.passed puts.new gets.new store.old store.new
+        cells.now allowance)
         × ByTest
         (Sound n size (length store.old) at.now wants.now caps.now
         bases.now tops.now counters)
-        (Left result puts.old puts.new gets.old gets.new store.old store.new)
-        (IsSomeAnd result (λ f. FillsTo f.how f.taken f.clocks (once n size wants.now caps.now) n 0
-        at.now caps.now bases.now counters f.passed puts.new
+        (Left result counters puts.old puts.new gets.old gets.new store.old
+        store.new)
+        (FillsTo result.how result.taken result.clocks (once n size wants.now caps.now) n 0
+        at.now caps.now bases.now counters result.passed puts.new
         gets.new store.old store.new cells.now allowance
-        × (f.full ≡ false → FullFifos n caps.now f.passed → ⊥)))
-        × IfSome result (λ f. f.full ≡ true → FullFifos n caps.now f.passed) }
+        × (result.full ≡ false → FullFifos n caps.now result.passed → ⊥))
+        × (result.full ≡ true → FullFifos n caps.now result.passed) }
 {
     let mut passed = counters;
     if bad_counters(n, at, wants, size, &passed) {
-        return None;
+        return unmoved(counters);
     }
     if bad_rings(n, caps, bases, tops, &passed, store.len()) {
-        return None;
+        return unmoved(counters);
     }
     *puts = [0usize; 32];
     *gets = [0usize; 32];
@@ -620,11 +635,11 @@ pub fn fill(
         allowance,
     );
     let full = full_fifos(n, caps, &passed);
-    Some(Filled {
+    Filled {
         how: s.how,
         taken: s.taken,
         clocks: s.clocks,
         passed,
         full,
-    })
+    }
 }

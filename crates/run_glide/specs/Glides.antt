@@ -1,5 +1,5 @@
 -- The clocks of aligned filters: what they are handed, what they leave, and the test of what they are handed.
-use Rattle.std.specs.Prelude.{ℕ, zero, suc, ◌+◌, ◌-◌, ◌*◌, ◌%◌, ◌≤◌, ◌<◌, Bool, true, List, [], ◌≡◌, length, get_or, take, Option, None}
+use Rattle.std.specs.Prelude.{ℕ, zero, suc, ◌+◌, ◌-◌, ◌*◌, ◌%◌, ◌≤◌, ◌<◌, Bool, true, List, [], ◌≡◌, length, get_or, take}
 use Rattle.std.proofs.Math.Seq.{slice}
 use Rattle.std.proofs.lemmas.List.Edits.{sets}
 use Rattle.model.specs.Lists.{up_to}
@@ -146,8 +146,10 @@ pub record Within (r : Slid) (n size iterations fired : ℕ) (tops store store' 
   pub out_kept : (i : ℕ) → r.firings * size ≤ i → get_or out' i 0 ≡ get_or out i 0
 
 -- Nothing was done.
-pub record Left (r : Option Slid) (store store' out out' : List ℕ) : Type 0 where
-  pub none_made : r ≡ None
+pub record Left (r : Slid) (store store' out out' : List ℕ) : Type 0 where
+  pub stopped : r.how ≡ way.Spent
+  pub no_clocks : r.clocks ≡ 0
+  pub no_firings : r.firings ≡ 0
   pub store_kept : store' ≡ store
   pub out_kept : out' ≡ out
 

@@ -2,12 +2,13 @@
 
 #![tactic(auto)]
 
-ghost use Rattle.std.specs.Prelude.{List, ◌≡◌, true, false, ℕ, ◌+◌, ◌-◌, ◌*◌, ◌%◌, ◌<◌, ◌≤◌, length, IsSomeAnd};
+ghost use Rattle.std.specs.Prelude.{List, ◌≡◌, true, false, ℕ, ◌+◌, ◌-◌, ◌*◌, ◌%◌, ◌<◌, ◌≤◌, length};
 ghost use Rattle.model_run.specs.Kernels.{width as width_for, terms as terms_of};
 ghost use Rattle.model_run.specs.Clock.{Layout};
 ghost use Rattle.kernel_terms.specs.FilterTables.{filters_for};
 ghost use Rattle.loop_laws.specs.Passes.{step, lent_of, pass_of, heads, FullFifos, InStore};
 ghost use Rattle.loop_laws.specs.LoopTables.{walked};
+ghost use Rattle.run_glide.specs.declared.Way.TheVariants.{Spent};
 ghost use Rattle.run_glide.specs.Glides.{Walks, Blank, Rung, passes_of, fires_of, Starts, Glides, GlidesTo, GoodPlaces};
 ghost use Rattle.run_glide.specs.Glides.{InRings, InRows, Sound, Within, Left, ByTest};
 
@@ -426,9 +427,20 @@ fn slide(
     }
 }
 
-// The clocks of a call whose filters are aligned. `full`: each FIFO is full; `order`: the author's order. `None`: the tables
-// are out of place, and nothing changes. Of others that are no layout's these stay open: which clocks fire, the words of the
-// firings, and what the store holds before the end of the last FIFO.
+// No clock is made. No `None`: `glide` answers whatever it is handed (`Left`).
+fn unmoved() -> Slid
+    ensures { result ≡ record { how = Spent; clocks = 0; firings = 0 } }
+{
+    Slid {
+        how: Way::Spent,
+        clocks: 0,
+        firings: 0,
+    }
+}
+
+// The clocks of a call whose filters are aligned. `full`: each FIFO is full; `order`: the author's order. Tables that are out
+// of place make no clock, and nothing changes. Of others that are no layout's these stay open: which clocks fire, the words of
+// the firings, and what the store holds before the end of the last FIFO.
 pub fn glide(
     full: bool,
     kernel: Kernel,
@@ -452,20 +464,20 @@ pub fn glide(
     out: &mut [u32],
     allowance: usize,
     order: Order,
-) -> Option<Slid>
+) -> Slid
     ensures { ((L : Layout) (write : List ℕ → List ℕ) (size : ℕ) (caps : List ℕ)
         → (full ≡ true → FullFifos n caps passed.now)
         → Glides L write kernel (terms_of kernel centre (filters_for n order)) n row iterations size centre (width_for kernel n)
         fired0 dims at.now wants.now caps bases.now tops.now spans.now
         strides.now passed.now puts0 gets0 store.old
-        → IsSomeAnd result (λ r. GlidesTo r L write (width_for kernel n) n iterations size fired0 passed.now store.old
-        store.new out.old out.new cells.now allowance))
+        → GlidesTo result L write (width_for kernel n) n iterations size fired0 passed.now store.old
+        store.new out.old out.new cells.now allowance)
         × ByTest
         (Sound n dims row iterations (length store.old) at.now wants.now
         bases.now tops.now spans.now strides.now passed.now puts0 gets0)
         (Left result store.old store.new out.old out.new)
-        (IsSomeAnd result (λ r. Within r n (width_for kernel n) iterations fired0 tops.now store.old store.new
-        out.old out.new cells.now allowance)) }
+        (Within result n (width_for kernel n) iterations fired0 tops.now store.old store.new
+        out.old out.new cells.now allowance) }
 {
     let first = at[0];
     let wanted = wants[0];
@@ -473,16 +485,16 @@ pub fn glide(
     if bad_rows(
         dims, spans, strides, row, iterations, first, wanted, position,
     ) {
-        return None;
+        return unmoved();
     }
     let mut puts = puts0;
     let mut gets = gets0;
     if bad_places(n, bases, tops, &puts, &gets, store.len()) {
-        return None;
+        return unmoved();
     }
     let found = kernel_terms::terms_of(kernel, centre, n, order);
     let filters = found.filters;
-    Some(slide(
+    slide(
         full,
         kernel,
         centre,
@@ -507,5 +519,5 @@ pub fn glide(
         allowance,
         &filters[..found.count],
         kernel_terms::width(kernel, n),
-    ))
+    )
 }

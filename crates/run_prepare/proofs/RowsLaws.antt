@@ -32,7 +32,8 @@ use Rattle.rows.proofs.SurveyLaws.{Answer, survey_answer}
 use Rattle.row_courses.specs.CourseTables.{above_count, lengths_above, read_at}
 use Rattle.row_courses.proofs.TableLaws.{above_good}
 use Rattle.row_courses.proofs.RunLaws.{looked_is, few_rows_in, iterations_are, in_row, reads_row}
-use Rattle.judging.specs.Checks.{judged_behind, examined_rows}
+use Rattle.judging.specs.Checks.{judged_behind, told, examined_rows}
+use Rattle.judging.specs.declared.Examined.{Examined}
 use Rattle.judging.proofs.JudgeLaws.{rows_examined, rows_survey}
 use Rattle.run_prepare.specs.Prepared.{number_at, blank, Counted, TakenUp}
 use Rattle.run_prepare.specs.Ready.{Stored}
@@ -68,10 +69,10 @@ module _ (c : Chain) (rows : List ℕ) where
   unfolding examined_rows judged_behind capacities_of
   as_rows = refl
 
-  pub found_verdict : (r : Result RowSurvey Refusal) → r ≡ examined_rows c rows → judge_chain (in_rows c) rows ≡ verdict_of r
-  found_verdict r e = sym (rows_examined (in_rows c) rows refl) ∙ sym (ap verdict_of (e ∙ as_rows))
+  pub found_verdict : (r : Result (Examined RowSurvey) Refusal) → r ≡ examined_rows c rows → judge_chain (in_rows c) rows ≡ told r
+  found_verdict r e = sym (rows_examined (in_rows c) rows refl) ∙ sym (ap told (e ∙ as_rows))
 
-  pub rows_found : (s : RowSurvey) → Ok s ≡ examined_rows c rows → RowsFound (in_rows c) rows s
+  pub rows_found : (s : Examined RowSurvey) → Ok s ≡ examined_rows c rows → RowsFound (in_rows c) rows s.survey
   unfolding trimmed dims_of
   rows_found s e = record {
     surveyed = answer.surveyed;
@@ -80,8 +81,8 @@ module _ (c : Chain) (rows : List ℕ) where
     centre_is = answer.centre;
   }
     where
-      answer : Answer c.grid.rows rows c.window c.bounds s
-      answer = survey_answer c.grid.rows rows c.window c.bounds s (rows_survey c rows s (sym e))
+      answer : Answer c.grid.rows rows c.window c.bounds s.survey
+      answer = survey_answer c.grid.rows rows c.window c.bounds s.survey (rows_survey c rows s (sym e))
 
 -- Where the references read, by the tables.
 module _ (c : Chain) (skewed : c.grid.skewed ≡ true) (rows : List ℕ) (ok : Accepted (trimmed c rows)) (course : RowCourse)

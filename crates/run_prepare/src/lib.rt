@@ -345,10 +345,11 @@ pub fn prepare(
         store.now }
 {
     let found = judging::examine(chain)?;
+    found.verdict?;
     with_chain(
         chain,
-        found.shape,
-        found.centre,
+        found.survey.shape,
+        found.survey.centre,
         state,
         store,
         at,

@@ -183,7 +183,18 @@ pub fn prepare_rows(
         caps.new bases.new tops.new passed.new store.now }
 {
     let found = judging::examine_rows(chain, rows)?;
+    found.verdict?;
     with_chain(
-        chain, rows, found, state, store, above, iterations, caps, bases, tops, passed,
+        chain,
+        rows,
+        found.survey,
+        state,
+        store,
+        above,
+        iterations,
+        caps,
+        bases,
+        tops,
+        passed,
     )
 }

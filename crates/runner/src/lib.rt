@@ -127,16 +127,14 @@ fn stretch_clocks(
 {
     let mut puts = [0usize; 32];
     let mut gets = [0usize; 32];
-    let Some(f) = run_fill::fill(
+    let f = run_fill::fill(
         n, at, wants, caps, bases, tops, size, *passed, &mut puts, &mut gets, store, cells,
         allowance,
-    ) else {
-        return no_clocks(End::Stalled);
-    };
+    );
     let after = f.passed;
     *passed = after;
     if let Stop::Aligned = f.how {
-        let Some(g) = run_glide::glide(
+        let g = run_glide::glide(
             f.full,
             kernel,
             centre,
@@ -159,9 +157,7 @@ fn stretch_clocks(
             out,
             allowance - f.clocks,
             order,
-        ) else {
-            return no_clocks(End::Stalled);
-        };
+        );
         advance(n, g.clocks, passed);
         return Stretched {
             end: way_end(g.how),

@@ -17,8 +17,12 @@ fn plan_text(input: &[u8], piece: usize, text: &mut [u8]) -> usize
 {
     let mut arriving = program_intake::open();
     let mut rows = [0u32; 1024];
-    for block in input.chunks(piece.max(1)) {
-        arriving = program_intake::take_block(false, arriving, &mut rows, block);
+    let mut at = 0;
+    // Behind the last piece come empty ones, which change nothing.
+    for _ in 0..input.len() {
+        let end = piece_end(at, piece, input.len());
+        arriving = program_intake::take_block(false, arriving, &mut rows, &input[at..end]);
+        at = end;
     }
     program_answer::plan_answer(arriving, &rows, text)
 }

@@ -27,6 +27,18 @@ no_name =
     (λ h. absurd (let k = h (omega arith) in omega arith))
     (λ n h. refl)
 
+pub no_dimensions : (name : ℕ) → (1 ≤ name → 5 < name) → (named_of name).dims ≡ 0
+unfolding named_of windows
+no_dimensions =
+    by_name_lem (λ name. (1 ≤ name → 5 < name) → (named_of name).dims ≡ 0)
+    (λ h. refl)
+    (λ h. absurd (let k = h (omega arith) in omega arith))
+    (λ h. absurd (let k = h (omega arith) in omega arith))
+    (λ h. absurd (let k = h (omega arith) in omega arith))
+    (λ h. absurd (let k = h (omega arith) in omega arith))
+    (λ h. absurd (let k = h (omega arith) in omega arith))
+    (λ n h. refl)
+
 -- A name of a window of two dimensions, of three, and of none.
 pub flat : (name dims : ℕ) → 1 ≤ name → name < 4 → bad_name name dims ≡ not (eqb dims 2)
 unfolding bad_name is_name named_of windows

@@ -210,8 +210,8 @@ fn lines_behind(boxed: bool, ordered: bool, n: usize) -> usize
 }
 
 // How many bytes a line has.
-fn line_len(c: Chain, p: Part) -> usize
-    ensures { result ≡ len_of c p }
+fn line_len(c: &Chain, p: Part) -> usize
+    ensures { result ≡ len_of c.now p }
 {
     match p {
         Part::Offset(_) => 1 + 2 * (dims_of(c.grid) as usize),
@@ -223,9 +223,9 @@ fn line_len(c: Chain, p: Part) -> usize
 }
 
 // The row of a line.
-fn row(c: Chain, p: Part) -> [u8; KEPT]
-    requires { (c.window.count ≤ 32) × Inside c.window.count p }
-    ensures { result ≡ padded (row_of c p) }
+fn row(c: &Chain, p: Part) -> [u8; KEPT]
+    requires { (c.now.window.count ≤ 32) × Inside c.now.window.count p }
+    ensures { result ≡ padded (row_of c.now p) }
 {
     match p {
         Part::Offset(k) => offset_row(c.window, k),
@@ -260,7 +260,7 @@ fn sheet_len(c: Chain) -> usize
     let lines = lines_behind(boxed, ordered, n);
     let mut total = 2 * grid_len(c.grid) + 1;
     for m in 0..lines {
-        let len = line_len(c, part_at(boxed, ordered, n, m));
+        let len = line_len(&c, part_at(boxed, ordered, n, m));
         total += 2 * len + 1;
     }
     total
@@ -290,8 +290,8 @@ fn put_sheet(out: &mut [u8], c: Chain, rows: &[u32]) -> usize
     let mut at = put_grid(out, c.grid, rows);
     for m in 0..lines {
         let p = part_at(boxed, ordered, n, m);
-        let len = line_len(c, p);
-        let x = row(c, p);
+        let len = line_len(&c, p);
+        let x = row(&c, p);
         at = put_frame(out, at, x, len);
     }
     at

@@ -200,9 +200,9 @@ fn kernel_words(k: Kernel) -> [u32; 3]
 }
 
 // Word i of a chain, of those before its order.
-fn chain_word(c: Chain, i: usize) -> u32
+fn chain_word(c: &Chain, i: usize) -> u32
     requires { i < 168 }
-    ensures { result ≡ chain_word c i }
+    ensures { result ≡ chain_word c.now i }
 {
     if i < 1 {
         return c.grid.dims as u32;
@@ -224,9 +224,9 @@ fn chain_word(c: Chain, i: usize) -> u32
 }
 
 // Word i of a box.
-fn box_word(b: Bounds, i: usize) -> u32
+fn box_word(b: &Bounds, i: usize) -> u32
     requires { i < 9 }
-    ensures { result ≡ box_word b i }
+    ensures { result ≡ box_word b.now i }
 {
     if i < 1 {
         return b.stood as u32;
@@ -245,14 +245,14 @@ pub fn chain_out(c: Chain, words: &mut [u32])
         return;
     }
     for i in 0..168 {
-        words[i] = chain_word(c, i);
+        words[i] = chain_word(&c, i);
     }
     words[168] = c.order.stood as u32;
     for t in 0..32 {
         words[169 + t] = c.order.filters[t] as u32;
     }
     for d in 0..9 {
-        words[201 + d] = box_word(c.bounds, d);
+        words[201 + d] = box_word(&c.bounds, d);
     }
     words[210] = c.grid.skewed as u32;
     words[211] = c.grid.rows;

@@ -34,7 +34,7 @@ pub overflow_mul-i : goal.overflow_mul-i
 overflow_mul-i c = omega (arith, (next-at (goal.at.overflow_mul-i c).In-loop-i).1)
 
 pub put_firing-at-requires : goal.put_firing-at-requires
-put_firing-at-requires c = next-at (goal.at.put_firing-at-requires c).In-loop-i
+put_firing-at-requires c = let f = next-at (goal.at.put_firing-at-requires c).In-loop-i in (f.0, omega (arith, f.1))
 
 pub loop-i-preserved : goal.loop-i-preserved
 loop-i-preserved c =

@@ -1,10 +1,13 @@
 -- The test, and the clocks. Assumes nothing.
-use mathlib.Core.List.{[]}
-use mathlib.Core.Path.{refl, sym}
+use Prim.Native.Nat.{ℕ}
+use mathlib.Core.List.{List, []}
+use mathlib.Core.Path.{◌≡◌, refl, sym, ap}
 use lib.ListN.{length}
 use lib.Seq.{length-take-le}
 use Rattle.kernel_terms.proofs.TableLaws.{table_fits, table_terms}
-use Rattle.run_glide.specs.Glides.{Sound}
+use Rattle.run_glide.specs.Glides.{Sound, Left}
+use Rattle.run_glide.specs.declared.Slid.{Slid}
+use Rattle.run_glide.specs.declared.Way.TheVariants as way
 use Rattle.run_glide.proofs.GlidingLaws.{named, sound}
 use Rattle.run_glide.proofs.glide.Goals as goal
 use Rattle.run_glide.proofs.glide.Goals.{Else-bad_places}
@@ -15,16 +18,26 @@ passes : (e : Else-bad_places) →
 passes e =
     record { in_rows = e.bad_rows.ensures.0 e.if-bad_rows.false; in_rings = e.bad_places.ensures.0 e.if-bad_places.false }
 
+-- Nothing was done.
+left : {r : Slid} {store out : List ℕ} → r ≡ record { how = way.Spent; clocks = 0; firings = 0 } → Left r store store out out
+left e = record {
+  stopped = ap (λ (r : Slid). r.how) e;
+  no_clocks = ap (λ (r : Slid). r.clocks) e;
+  no_firings = ap (λ (r : Slid). r.firings) e;
+  store_kept = refl;
+  out_kept = refl;
+}
+
 pub returns-then-bad_rows : goal.returns-then-bad_rows
 returns-then-bad_rows c = (
   λ L write size caps F G. absurd (c.bad_rows.ensures.1 c.if-bad_rows.true (sound _ _ _ _ _ _ _ _ _ _ _ _ _ _ _ _ _ _ _ _ _ _ _ [] [] 0 G).in_rows),
-  (λ _. record { none_made = refl; store_kept = refl; out_kept = refl }, λ S. absurd (c.bad_rows.ensures.1 c.if-bad_rows.true S.in_rows)),
+  (λ _. left c.unmoved.ensures, λ S. absurd (c.bad_rows.ensures.1 c.if-bad_rows.true S.in_rows)),
 )
 
 pub returns-then-bad_places : goal.returns-then-bad_places
 returns-then-bad_places c = (
   λ L write size caps F G. absurd (c.bad_places.ensures.1 c.if-bad_places.true (sound _ _ _ _ _ _ _ _ _ _ _ _ _ _ _ _ _ _ _ _ _ _ _ [] [] 0 G).in_rings),
-  (λ _. record { none_made = refl; store_kept = refl; out_kept = refl }, λ S. absurd (c.bad_places.ensures.1 c.if-bad_places.true S.in_rings)),
+  (λ _. left c.unmoved-then-bad_places.ensures, λ S. absurd (c.bad_places.ensures.1 c.if-bad_places.true S.in_rings)),
 )
 
 pub slice_bounds-filters-end : goal.slice_bounds-filters-end

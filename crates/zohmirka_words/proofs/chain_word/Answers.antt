@@ -28,7 +28,7 @@ pub returns-then-i-lt134 : goal.returns-then-i-lt134
 unfolding chain_word
 returns-then-i-lt134 c =
     c.pattern_of.ensures
-    ∙ ap pattern (to_z-of_z {w = w16} {z = get_or c.args.c.window.offsets (c.args.i - 6) (pos 0)} (record { sfits = search rules }))
+    ∙ ap pattern (to_z-of_z {w = w16} {z = get_or c.args.c.now.window.offsets (c.args.i - 6) (pos 0)} (record { sfits = search rules }))
     ∙ simp (le-ltb _ _ c.if-i-lt1.false, le-ltb _ _ c.if-i-lt5.false, le-ltb _ _ c.if-i-lt6.false, lt-ltb _ _ c.if-i-lt134.true)
 
 pub returns-then-i-lt165 : goal.returns-then-i-lt165
