@@ -30,7 +30,7 @@ use Rattle.grid_laws.proofs.OrderLaws.{equal_itself}
 use Rattle.geometry.specs.Parts.{part, entry_at, offset_at}
 use Rattle.windows.specs.Offsets.{offset_in, front}
 use Rattle.windows.specs.Windows.{held, repeats_in, centre_in, has_centre}
-use Rattle.geometry.proofs.PartLaws.{part_none, part_more}
+use Rattle.geometry.proofs.PartLaws.{part_none, part_more, part_same}
 
 -- No offset comes before itself.
 before_itself : (xs : List ℤ) → before xs xs ≡ false
@@ -51,6 +51,24 @@ same_is (pos a) (pos b) = nat_same a b
 same_is (pos a) (negsuc b) = refl
 same_is (negsuc a) (pos b) = refl
 same_is (negsuc a) (negsuc b) = nat_same_down a b
+
+-- Two offsets: the entries from d on.
+module _ (f g : ℕ → ℤ) (d n : ℕ) where
+  pub equal_on : d < n → same (f d) (g d) ≡ true → equal (part f (d + 1) n) (part g (d + 1) n) ≡ equal (part f d n) (part g d n)
+  unfolding equal
+  equal_on h e = rw (part_more f d n h, part_more g d n h, e)
+
+  pub equal_not : d < n → same (f d) (g d) ≡ false → false ≡ equal (part f d n) (part g d n)
+  unfolding equal
+  equal_not h e = rw (part_more f d n h, part_more g d n h, e)
+
+  pub equal_end : ((i : ℕ) → d ≤ i → i < n → f i ≡ g i) → true ≡ equal (part f d n) (part g d n)
+  equal_end e = rw (part_same f g d n e) (sym (equal_itself (part g d n)))
+
+-- Two offsets of four entries have the same past these.
+pub past_four : (a b : List ℤ) (dims n : ℕ) → length a ≡ 4 → length b ≡ 4 → min dims 4 ≤ n → (i : ℕ) → n ≤ i → i < dims → get_or a i (pos 0) ≡ get_or b i (pos 0)
+past_four a b dims n h k m i from to =
+    get_or-eq_default a (pos 0) (omega arith) ∙ sym (get_or-eq_default b (pos 0) (omega arith))
 
 -- The first entries of two offsets, compared as slices.
 pub equal_slices : (n : ℕ) (a b : List ℤ) → length a ≡ length b → pointwise int_eq (take n a) (take n b) ≡ equal (front n a) (front n b)

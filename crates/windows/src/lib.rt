@@ -31,8 +31,13 @@ pub fn offset_of(offsets: &[i16; 128], k: usize) -> [i16; 4]
 pub fn same_offset(a: [i16; 4], b: [i16; 4], dims: usize) -> bool
     ensures { result ≡ equal (front dims a) (front dims b) }
 {
-    let n = dims.min(4);
-    a[..n] == b[..n]
+    // Not by slices: these call for the entries behind the first two, in a loop over all pairs of references.
+    for d in 0..dims.min(4) {
+        if a[d] != b[d] {
+            return false;
+        }
+    }
+    true
 }
 
 // Whether the one comes before the other, in lexicographic order.
